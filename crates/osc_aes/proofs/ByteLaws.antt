@@ -8,10 +8,7 @@ use Rattle.std.proofs.lemmas.List.{get_or_past}
 use Rattle.std.proofs.lemmas.List.Elements.{All-nil, All-cons, All-append, All-map}
 use Rattle.std.specs.List.{range_with_len}
 use Rattle.osc_aes.proofs.FieldLaws.{reduced}
-use Rattle.osc_aes.specs.Field.{times_x, times_power, inverse}
-use Rattle.osc_aes.specs.SubBytes.{affine_bit, sub_byte}
-use Rattle.osc_aes.specs.KeyExpansion.{word, add_words, sub_word, rot_word, round_constant, schedule_word, first_words, key_expansion}
-use Rattle.osc_aes.specs.Cipher.{cell, state_of, sub_bytes, shift_rows, add_round_key, rounds, cipher, encrypt_block}
+use Rattle.osc_aes.specs.{times_x, times_power, inverse, affine_bit, sub_byte, word, add_words, sub_word, rot_word, round_constant, schedule_word, first_words, key_expansion, cell, state_of, sub_bytes, shift_rows, add_round_key, rounds, cipher, encrypt_block}
 
 abbrev pub AreBytes : List ℕ → Type 0
 AreBytes xs = All (λ b. b < 256) xs

@@ -2,7 +2,7 @@
 use Rattle.std.proofs.Common.{◌≡◌, ℕ, ◌+◌, ◌*◌, ◌%◌, ◌^◌, ◌<◌, ◌≤◌, ◌∙◌, sym, arith, bit_xor, zero-add, nat_lt, false}
 use Rattle.std.proofs.lemmas.Bool.Decides.{nat_tests}
 use Rattle.std.specs.Int.Bits.{xor_block}
-use Rattle.osc_aes.specs.Field.{times_x}
+use Rattle.osc_aes.specs.{times_x}
 
 split : (b : ℕ) → 128 ≤ b → b < 256 → 2 * b ≡ 1 * 2 ^ 8 + b * 2 % 256
 split b high fits = omega arith

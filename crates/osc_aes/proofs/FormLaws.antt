@@ -3,8 +3,7 @@ use Rattle.std.proofs.Common.{◌≡◌, ℕ, ◌<◌, ◌∙◌, T, ◌&&◌, e
 use Rattle.std.proofs.lemmas.List.FromFn.{get_or-map-range_with_len}
 use Rattle.std.specs.List.{range_with_len}
 use lib.Ieee.Fits.{and_l, and_r}
-use Rattle.osc_aes.specs.Field.{times_x, inverse}
-use Rattle.osc_aes.specs.SubBytes.{sub_byte}
+use Rattle.osc_aes.specs.{times_x, inverse, sub_byte}
 use Rattle.osc_aes.specs.Inner.Tower.{first_place, second_place, form_of, byte_of, substitute, doubled, plain_substitute}
 use Rattle.osc_aes.proofs.Lanes.{all_below, every_below}
 

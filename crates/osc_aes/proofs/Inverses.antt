@@ -5,7 +5,7 @@ use Rattle.std.proofs.lemmas.List.{take-append-drop}
 use Rattle.std.proofs.lemmas.List.Elements.{Contains-append_right, Contains-get_or, filter-append, filter_passes, All-head}
 use Rattle.std.proofs.lemmas.List.FromFn.{get_or-map-range_with_len, get_or-range_with_len, length-range_with_len}
 use Rattle.std.specs.List.{range_with_len}
-use Rattle.osc_aes.specs.Field.{times_x, product, inverse, IsInverse}
+use Rattle.osc_aes.specs.{times_x, product, inverse, IsInverse}
 
 -- the bytes whose product with b is 1
 abbrev inverses : ℕ → List ℕ

@@ -5,10 +5,7 @@ use Rattle.std.proofs.lemmas.List.{get_or-take, length-map}
 use Rattle.std.specs.Int.Bits.{xor_assoc}
 use Rattle.std.proofs.lemmas.Simd.{zip2_splat}
 use lib.Lanes.{zip2}
-use Rattle.osc_aes.specs.Field.{times_power}
-use Rattle.osc_aes.specs.SubBytes.{sub_byte}
-use Rattle.osc_aes.specs.KeyExpansion.{word, add_words, rot_word, sub_word, round_constant, key_expansion}
-use Rattle.osc_aes.specs.Cipher.{sub_bytes, shift_rows, mix_columns, add_round_key, rounds, cipher, encrypt_block}
+use Rattle.osc_aes.specs.{times_power, sub_byte, word, add_words, rot_word, sub_word, round_constant, key_expansion, sub_bytes, shift_rows, mix_columns, add_round_key, rounds, cipher, encrypt_block}
 use Rattle.osc_aes.specs.Inner.Tower.{byte_of, substitute, plain_substitute}
 use Rattle.osc_aes.specs.Inner.States.{turned, state_in, mixed_state, with_constant, round_key}
 use Rattle.osc_aes.specs.Inner.Keys.{first_word, second_word, third_word, fourth_word, next_round_key}

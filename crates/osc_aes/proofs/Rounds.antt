@@ -4,9 +4,7 @@ use Rattle.std.proofs.lemmas.Nat.{xor_comm, xor_of_8}
 use Rattle.std.specs.Int.Bits.{xor_assoc, xor_self, xor_zero_l, xor_zero_r}
 use Rattle.std.specs.List.{range_with_len}
 use lib.Lanes.{zip2}
-use Rattle.osc_aes.specs.Field.{times_x, total, product}
-use Rattle.osc_aes.specs.SubBytes.{sub_byte}
-use Rattle.osc_aes.specs.Cipher.{sub_bytes, shift_rows, mix_columns}
+use Rattle.osc_aes.specs.{times_x, total, product, sub_byte, sub_bytes, shift_rows, mix_columns}
 use Rattle.osc_aes.specs.Inner.Tower.{byte_of, substitute, doubled}
 use Rattle.osc_aes.specs.Inner.States.{turned, state_in, mixed_state, with_constant}
 use Rattle.osc_aes.specs.declared.cipher.TheConstants.{NEXT_0, NEXT_1, NEXT_2, NEXT_3, BEFORE_0, BEFORE_1, BEFORE_2, BEFORE_3}

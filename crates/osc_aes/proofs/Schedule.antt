@@ -3,7 +3,7 @@ use Rattle.std.proofs.Common.{◌≡◌, ℕ, zero, suc, ◌+◌, ◌-◌, ◌*�
 use Rattle.std.proofs.lemmas.List.{take-append-le, take_all, get_or_append_left, get_or-append_right}
 use Rattle.std.proofs.lemmas.Bool.{cases_lt}
 use Rattle.std.proofs.lemmas.Bool.Decides.{nat_tests}
-use Rattle.osc_aes.specs.KeyExpansion.{word, add_words, rot_word, sub_word, schedule_word, first_words, key_expansion, round_constant}
+use Rattle.osc_aes.specs.{word, add_words, rot_word, sub_word, schedule_word, first_words, key_expansion, round_constant}
 
 -- which word begins a round key
 pub turned_word : (round : ℕ) (a b t x : List ℕ) → 1 ≤ round → t ≡ add_words (sub_word (rot_word b)) (round_constant round) →

@@ -3,9 +3,8 @@ use Rattle.std.proofs.Common.{◌≡◌, ℕ, List, ◌∷◌, refl}
 use Rattle.osc_model.specs.Scope.{Scope}
 use Rattle.osc_model.specs.declared.node.Moment.{Moment}
 use Rattle.osc_token.specs.declared.claims.Claims.{Claims}
-use Rattle.osc_authz.specs.Agreement.{new_context}
+use Rattle.osc_authz.specs.{new_context, IsTable, IsFull, IsLeastFree, alive, ids, without_pending, with_pending}
 use Rattle.osc_authz.specs.SecurityContext.{SecurityContext}
-use Rattle.osc_authz.specs.Table.{IsTable, IsFull, IsLeastFree, alive, ids, without_pending, with_pending}
 use Rattle.osc_authz.specs.declared.token_entry.TokenEntry.{TokenEntry}
 use Rattle.osc_authz.specs.declared.post.PostAnswer.{PostAnswer}
 use Rattle.osc_authz.proofs.TableLaws.{added_is_table}

@@ -1,8 +1,7 @@
 -- The payload of an answer, byte by byte.
 use Rattle.std.proofs.Common.{◌≡◌, ℕ, List, [], ◌∷◌, length, slice_index_or, refl, sym, ap, ◌∙◌, arith}
-use Rattle.osc_cbor.specs.Head.{head}
-use Rattle.osc_cbor.specs.Spelling.{spelling}
-use Rattle.osc_authz.specs.Exchange.{answer_item}
+use Rattle.osc_cbor.specs.{head, spelling}
+use Rattle.osc_authz.specs.{answer_item}
 
 abbrev eight_of : List ℕ → List ℕ
 eight_of xs =

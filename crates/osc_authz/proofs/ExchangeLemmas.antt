@@ -1,8 +1,7 @@
 -- What is written as a post or an answer, and what bytes can be read as.
 use Rattle.std.proofs.Common.{◌≡◌, ◌⊎◌, ℕ, ◌<◌, ◌≤◌, ◌^◌, List, [], ◌++◌, length, Some, refl, sym, ap, ◌∙◌, arith, inl, inr}
-use Rattle.osc_cbor.specs.Data.{DataItem, unsigned, byte_string, map, Pairs, no_pairs, pair, value_under}
-use Rattle.osc_cbor.specs.Spelling.{Spells, IsWhole, HasSpelling}
-use Rattle.osc_authz.specs.Exchange.{IsPost, IsAnswer, post_item, answer_item}
+use Rattle.osc_cbor.specs.{DataItem, unsigned, byte_string, map, Pairs, no_pairs, pair, value_under, Spells, IsWhole, HasSpelling}
+use Rattle.osc_authz.specs.{IsPost, IsAnswer, post_item, answer_item}
 
 -- ---- what is written
 

@@ -2,11 +2,10 @@
 use Rattle.std.proofs.Common.{◌≡◌, ℕ, Bool, true, false, not, nat_eq, eqb-true, List, [], ◌∷◌, sym, ap, ◌∙◌}
 use Rattle.std.specs.Prelude.{Result, Ok}
 use Rattle.std.proofs.lemmas.Bool.{false≢true}
-use Rattle.osc_model.specs.Code.{code}
+use Rattle.osc_model.specs.{code}
 use Rattle.osc_model.specs.declared.code.Code.{Code}
-use Rattle.osc_authz.specs.Begun.{Begun, ClientContextState}
-use Rattle.osc_authz.specs.Client.{Finishes, another_code, no_answer, equal_ids, made, made_name}
-use Rattle.osc_authz.specs.Exchange.{IsAnswer}
+use Rattle.osc_authz.specs.{ClientContextState, Finishes, another_code, no_answer, equal_ids, made, made_name, IsAnswer}
+use Rattle.osc_authz.specs.Begun.{Begun}
 use Rattle.osc_authz.specs.declared.error.FinishError.{FinishError}
 use Rattle.osc_authz.specs.declared.granted.ClientDesk.{ClientDesk}
 

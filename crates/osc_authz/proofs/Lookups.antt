@@ -7,7 +7,7 @@ use Rattle.std.proofs.lemmas.Bool.{both_ways, cond-false, cond-true, ltb-true, l
 use Rattle.std.proofs.lemmas.Slice.Eq.{bytes_eq-Decides}
 use Rattle.osc_authz.specs.declared.token_entry.TokenEntry.{TokenEntry}
 use Rattle.osc_authz.specs.SecurityContext.{SecurityContext}
-use Rattle.osc_authz.specs.Table.{IsTable, accepted, accepted_in, contexts, has_id, holds_id, ids, listed, taking, with_id, with_pending}
+use Rattle.osc_authz.specs.{IsTable, accepted, accepted_in, contexts, has_id, holds_id, ids, listed, taking, with_id, with_pending}
 
 -- ---- a request opened
 

@@ -14,7 +14,7 @@ use Rattle.osc_model.specs.declared.node.Moment.{Moment}
 use Rattle.osc_authz.specs.declared.token_entry.TokenEntry.{TokenEntry}
 use Rattle.osc_authz.specs.SecurityContext.{SecurityContext}
 use Rattle.osc_authz.specs.Inner.Marks.{AddsMarks, is_among, is_marked}
-use Rattle.osc_authz.specs.Table.{IsTable, IsLeastFree, alive, contexts, holds_live, ids, listed, without_pending, without_pending_in}
+use Rattle.osc_authz.specs.{IsTable, IsLeastFree, alive, contexts, holds_live, ids, listed, without_pending, without_pending_in}
 use Rattle.osc_authz.proofs.Parts.{part_filter, part_length}
 use Rattle.osc_authz.proofs.Pigeon.{crowded}
 use Rattle.osc_authz.proofs.TableLaws.{two_each}

@@ -4,10 +4,8 @@ use Rattle.std.specs.Option.{option_map_or, ForSome}
 use Rattle.std.proofs.lemmas.Bool.{and_parts}
 use Rattle.std.proofs.lemmas.Slice.Eq.{bytes_eq-Decides}
 use Rattle.osc_model.specs.declared.node.Moment.{Moment}
-use Rattle.osc_authz.specs.Contexts.{OfToken, of_tokens, IsLive}
+use Rattle.osc_authz.specs.{OfToken, of_tokens, IsLive, In, contexts, has_id, is_live, is_named, if_meant, meant}
 use Rattle.osc_authz.specs.SecurityContext.{SecurityContext}
-use Rattle.osc_authz.specs.Members.{In}
-use Rattle.osc_authz.specs.Table.{contexts, has_id, is_live, is_named, if_meant, meant}
 use Rattle.osc_authz.specs.declared.token_entry.TokenEntry.{TokenEntry}
 use Rattle.osc_authz.proofs.ContextLaws.{held_of}
 

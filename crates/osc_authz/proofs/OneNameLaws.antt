@@ -2,33 +2,22 @@
 use Rattle.std.proofs.Common.{◌≡◌, ◌≢◌, ℕ, ◌<◌, ◌≤◌, ◌^◌, List, [], ◌∷◌, length, Option, Some, None, Result, Ok, Err, refl, sym, ap, ◌∙◌, subst, arith, length-take}
 use Rattle.std.specs.Prelude.{IfSome}
 use Rattle.std.specs.Option.{ForSome}
-use Rattle.osc_model.specs.Code.{code}
-use Rattle.osc_model.specs.Draw.{nonce_drawn}
+use Rattle.osc_model.specs.{code, nonce_drawn}
 use Rattle.osc_model.specs.Scope.{Scope}
 use Rattle.osc_model.specs.declared.context.ContextName.{ContextName}
 use Rattle.osc_model.specs.declared.node.Draw.{Draw}
 use Rattle.osc_model.specs.declared.node.Moment.{Moment}
-use Rattle.osc_cbor.specs.Spelling.{spelling}
-use Rattle.osc_context.specs.MasterSalt.{master_salt}
-use Rattle.osc_cose.specs.Encrypt0.{enc_structure, object_item}
-use Rattle.osc_scope.specs.Entries.{Entry, IsScope, scope_of}
-use Rattle.osc_token.specs.Claims.{ComesTo}
-use Rattle.osc_token.specs.Minted.{FitTheirTypes, HasLawfulParts}
-use Rattle.osc_token.specs.Token.{IsToken, algorithm_header, claims_item, token_object}
+use Rattle.osc_cbor.specs.{spelling}
+use Rattle.osc_context.specs.{master_salt}
+use Rattle.osc_cose.specs.{enc_structure, object_item}
+use Rattle.osc_scope.specs.{Entry, IsScope, scope_of}
+use Rattle.osc_token.specs.{ComesTo, FitTheirTypes, HasLawfulParts, IsToken, algorithm_header, claims_item, token_object}
 use Rattle.osc_token.specs.declared.claims.Claims.{Claims}
-use Rattle.osc_authz.specs.Agreed.{IsAgreed}
-use Rattle.osc_authz.specs.Agreement.{new_context, Agrees, Answers, refused, full, agreed}
-use Rattle.osc_authz.specs.Begun.{Begun, ClientContextState}
-use Rattle.osc_authz.specs.Client.{Finishes, made_name}
-use Rattle.osc_authz.specs.Contexts.{pending_of}
-use Rattle.osc_authz.specs.Desk.{DeskState}
-use Rattle.osc_authz.specs.Exchange.{IsPost, IsAnswer, post_item, answer_item}
+use Rattle.osc_authz.specs.{IsAgreed, new_context, Agrees, Answers, refused, full, agreed, ClientContextState, Finishes, made_name, pending_of, DeskState, IsPost, IsAnswer, post_item, answer_item, In, Posts, offered, alive, contexts, with_pending, IsLawfulContext}
+use Rattle.osc_authz.specs.Begun.{Begun}
 use Rattle.osc_authz.specs.SecurityContext.{SecurityContext}
 use Rattle.osc_authz.specs.HoldsToken.{HoldsToken}
-use Rattle.osc_authz.specs.Members.{In}
-use Rattle.osc_authz.specs.Post.{Posts}
-use Rattle.osc_authz.specs.Posting.{Posting, offered}
-use Rattle.osc_authz.specs.Table.{alive, contexts, with_pending, IsLawfulContext}
+use Rattle.osc_authz.specs.Posting.{Posting}
 use Rattle.osc_authz.specs.declared.error.FinishError.{FinishError}
 use Rattle.osc_authz.specs.declared.error.PostError.{PostError}
 use Rattle.osc_authz.specs.declared.granted.ClientDesk.{ClientDesk}

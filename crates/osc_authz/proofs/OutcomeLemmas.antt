@@ -4,16 +4,11 @@ use Rattle.std.proofs.lemmas.Bool.{cases_lt}
 use Rattle.osc_model.specs.Scope.{Scope}
 use Rattle.osc_model.specs.declared.node.Moment.{Moment}
 use Rattle.osc_model.specs.declared.step.Note.{Note}
-use Rattle.osc_token.specs.Claims.{ComesTo}
-use Rattle.osc_token.specs.Token.{IsToken, token_note}
+use Rattle.osc_token.specs.{ComesTo, IsToken, token_note}
 use Rattle.osc_token.specs.declared.claims.Claims.{Claims}
 use Rattle.osc_token.specs.declared.error.TokenError.{TokenError}
-use Rattle.osc_authz.specs.Agreement.{new_context, Agrees, Answers, refused, full, agreed}
-use Rattle.osc_authz.specs.Desk.{DeskState}
-use Rattle.osc_authz.specs.Exchange.{IsPost}
-use Rattle.osc_authz.specs.Post.{Posts}
-use Rattle.osc_authz.specs.Posting.{Offer, Posting, offered}
-use Rattle.osc_authz.specs.Table.{IsFull, IsLeastFree, alive, with_pending}
+use Rattle.osc_authz.specs.{new_context, Agrees, Answers, refused, full, agreed, DeskState, IsPost, Posts, Offer, offered, IsFull, IsLeastFree, alive, with_pending}
+use Rattle.osc_authz.specs.Posting.{Posting}
 use Rattle.osc_authz.specs.declared.error.PostError.{PostError}
 use Rattle.osc_authz.specs.declared.error.PostError.TheVariants as post_error
 use Rattle.osc_authz.specs.declared.post.Post.{Post}

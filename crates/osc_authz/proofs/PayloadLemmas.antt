@@ -2,10 +2,8 @@
 use Rattle.std.proofs.Common.{◌≡◌, ℕ, ◌≤◌, Bool, true, false, nat_le, if◌then◌else◌, List, length, Option, Some, None, refl, sym, ap, subst, ◌∙◌}
 use Rattle.std.specs.Option.{option_and_then}
 use Rattle.std.proofs.lemmas.Bool.{leb-true, le-leb, and_parts}
-use Rattle.osc_cbor.specs.Data.{DataItem, unsigned, negative, byte_string, text_string, array, map, tag, bool, null, Pairs}
-use Rattle.osc_cbor.specs.Parts.{as_bytes, value}
-use Rattle.osc_cbor.specs.Spelling.{IsWhole}
-use Rattle.osc_authz.specs.Exchange.{IsPost, IsAnswer}
+use Rattle.osc_cbor.specs.{DataItem, unsigned, negative, byte_string, text_string, array, map, tag, bool, null, Pairs, as_bytes, value, IsWhole}
+use Rattle.osc_authz.specs.{IsPost, IsAnswer}
 use Rattle.osc_authz.specs.Inner.Payload.{bytes_under, if_nonce, nonce_under, if_id, id_under, post_fields, answer_fields}
 
 -- ---- what is under a label

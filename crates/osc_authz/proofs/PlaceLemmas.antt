@@ -13,7 +13,7 @@ use Rattle.std.proofs.lemmas.Slice.Eq.{bytes_eq-Decides}
 use Rattle.osc_authz.specs.declared.token_entry.TokenEntry.{TokenEntry}
 use Rattle.osc_authz.specs.SecurityContext.{SecurityContext}
 use Rattle.osc_authz.specs.Inner.Places.{IsIndex, nowhere, place_at, told}
-use Rattle.osc_authz.specs.Table.{IsLawfulContext, IsTable, accepted, accepted_in, contexts, has_id, holds_id, listed, taking, with_id}
+use Rattle.osc_authz.specs.{IsLawfulContext, IsTable, accepted, accepted_in, contexts, has_id, holds_id, listed, taking, with_id}
 use Rattle.osc_authz.proofs.Lookups.{IsNone, accepted_here, is_placed, misses, neither}
 
 -- ---- the places that are noted

@@ -3,15 +3,11 @@ use Rattle.std.proofs.Common.{◌≡◌, ℕ, List, Option, Some, None, Result, 
 use Rattle.osc_model.specs.Scope.{Scope}
 use Rattle.osc_model.specs.declared.node.Moment.{Moment}
 use Rattle.osc_model.specs.declared.step.Note.{Note}
-use Rattle.osc_token.specs.Claims.{ComesTo}
-use Rattle.osc_token.specs.Token.{IsToken, token_note}
+use Rattle.osc_token.specs.{ComesTo, IsToken, token_note}
 use Rattle.osc_token.specs.declared.claims.Claims.{Claims}
 use Rattle.osc_token.specs.declared.error.TokenError.{TokenError}
-use Rattle.osc_authz.specs.Agreement.{Answers}
-use Rattle.osc_authz.specs.Desk.{DeskState}
-use Rattle.osc_authz.specs.Exchange.{IsPost}
-use Rattle.osc_authz.specs.Post.{IsOpened, Posts}
-use Rattle.osc_authz.specs.Posting.{OpenedToken, Posting, offered}
+use Rattle.osc_authz.specs.{Answers, DeskState, IsPost, IsOpened, Posts, OpenedToken, offered}
+use Rattle.osc_authz.specs.Posting.{Posting}
 use Rattle.osc_authz.specs.declared.error.PostError.{PostError}
 use Rattle.osc_authz.specs.declared.post.Post.{Post}
 use Rattle.osc_authz.specs.declared.post.PostAnswer.{PostAnswer}

@@ -13,7 +13,7 @@ use Rattle.osc_model.specs.declared.context.ContextName.{ContextName}
 use Rattle.osc_model.specs.declared.node.Moment.{Moment}
 use Rattle.osc_authz.specs.declared.token_entry.TokenEntry.{TokenEntry}
 use Rattle.osc_authz.specs.SecurityContext.{SecurityContext}
-use Rattle.osc_authz.specs.Table.{IsTable, IsLawfulContext, IsFull, IsLeastFree, accepted, accepted_in, alive, contexts, has_id, has_token, holds_live, ids, listed, taking, without_pending, without_pending_in, with_pending}
+use Rattle.osc_authz.specs.{IsTable, IsLawfulContext, IsFull, IsLeastFree, accepted, accepted_in, alive, contexts, has_id, has_token, holds_live, ids, listed, taking, without_pending, without_pending_in, with_pending}
 use Rattle.osc_authz.proofs.Parts.{Part, none, part_whole, part_nothing, part_append, part_back, part_map, part_filter, part_length, part_all, part_distinct}
 
 pub empty_table : IsTable []

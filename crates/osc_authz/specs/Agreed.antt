@@ -1,8 +1,7 @@
 -- A post that is answered 2.01.
 use Rattle.std.specs.Prelude.{◌≡◌, ℕ, List, Some, Ok}
 use Rattle.osc_model.specs.Scope.{Scope}
-use Rattle.osc_token.specs.Claims.{ComesTo}
-use Rattle.osc_token.specs.Token.{token_note}
+use Rattle.osc_token.specs.{ComesTo, token_note}
 use Rattle.osc_token.specs.declared.claims.Claims.{Claims}
 use Rattle.osc_authz.specs.Agreement.{Agrees}
 use Rattle.osc_authz.specs.Desk.{DeskState}

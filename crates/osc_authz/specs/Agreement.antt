@@ -1,10 +1,10 @@
 -- What a post whose token opened comes to.
 use Rattle.std.specs.Prelude.{◌≡◌, ℕ, List, [], ◌∷◌, Result, Ok, Err}
 use Rattle.osc_model.specs.Scope.{Scope}
-use Rattle.osc_model.specs.Draw.{nonce_drawn}
+use Rattle.osc_model.specs.{nonce_drawn}
 use Rattle.osc_model.specs.declared.context.ContextName.{ContextName}
-use Rattle.osc_context.specs.MasterSalt.{master_salt}
-use Rattle.osc_token.specs.Claims.{ComesTo}
+use Rattle.osc_context.specs.{master_salt}
+use Rattle.osc_token.specs.{ComesTo}
 use Rattle.osc_token.specs.declared.claims.Claims.{Claims}
 use Rattle.osc_token.specs.declared.claims.InputMaterial.{InputMaterial}
 use Rattle.osc_token.specs.declared.error.TokenError.{TokenError}

@@ -1,9 +1,9 @@
 -- The client's end of an exchange.
 use Rattle.std.specs.Prelude.{◌≡◌, ◌≢◌, ℕ, if◌then◌else◌, List, [], ◌∷◌, bytes_eq, Option, Some, None, Result, Ok, Err}
-use Rattle.osc_model.specs.Code.{code}
+use Rattle.osc_model.specs.{code}
 use Rattle.osc_model.specs.declared.code.Code.{Code}
 use Rattle.osc_model.specs.declared.context.ContextName.{ContextName}
-use Rattle.osc_context.specs.MasterSalt.{master_salt}
+use Rattle.osc_context.specs.{master_salt}
 use Rattle.osc_authz.specs.Exchange.{IsAnswer}
 use Rattle.osc_authz.specs.declared.granted.ClientDesk.{ClientDesk}
 use Rattle.osc_authz.specs.Begun.{Begun, ClientContextState}

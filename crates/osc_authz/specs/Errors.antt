@@ -1,7 +1,7 @@
 -- The numbers of the refusals.
 use Rattle.std.specs.Prelude.{ℕ}
 use Rattle.osc_model.specs.Refusals as refusal
-use Rattle.osc_token.specs.Errors.{token_number}
+use Rattle.osc_token.specs.{token_number}
 use Rattle.osc_authz.specs.declared.error.PostError.{PostError}
 use Rattle.osc_authz.specs.declared.error.PostError.TheVariants as post
 use Rattle.osc_authz.specs.declared.error.FinishError.{FinishError}

@@ -1,7 +1,6 @@
 -- The payloads of an exchange at authz-info (RFC 9203 sections 4.1 and 4.2): maps, whose other keys are ignored.
 use Rattle.std.specs.Prelude.{◌≡◌, ℕ, ◌≤◌, List, length, Some}
-use Rattle.osc_cbor.specs.Data.{DataItem, unsigned, byte_string, map, Pairs, no_pairs, pair, value_under}
-use Rattle.osc_cbor.specs.Spelling.{IsWhole}
+use Rattle.osc_cbor.specs.{DataItem, unsigned, byte_string, map, Pairs, no_pairs, pair, value_under, IsWhole}
 
 -- what a client posts: access_token 1, nonce1 40, ace_client_recipientid 43
 pub record IsPost (body token nonce1 client_id : List ℕ) : Type 0 where

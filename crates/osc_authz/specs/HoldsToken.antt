@@ -1,10 +1,9 @@
 -- A client that was granted a token.
 use Rattle.std.specs.Prelude.{◌≡◌, ℕ, ◌<◌, ◌^◌, List, [], length}
-use Rattle.osc_cbor.specs.Spelling.{spelling}
-use Rattle.osc_cose.specs.Encrypt0.{enc_structure, object_item}
-use Rattle.osc_scope.specs.Entries.{Entry, IsScope}
-use Rattle.osc_token.specs.Minted.{FitTheirTypes}
-use Rattle.osc_token.specs.Token.{algorithm_header, claims_item, token_object}
+use Rattle.osc_cbor.specs.{spelling}
+use Rattle.osc_cose.specs.{enc_structure, object_item}
+use Rattle.osc_scope.specs.{Entry, IsScope}
+use Rattle.osc_token.specs.{FitTheirTypes, algorithm_header, claims_item, token_object}
 use Rattle.osc_token.specs.declared.claims.Claims.{Claims}
 use Rattle.osc_authz.specs.declared.granted.ClientDesk.{ClientDesk}
 

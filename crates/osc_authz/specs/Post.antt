@@ -1,8 +1,8 @@
 -- What a post to authz-info does: the checks in their order, of which the first that fails answers.
 use Rattle.std.specs.Prelude.{◌≡◌, ℕ, List, Some, None, Result, Err}
 use Rattle.osc_model.specs.declared.code.Code.{Code}
-use Rattle.osc_model.specs.Code.{code}
-use Rattle.osc_token.specs.Token.{IsToken, token_note}
+use Rattle.osc_model.specs.{code}
+use Rattle.osc_token.specs.{IsToken, token_note}
 use Rattle.osc_token.specs.declared.error.TokenError.{TokenError}
 use Rattle.osc_token.specs.declared.error.TokenError.TheVariants.{NotGenuine}
 use Rattle.osc_authz.specs.Agreement.{Answers}

@@ -4,7 +4,7 @@ use Rattle.std.specs.Prelude.{◌≡◌, ◌≢◌, ℕ, ◌/◌, ◌≤◌, ◌
 use Rattle.std.specs.Option.{option_map_or}
 use Rattle.std.specs.List.{All, Contains, IsDistinct, list_any}
 use Rattle.osc_model.specs.declared.node.Moment.{Moment}
-use Rattle.osc_window.specs.Window.{with_accepted}
+use Rattle.osc_window.specs.{with_accepted}
 use Rattle.osc_authz.specs.SecurityContext.{SecurityContext}
 use Rattle.osc_authz.specs.declared.token_entry.TokenEntry.{TokenEntry}
 

@@ -1,9 +1,9 @@
 -- A token that a server accepts at this moment (RFC 9200 section 5.10.1, RFC 9203 section 4).
 use Rattle.std.specs.Prelude.{◌≡◌, ℕ, List}
-use Rattle.osc_model.specs.Grant.{HasBegun, IsNotOver}
+use Rattle.osc_model.specs.{HasBegun, IsNotOver}
 use Rattle.osc_model.specs.declared.node.Moment.{Moment}
-use Rattle.osc_scope.specs.Entries.{Entry}
-use Rattle.osc_token.specs.Minted.{HasLawfulParts}
+use Rattle.osc_scope.specs.{Entry}
+use Rattle.osc_token.specs.{HasLawfulParts}
 use Rattle.osc_token.specs.declared.claims.Claims.{Claims}
 use Rattle.osc_authz.specs.Desk.{DeskState}
 use Rattle.osc_authz.specs.HoldsToken.{HoldsToken}

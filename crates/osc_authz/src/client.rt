@@ -2,12 +2,9 @@
 
 ghost use Rattle.std.specs.Prelude.{◌≡◌, ◌≢◌, ℕ, ◌≤◌, ◌<◌, ◌+◌, ◌++◌, ◌↔◌, List, [], ◌∷◌, length, max, IfOk, IsErr, OnOk, OnErr, Err, Some, option_map};
 ghost use Rattle.osc_model.specs.declared.context.Side.TheVariants.{Client};
-ghost use Rattle.osc_context.specs.Derivation.{taken_of, sender_of, recipient_of};
-ghost use Rattle.osc_context.specs.Nonce.{greatest_number};
-ghost use Rattle.osc_cbor.specs.Data.{DataItem};
-ghost use Rattle.osc_cbor.specs.Spelling.{IsWhole, spelling};
-ghost use Rattle.osc_model.specs.Code.{code as code_of};
-ghost use Rattle.osc_model.specs.Draw.{nonce_drawn};
+ghost use Rattle.osc_context.specs.{taken_of, sender_of, recipient_of, greatest_number};
+ghost use Rattle.osc_cbor.specs.{DataItem, IsWhole, spelling};
+ghost use Rattle.osc_model.specs.{code as code_of, nonce_drawn};
 ghost use Rattle.osc_token.specs.Inner.Reading.{IsItem};
 ghost use Rattle.osc_authz.specs.Begun.{Begun};
 ghost use Rattle.osc_authz.specs.Client.{Finishes, made_name, offered_id as offered};
@@ -68,7 +65,7 @@ impl Drop for ClientContext {
 impl Model for ClientContext {
     ghost use Rattle.std.specs.Prelude.{◌≡◌, []};
     ghost use Rattle.osc_model.specs.declared.context.Side.TheVariants.{Client};
-    ghost use Rattle.osc_context.specs.Derivation.{sender_of, recipient_of};
+    ghost use Rattle.osc_context.specs.{sender_of, recipient_of};
     ghost use Rattle.osc_authz.specs.Begun.{ClientContextState};
 
     ghost Value = { ClientContextState };

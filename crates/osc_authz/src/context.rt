@@ -2,9 +2,8 @@
 
 ghost use Rattle.std.specs.Prelude.{◌≡◌, ◌≤◌, option_map};
 ghost use Rattle.osc_model.specs.declared.context.Side.TheVariants.{Server};
-ghost use Rattle.osc_context.specs.Derivation.{accepted_of, sender_of, recipient_of};
-ghost use Rattle.osc_context.specs.Nonce.{greatest_number};
-ghost use Rattle.osc_window.specs.Window.{IsFresh};
+ghost use Rattle.osc_context.specs.{accepted_of, sender_of, recipient_of, greatest_number};
+ghost use Rattle.osc_window.specs.{IsFresh};
 ghost use Rattle.osc_authz.specs.Table.{is_live as is_live_of, has_id as has_id_of, is_named as is_named_of, taking};
 
 use osc_context::{AcceptedNumber, RecipientContext, SenderContext};
@@ -38,9 +37,9 @@ impl Drop for ServerContext {
 impl Model for ServerContext {
     ghost use Rattle.std.specs.Prelude.{◌≡◌};
     ghost use Rattle.osc_model.specs.declared.context.Side.TheVariants.{Server};
-    ghost use Rattle.osc_context.specs.Derivation.{sender_of, recipient_of};
+    ghost use Rattle.osc_context.specs.{sender_of, recipient_of};
     ghost use Rattle.std.specs.Coded.{codes};
-    ghost use Rattle.osc_model.specs.Scope.{coded_scope};
+    ghost use Rattle.osc_model.specs.{coded_scope};
     ghost use Rattle.osc_authz.specs.SecurityContext.{SecurityContext};
 
     ghost Value = { SecurityContext };

@@ -1,7 +1,7 @@
 //! Derivation of a context whose IDs are lawful.
 
 ghost use Rattle.std.specs.Prelude.{◌≡◌, ◌≢◌, ◌≤◌, [], length, IfOk};
-ghost use Rattle.osc_context.specs.Derivation.{sender_of, recipient_of};
+ghost use Rattle.osc_context.specs.{sender_of, recipient_of};
 
 use osc_context::{DeriveError, RecipientContext, SenderContext, derive};
 use osc_model::{ContextName, Side};

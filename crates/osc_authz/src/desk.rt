@@ -3,13 +3,11 @@
 ghost use Rattle.std.specs.Prelude.{◌≡◌, ◌≤◌, ℕ, List, [], length, IfOk, IsErr, IsSome, OnErr, Some, Ok, option_map};
 ghost use Rattle.std.specs.Option.{IfSome};
 ghost use Rattle.osc_model.specs.declared.context.Side.TheVariants.{Server};
-ghost use Rattle.osc_context.specs.Derivation.{accepted_of};
-ghost use Rattle.osc_context.specs.Nonce.{greatest_number};
-ghost use Rattle.osc_window.specs.Window.{IsFresh};
-ghost use Rattle.osc_cbor.specs.Data.{DataItem};
-ghost use Rattle.osc_cbor.specs.Spelling.{IsWhole};
+ghost use Rattle.osc_context.specs.{accepted_of, greatest_number};
+ghost use Rattle.osc_window.specs.{IsFresh};
+ghost use Rattle.osc_cbor.specs.{DataItem, IsWhole};
 ghost use Rattle.osc_model.specs.Scope.{Scope as AnyScope};
-ghost use Rattle.osc_token.specs.Claims.{ComesTo};
+ghost use Rattle.osc_token.specs.{ComesTo};
 ghost use Rattle.osc_token.specs.declared.claims.Claims.{Claims as AnyClaims};
 ghost use Rattle.osc_authz.specs.Agreement.{Agrees, Answers};
 ghost use Rattle.osc_authz.specs.SecurityContext.{SecurityContext};
@@ -21,11 +19,11 @@ ghost use Rattle.osc_authz.specs.Post.{Posts};
 use crate::agreement::context_of;
 use crate::context::ServerContext;
 use crate::error::PostError;
-use crate::token_entry::TokenEntry;
 use crate::payload::{PostFields, post_fields};
 use crate::places::{NOWHERE, Places, places_of};
 use crate::post::{Post, PostAnswer};
 use crate::table;
+use crate::token_entry::TokenEntry;
 use osc_cbor::ItemRef;
 use osc_ccm::Aead;
 use osc_context::AcceptedNumber;
@@ -61,7 +59,7 @@ impl Model for ServerDesk {
     ghost use Rattle.osc_authz.specs.Desk.{DeskState};
     ghost use Rattle.osc_authz.specs.Table.{IsTable};
     ghost use Rattle.std.specs.Coded.{codes};
-    ghost use Rattle.osc_model.specs.Scope.{coded_scope};
+    ghost use Rattle.osc_model.specs.{coded_scope};
 
     ghost Value = { DeskState };
 

@@ -1,15 +1,13 @@
 //! Laws of the definitions, for the crates above. These functions do nothing: whoever calls one has its clauses for a proof.
 
 ghost use Rattle.std.specs.Prelude.{◌≡◌, ◌↔◌, ◌≤◌, ◌<◌, ◌^◌, ℕ, List, [], ◌∷◌, length, true, Option, Some, Ok, Result, IfSome};
-ghost use Rattle.osc_cbor.specs.Spelling.{spelling};
-ghost use Rattle.osc_model.specs.Code.{code};
-ghost use Rattle.osc_model.specs.Draw.{nonce_drawn};
-ghost use Rattle.osc_model.specs.Grant.{HasBegun, IsNotOver};
+ghost use Rattle.osc_cbor.specs.{spelling};
+ghost use Rattle.osc_model.specs.{code, nonce_drawn, HasBegun, IsNotOver};
 ghost use Rattle.osc_model.specs.declared.code.Code.{Code as AnyCode};
 ghost use Rattle.osc_model.specs.declared.node.Moment.{Moment as AnyMoment};
 ghost use Rattle.osc_model.specs.declared.node.Draw.{Draw as AnyDraw};
-ghost use Rattle.osc_scope.specs.Entries.{Entry, scope_of};
-ghost use Rattle.osc_token.specs.Minted.{HasLawfulParts};
+ghost use Rattle.osc_scope.specs.{Entry, scope_of};
+ghost use Rattle.osc_token.specs.{HasLawfulParts};
 ghost use Rattle.osc_token.specs.declared.claims.Claims.{Claims as AnyClaims};
 ghost use Rattle.osc_authz.specs.Agreed.{IsAgreed};
 ghost use Rattle.osc_authz.specs.Begun.{Begun, ClientContextState};

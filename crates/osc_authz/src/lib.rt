@@ -11,13 +11,13 @@ mod derivation;
 mod desk;
 mod error;
 mod granted;
-mod token_entry;
 pub mod laws;
 mod marks;
 mod payload;
 mod places;
 mod post;
 mod table;
+mod token_entry;
 
 pub use client::{ClientContext, OpenExchange};
 pub use context::ServerContext;

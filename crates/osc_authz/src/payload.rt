@@ -3,10 +3,7 @@
 ghost use Rattle.std.specs.Prelude.{◌≡◌, ◌++◌, [], ◌∷◌, option_map, option_and_then, OnOk, OnErr};
 ghost use Rattle.osc_authz.specs.Exchange.{post_item};
 ghost use Rattle.osc_authz.specs.Inner.Payload as spec;
-ghost use Rattle.osc_cbor.specs.Data.{value_under};
-ghost use Rattle.osc_cbor.specs.Parts.{as_bytes};
-ghost use Rattle.osc_cbor.specs.Spelling.{spelling};
-ghost use Rattle.osc_cbor.specs.View.{pairs_of};
+ghost use Rattle.osc_cbor.specs.{value_under, as_bytes, spelling, pairs_of};
 
 use osc_cbor::{Item, ItemRef, PairRefs, first_value, write};
 use osc_context::ID_LIMIT;

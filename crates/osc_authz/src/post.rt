@@ -2,7 +2,7 @@
 
 ghost use Rattle.std.specs.Prelude.{◌≡◌, [], ◌∷◌, None, Err};
 ghost use Rattle.osc_authz.specs.Exchange.{answer_item};
-ghost use Rattle.osc_cbor.specs.Spelling.{spelling};
+ghost use Rattle.osc_cbor.specs.{spelling};
 
 use crate::error::PostError;
 use osc_model::Note;

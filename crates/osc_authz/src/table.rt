@@ -3,17 +3,16 @@
 ghost use Rattle.std.specs.Prelude.{◌≡◌, ◌↔◌, ℕ, IsFalse, ◌<◌, ◌≤◌, ◌∷◌, length, option_map, bytes_eq, position, IfSome, IsTrue, Some};
 ghost use Rattle.std.specs.Vec.{vec_len, vec_capacity};
 ghost use Rattle.osc_model.specs.declared.context.Side.TheVariants.{Server};
-ghost use Rattle.osc_context.specs.Derivation.{accepted_of};
-ghost use Rattle.osc_context.specs.Nonce.{greatest_number};
-ghost use Rattle.osc_window.specs.Window.{IsFresh};
+ghost use Rattle.osc_context.specs.{accepted_of, greatest_number};
+ghost use Rattle.osc_window.specs.{IsFresh};
 ghost use Rattle.osc_authz.specs.SecurityContext.{SecurityContext};
 ghost use Rattle.osc_authz.specs.Inner.Places.{IsIndex};
 ghost use Rattle.osc_authz.specs.Table.{IsTable, IsFull, IsLeastFree, accepted, alive, confirmed_at, has_token, ids, taking, with_id as with_id_of, without_pending, with_pending};
 
 use crate::context::ServerContext;
-use crate::token_entry::TokenEntry;
 use crate::marks::{least_unmarked, mark, mark_staying};
 use crate::places::{Places, place_of_id, places_of};
+use crate::token_entry::TokenEntry;
 use osc_context::AcceptedNumber;
 use osc_model::{Bytes, Moment};
 
@@ -138,10 +137,7 @@ pub(crate) fn add_pending(
 fn count_alive(table: &[TokenEntry], now: Moment) -> usize
     ensures { result ≡ length (alive now table.now) }
 {
-    table
-        .iter()
-        .filter(|entry| entry.holds_live(now))
-        .count()
+    table.iter().filter(|entry| entry.holds_live(now)).count()
 }
 
 /// Whether this token id has a live context.

@@ -3,9 +3,8 @@
 ghost use Rattle.std.specs.Prelude.{◌≡◌, ◌≤◌, ◌++◌, true, false, find, option_map, bytes_eq, IsSome};
 ghost use Rattle.std.specs.Option.{option_map_or, IfSome};
 ghost use Rattle.osc_model.specs.declared.context.Side.TheVariants.{Server};
-ghost use Rattle.osc_context.specs.Derivation.{accepted_of};
-ghost use Rattle.osc_context.specs.Nonce.{greatest_number};
-ghost use Rattle.osc_window.specs.Window.{IsFresh};
+ghost use Rattle.osc_context.specs.{accepted_of, greatest_number};
+ghost use Rattle.osc_window.specs.{IsFresh};
 ghost use Rattle.osc_authz.specs.SecurityContext.{SecurityContext};
 ghost use Rattle.osc_authz.specs.Table.{is_live as is_live_of, holds_live as holds_live_of, holds_id, listed, has_id, taking, accepted_in};
 

@@ -1,7 +1,8 @@
 //! Messages read, and datagrams served.
 
 ghost use Rattle.std.specs.Prelude.{◌≡◌, ◌≤◌, ◌<◌, length, IsTrue};
-ghost use Rattle.osc_coap.specs.Message.{Message, Spells};
+ghost use Rattle.osc_coap.specs.{Spells};
+ghost use Rattle.osc_coap.specs.Message.{Message};
 
 use osc_ccm::Suite;
 use osc_coap::MessageRef;

@@ -2,7 +2,7 @@
 
 ghost use Rattle.std.specs.Prelude.{◌≡◌, ◌≤◌, None, IfOk};
 ghost use Rattle.osc_model.specs.declared.context.Side.TheVariants.{Client};
-ghost use Rattle.osc_context.specs.Derivation.{sender_of};
+ghost use Rattle.osc_context.specs.{sender_of};
 
 use crate::messages::answer;
 use crate::protection::protect_next;

@@ -2,8 +2,8 @@
 
 ghost use Rattle.std.specs.Prelude.{◌≡◌, None, IfOk};
 ghost use Rattle.osc_model.specs.declared.context.Side.TheVariants.{Client, Server};
-ghost use Rattle.osc_context.specs.Derivation.{sender_of, recipient_of};
-ghost use Rattle.osc_protect.specs.Protection.{IsFor};
+ghost use Rattle.osc_context.specs.{sender_of, recipient_of};
+ghost use Rattle.osc_protect.specs.{IsFor};
 
 use osc_ccm::Suite;
 use osc_coap::{DATAGRAM_LIMIT, MessageRef};

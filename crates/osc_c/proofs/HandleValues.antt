@@ -32,7 +32,7 @@ use Rattle.std.specs.declared.option.Option.{Option}
 use Rattle.std.specs.declared.option.Option.TheVariants.{None, Some}
 use Rattle.std.specs.Box.Ownership.{box_owns}
 use Rattle.osc_c.proofs.LooseValues.{both, both_tt}
-use Rattle.osc_c.specs.Held.{holds}
+use Rattle.osc_c.specs.{holds}
 
 abbrev pub Z : RattleType
 Z = heap.the_row

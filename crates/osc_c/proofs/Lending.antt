@@ -5,11 +5,11 @@ use Rattle.std.specs.Fn.{Called, CalledAtMut, Mut}
 use Rattle.std.specs.declared.option.Option.{Option}
 use Rattle.std.specs.declared.option.Option.TheVariants.{None, Some}
 use Rattle.std.specs.declared.result.Result.TheVariants.{Err, Ok}
-use Rattle.osc_c.specs.Outcome.{number_of}
+use Rattle.osc_c.specs.{number_of, Makes, Tells}
 use Rattle.osc_c.specs.declared.calls.outcome.Outcome.{Outcome}
 use Rattle.osc_c.specs.declared.calls.outcome.Outcome.TheVariants as which
 use Rattle.osc_c.specs.declared.calls.round.Told.{Told}
-use Rattle.osc_c.specs.Calls.{Calls, Makes, Tells}
+use Rattle.osc_c.specs.Calls.{Calls}
 use Rattle.osc_c.specs.Inner.Lending.{Lends, Puts}
 
 module _ {A : Type 0} {old new : Option A} {outcome : Outcome} {held lent after : A} where

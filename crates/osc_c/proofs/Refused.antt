@@ -8,16 +8,14 @@ use Rattle.osc_model.specs.declared.step.ClientResult.{ClientResult}
 use Rattle.osc_model.specs.declared.step.ClientResult.TheVariants.{Made, Answer, Unverified, TimedOut, Refused}
 use Rattle.osc_model.specs.declared.step.Datagram.{Datagram}
 use Rattle.osc_model.specs.declared.step.Step.{Step}
-use Rattle.osc_ccm.specs.Ciphers.{Sealings, Tags}
-use Rattle.osc_client.specs.Sending.{Asked, Asks, Exchanges, IsRefused}
+use Rattle.osc_ccm.specs.{Sealings, Tags}
+use Rattle.osc_client.specs.{Asked, Asks, Exchanges, IsRefused}
 use Rattle.osc_client.specs.State.{State as Own}
 use Rattle.osc_server.specs.State.{State as Server}
-use Rattle.osc_device.specs.Carrying.{AskedOfServer, AsksItsServer, Carries, ComesBack, Reaches, asked_by, at_server}
+use Rattle.osc_device.specs.{AskedOfServer, AsksItsServer, Carries, ComesBack, Reaches, asked_by, at_server}
 use Rattle.osc_device.specs.State.{State}
 use Rattle.osc_device.specs.declared.round.Round.{Round}
-use Rattle.osc_c.specs.Last.{LastStep, nothing}
-use Rattle.osc_c.specs.Own.{IsRefusal, is_refused_by, last_after}
-use Rattle.osc_c.specs.Told.{begun_as, learnt_as, refused_as, told_by, told_of}
+use Rattle.osc_c.specs.{LastStep, nothing, IsRefusal, is_refused_by, last_after, begun_as, learnt_as, refused_as, told_by, told_of}
 use Rattle.osc_c.specs.declared.calls.device.DeviceNode.{DeviceNode}
 use Rattle.osc_c.specs.declared.calls.outcome.Outcome.TheVariants as outcome
 use Rattle.osc_c.specs.declared.calls.round.Told.{Told}

@@ -2,7 +2,7 @@
 use Rattle.std.proofs.Common.{◌≡◌, ℕ, refl, Option, None, Some}
 use Rattle.osc_model.specs.declared.reply.Reply.{Reply}
 use Rattle.osc_model.specs.declared.request.Request.{Request}
-use Rattle.osc_device.specs.Words.{Holder, served_as}
+use Rattle.osc_device.specs.{Holder, served_as}
 
 pub by_of : (by : Holder) (number : ℕ) (request : Option Request) (reply : Reply) → (served_as by number request reply).by ≡ by
 by_of by number (Some request) reply = refl

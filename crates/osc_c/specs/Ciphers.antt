@@ -1,6 +1,5 @@
 -- The ciphers of both algorithms (RFC 9053 section 4.2): AES-CCM, with a tag of 8 bytes or of 16.
-use Rattle.osc_ccm.specs.Ccm.{IsSealing}
-use Rattle.osc_ccm.specs.Ciphers.{Sealing, Sealings, Tags, chosen_sealing, chosen_tag}
+use Rattle.osc_ccm.specs.{IsSealing, Sealing, Sealings, Tags, chosen_sealing, chosen_tag}
 
 abbrev pub short_tag : Sealing
 short_tag key nonce aad text sealed = IsSealing key 8 nonce aad text sealed

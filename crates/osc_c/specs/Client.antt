@@ -5,22 +5,19 @@ use Rattle.osc_model.specs.declared.node.Moment.{Moment}
 use Rattle.osc_model.specs.declared.node.Peer.{Peer}
 use Rattle.osc_model.specs.declared.request.Request.{Request}
 use Rattle.osc_model.specs.declared.step.Step.{Step}
-use Rattle.osc_message.specs.Endpoint.{fresh}
+use Rattle.osc_message.specs.{fresh}
 use Rattle.osc_authz.specs.declared.granted.ClientDesk.{ClientDesk}
-use Rattle.osc_ccm.specs.Ciphers.{Sealings, Tags}
-use Rattle.osc_client.specs.Hearing.{Begins, Requests, Ticks}
-use Rattle.osc_client.specs.Sending.{Asked, acts_at}
-use Rattle.osc_client.specs.State.{State, core}
-use Rattle.osc_client.specs.Steps.{IsStep}
-use Rattle.osc_run.specs.ClientKinds.{ClientStep}
-use Rattle.osc_run.specs.Nodes.{Came}
+use Rattle.osc_ccm.specs.{Sealings, Tags}
+use Rattle.osc_client.specs.{Begins, Requests, Ticks, Asked, acts_at, core, IsStep}
+use Rattle.osc_client.specs.State.{State}
+use Rattle.osc_run.specs.{ClientStep, Came}
 use Rattle.osc_client.specs.declared.route.Route.{Route}
 use Rattle.osc_c.specs.Arguments.{IsUnfit, Tells}
 use Rattle.osc_c.specs.Ends.{At, DoneAt, Ends}
 use Rattle.osc_c.specs.Given.{GivenDatagram, GivenGrant, GivenRequest}
 use Rattle.osc_c.specs.Granted.{IsDesk, IsLawfulGrant, IsWay, id_context_of, origin_of}
 use Rattle.osc_c.specs.Requests.{AreOptions, IsNoRequest, IsRequest}
-use Rattle.osc_model.specs.Algorithm.{algorithm_number}
+use Rattle.osc_model.specs.{algorithm_number}
 use Rattle.osc_model.specs.declared.algorithm.Algorithm.{Algorithm}
 use Rattle.osc_c.specs.Last.{nothing, since}
 use Rattle.osc_c.specs.declared.calls.client.ClientNode.{ClientNode}

@@ -5,17 +5,14 @@ use Rattle.osc_model.specs.declared.node.Draw.{Draw}
 use Rattle.osc_model.specs.declared.node.Moment.{Moment}
 use Rattle.osc_model.specs.declared.node.Peer.{Peer}
 use Rattle.osc_model.specs.declared.step.Step.{Step}
-use Rattle.osc_message.specs.Endpoint.{after_tick, fresh}
-use Rattle.osc_ccm.specs.Ciphers.{Sealings}
-use Rattle.osc_client.specs.Sending.{acts_at, restarted}
+use Rattle.osc_message.specs.{after_tick, fresh}
+use Rattle.osc_ccm.specs.{Sealings}
+use Rattle.osc_client.specs.{acts_at, restarted, IsStep as IsOwnStep}
 use Rattle.osc_client.specs.State.{State as Own}
-use Rattle.osc_client.specs.Steps.{IsStep as IsOwnStep}
-use Rattle.osc_server.specs.Steps.{IsStep}
-use Rattle.osc_device.specs.Carrying.{Carries}
-use Rattle.osc_device.specs.Runs.{AllGoOn, IsOfAnEntry, noted, restarts}
+use Rattle.osc_server.specs.{IsStep}
+use Rattle.osc_device.specs.{Carries, AllGoOn, IsOfAnEntry, noted, restarts}
 use Rattle.osc_device.specs.State.{State}
-use Rattle.osc_run.specs.Nodes.{Came, Due}
-use Rattle.osc_run.specs.Notes.{by_server}
+use Rattle.osc_run.specs.{Came, Due, by_server}
 use Rattle.osc_device.specs.declared.round.Round.{Round}
 use Rattle.osc_c.specs.Ends.{At, DoneAt, Stays}
 use Rattle.osc_c.specs.Given.{GivenDatagram, came_at}

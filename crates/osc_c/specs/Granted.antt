@@ -1,11 +1,11 @@
 -- What a client was granted, and the way to its server.
 use Rattle.std.specs.Prelude.{◌≡◌, ℕ, ◌⊎◌, ◌==◌, ◌<◌, if◌then◌else◌, List, [], ◌∷◌, Option, Some, None}
 use Rattle.std.specs.Option.{ForSome}
-use Rattle.osc_model.specs.Algorithm.{algorithm_number}
+use Rattle.osc_model.specs.{algorithm_number}
 use Rattle.osc_model.specs.declared.algorithm.Algorithm.{Algorithm}
-use Rattle.osc_authz.specs.Granted.{IsSecret, IsShort}
+use Rattle.osc_authz.specs.{IsSecret, IsShort}
 use Rattle.osc_authz.specs.declared.granted.ClientDesk.{ClientDesk}
-use Rattle.osc_client.specs.Route.{HostAndPort, IsHost}
+use Rattle.osc_client.specs.{HostAndPort, IsHost}
 use Rattle.osc_c.specs.Given.{GivenGrant}
 
 -- it is no algorithm's number

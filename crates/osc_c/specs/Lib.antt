@@ -24,3 +24,18 @@ pub mod Ciphers
 pub mod Calls
 pub mod Minting
 pub mod Inner
+pub use Arguments.{IsUnfit}
+pub use Calls.{Makes, Tells}
+pub use Ciphers.{sealing, tags}
+pub use Client.{AskedBy, IsFresh, IsNewClient}
+pub use Device.{HeardAt, UnlessNowhere}
+pub use Ends.{At}
+pub use Given.{GivenDatagram, GivenGrant, GivenRequest, GivenValue, came_at}
+pub use Granted.{IsLawfulGrant, IsNoClient}
+pub use Held.{holds}
+pub use Last.{LastStep, nothing}
+pub use Nodes.{ClientType, DeviceType, ProxyType}
+pub use Outcome.{number_of}
+pub use Own.{Asks, AsksBy, ComesTo, IsRefusal, Writing, asked_for, is_refused_by, last_after}
+pub use Plain.{draw_of, peer_of}
+pub use Told.{begun_as, learnt_as, refused_as, told_by, told_of}

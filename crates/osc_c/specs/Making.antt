@@ -4,9 +4,9 @@ use Rattle.std.specs.Str.{IsUtf8}
 use Rattle.std.specs.FinMap as map
 use Rattle.std.specs.FinSet as set
 use Rattle.osc_model.specs.Scope.{Scope}
-use Rattle.osc_ccm.specs.Ciphers.{Sealings}
-use Rattle.osc_scope.specs.Entries.{Entry, IsScope, scope_of}
-use Rattle.osc_device.specs.Begun.{IsBegun, IsGranted, IsNoDevice, own_claims}
+use Rattle.osc_ccm.specs.{Sealings}
+use Rattle.osc_scope.specs.{Entry, IsScope, scope_of}
+use Rattle.osc_device.specs.{IsBegun, IsGranted, IsNoDevice, own_claims}
 use Rattle.osc_device.specs.declared.error.NewError.{NewError}
 use Rattle.osc_device.specs.declared.error.NewError.TheVariants.{Token}
 use Rattle.osc_device.specs.declared.error.NewError.TheVariants as device

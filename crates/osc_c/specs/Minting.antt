@@ -1,6 +1,6 @@
 -- Minting by numbers and bytes.
 use Rattle.std.specs.Prelude.{◌≡◌, ◌⊎◌, ◌≤◌}
-use Rattle.osc_ccm.specs.Ciphers.{Sealing}
+use Rattle.osc_ccm.specs.{Sealing}
 use Rattle.osc_token.specs.declared.claims.Claims.{Claims}
 use Rattle.osc_c.specs.Filling.{Room}
 use Rattle.osc_c.specs.Given.{GivenClaims}

@@ -1,20 +1,18 @@
 -- What a device does at its own server, by calls.
 use Rattle.std.specs.Prelude.{◌≡◌, ℕ, ◌<◌, ◌^◌, ◌⊎◌, Bool, true, false, if◌then◌else◌, List, [], Option, Some, None, ⊤}
-use Rattle.osc_model.specs.Path.{IsPath}
+use Rattle.osc_model.specs.{IsPath}
 use Rattle.osc_model.specs.declared.code.Method.{Method}
 use Rattle.osc_model.specs.declared.code.Method.TheVariants.{Delete}
 use Rattle.osc_model.specs.declared.node.Moment.{Moment}
 use Rattle.osc_model.specs.declared.request.Request.{Request}
 use Rattle.osc_model.specs.declared.step.ClientResult.{ClientResult}
 use Rattle.osc_model.specs.declared.step.ClientResult.TheVariants.{Refused}
-use Rattle.osc_client.specs.Hearing.{Begins}
+use Rattle.osc_client.specs.{Begins}
 use Rattle.osc_client.specs.State.{State as Own}
-use Rattle.osc_ccm.specs.Ciphers.{Sealings, Tags}
-use Rattle.osc_scope.specs.Entries.{Entry}
+use Rattle.osc_ccm.specs.{Sealings, Tags}
+use Rattle.osc_scope.specs.{Entry}
 use Rattle.osc_token.specs.declared.claims.Claims.{Claims}
-use Rattle.osc_device.specs.Answered.{IsAnsweredWhereReady, IsOpen, IsWhole, MayOpen, own_request}
-use Rattle.osc_device.specs.Carrying.{AskedOfServer, AsksItsServer, Carries, asked_by}
-use Rattle.osc_device.specs.Runs.{AllGoOn, IsOfAnEntry, noted}
+use Rattle.osc_device.specs.{IsAnsweredWhereReady, IsOpen, IsWhole, MayOpen, own_request, AskedOfServer, AsksItsServer, Carries, asked_by, AllGoOn, IsOfAnEntry, noted}
 use Rattle.osc_device.specs.declared.round.Round.{Round}
 use Rattle.osc_c.specs.Arguments.{IsFormat, IsNoFormat, IsUnfit}
 use Rattle.osc_c.specs.Given.{GivenPath, GivenValue}

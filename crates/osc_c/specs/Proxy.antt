@@ -4,12 +4,11 @@ use Rattle.osc_model.specs.Arrival.{Arrival}
 use Rattle.osc_model.specs.declared.node.Draw.{Draw}
 use Rattle.osc_model.specs.declared.node.Moment.{Moment}
 use Rattle.osc_model.specs.declared.step.Step.{Step}
-use Rattle.osc_message.specs.Endpoint.{fresh}
-use Rattle.osc_client.specs.Route.{IsHost}
-use Rattle.osc_proxy.specs.Exchanges.{none_open}
-use Rattle.osc_proxy.specs.Hearing.{Hears}
-use Rattle.osc_proxy.specs.State.{State, restarted}
-use Rattle.osc_proxy.specs.Ticks.{Ticks, acts}
+use Rattle.osc_message.specs.{fresh}
+use Rattle.osc_client.specs.{IsHost}
+use Rattle.osc_proxy.specs.{none_open, Hears, restarted, acts}
+use Rattle.osc_proxy.specs.State.{State}
+use Rattle.osc_proxy.specs.Ticks.{Ticks}
 use Rattle.osc_proxy.specs.declared.targets.Target.{Target}
 use Rattle.osc_c.specs.Ends.{At, Stays}
 use Rattle.osc_c.specs.Given.{GivenDatagram, came_at}

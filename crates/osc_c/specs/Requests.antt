@@ -1,6 +1,6 @@
 -- Requests of numbers and bytes.
 use Rattle.std.specs.Prelude.{◌≡◌, ℕ, ◌==◌, ◌<◌, ◌≤◌, ◌⊎◌, if◌then◌else◌, List, [], ◌∷◌, take, Some}
-use Rattle.osc_model.specs.Path.{IsPath}
+use Rattle.osc_model.specs.{IsPath}
 use Rattle.osc_model.specs.declared.request.Request.{Request}
 use Rattle.osc_c.specs.Arguments.{IsFormat, IsNoFormat}
 use Rattle.osc_c.specs.declared.calls.plain.PlainOptions.{PlainOptions}

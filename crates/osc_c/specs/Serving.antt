@@ -2,9 +2,9 @@
 use Rattle.std.specs.Prelude.{◌≡◌, ℕ, ◌⊎◌, ◌≤◌, List, [], ◌∷◌, length, Option, Some, None, MatchOption, option_and_then}
 use Rattle.osc_model.specs.declared.node.Peer.{Peer}
 use Rattle.osc_model.specs.declared.step.RefusedRequest.{RefusedRequest}
-use Rattle.osc_model.specs.Code.{method_number}
+use Rattle.osc_model.specs.{method_number}
 use Rattle.osc_model.specs.declared.code.Method.{Method}
-use Rattle.osc_device.specs.Words.{ServedRequest, refused_in, served_in}
+use Rattle.osc_device.specs.{ServedRequest, refused_in, served_in}
 use Rattle.osc_c.specs.Filling.{written}
 use Rattle.osc_c.specs.Last.{LastStep}
 use Rattle.osc_c.specs.Plain.{plain_peer}

@@ -1,15 +1,12 @@
 -- Tokens of numbers and bytes.
 use Rattle.std.specs.Prelude.{◌≡◌, ℕ, ◌⊎◌, ◌==◌, ◌<◌, ◌≤◌, if◌then◌else◌, List, [], length, map, Option, Some, None}
 use Rattle.std.specs.Str.{IsUtf8}
-use Rattle.osc_model.specs.Algorithm.{algorithm_number}
-use Rattle.osc_cbor.specs.Data.{array}
-use Rattle.osc_cbor.specs.Spelling.{spelling}
-use Rattle.osc_cose.specs.Encrypt0.{enc_structure, object_item}
-use Rattle.osc_ccm.specs.Ciphers.{Sealing}
-use Rattle.osc_scope.specs.Entries.{entry_items}
-use Rattle.osc_scope.specs.Text.{IsScopeText, Written, entry_of}
-use Rattle.osc_token.specs.Minted.{most_claims}
-use Rattle.osc_token.specs.Token.{algorithm_header, claims_item, token_object}
+use Rattle.osc_model.specs.{algorithm_number}
+use Rattle.osc_cbor.specs.{array, spelling}
+use Rattle.osc_cose.specs.{enc_structure, object_item}
+use Rattle.osc_ccm.specs.{Sealing}
+use Rattle.osc_scope.specs.{entry_items, IsScopeText, Written, entry_of}
+use Rattle.osc_token.specs.{most_claims, algorithm_header, claims_item, token_object}
 use Rattle.osc_token.specs.declared.claims.Claims.{Claims}
 use Rattle.osc_c.specs.Arguments.{IsUnfit}
 use Rattle.osc_c.specs.Filling.{Room, if_fits, written}

@@ -1,7 +1,7 @@
 -- What stands at a path, as include/osc.h tells it.
 use Rattle.std.specs.Prelude.{◌≡◌, ℕ, ◌⊎◌, List, length, Option, MatchOption}
 use Rattle.std.specs.FinMap as map
-use Rattle.osc_model.specs.Path.{IsPath}
+use Rattle.osc_model.specs.{IsPath}
 use Rattle.osc_model.specs.declared.resource.Resource.{Resource}
 use Rattle.osc_c.specs.Arguments.{IsUnfit, format_number}
 use Rattle.osc_c.specs.Filling.{if_fits, written}

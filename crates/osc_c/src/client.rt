@@ -1,7 +1,7 @@
 //! A client.
 ghost use Rattle.std.specs.Prelude.{◌≡◌};
 ghost use Rattle.std.specs.declared.option.Option.TheVariants.{None};
-ghost use Rattle.osc_client.specs.Sending.{restarted};
+ghost use Rattle.osc_client.specs.{restarted};
 ghost use Rattle.osc_c.specs.Client.{AskedBy, BegunBy, HeardBy, IsNewClient, TellsContext, TellsDeadline, TickedBy};
 ghost use Rattle.osc_c.specs.Arguments.{IsUnfit};
 ghost use Rattle.osc_c.specs.Given.{GivenGrant as Given};

@@ -1,8 +1,6 @@
 -- What is read is read whatever the keys of maps.
 use Rattle.std.proofs.Common.{◌≡◌, ℕ, zero, suc, ◌/◌, ◌%◌, cond, List, [], ◌∷◌, Option, Some, None, Ok, Err, ◌∙◌, sym, inl, inr}
-use Rattle.osc_cbor.specs.Data.{DataItem, array, map, tag, Items, no_items, Pairs, no_pairs}
-use Rattle.osc_cbor.specs.Same.{has_key}
-use Rattle.osc_cbor.specs.Reading.{◌>>=◌, Found, argument_at, major_of, items_from, pairs_from, push_item, push_pair, content_at, behind_first, item_at, any_pairs_from, any_content_at, any_behind_first, any_item_at}
+use Rattle.osc_cbor.specs.{DataItem, array, map, tag, Items, no_items, Pairs, no_pairs, has_key, ◌>>=◌, Found, argument_at, major_of, items_from, pairs_from, push_item, push_pair, content_at, behind_first, item_at, any_pairs_from, any_content_at, any_behind_first, any_item_at}
 use Rattle.osc_cbor.specs.declared.heads.Major.{Major}
 use Rattle.osc_cbor.specs.declared.heads.Major.TheVariants.{Unsigned, Negative, Bytes, Text, Array, Map, Tag}
 use Rattle.osc_cbor.specs.declared.error.ReadError.TheVariants.{DuplicateKey}

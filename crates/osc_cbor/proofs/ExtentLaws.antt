@@ -1,12 +1,8 @@
 -- Where items end.
 use Rattle.std.proofs.Common.{◌≡◌, ℕ, suc, ◌+◌, ◌-◌, ◌<◌, ◌≤◌, false, List, [], ◌++◌, Ok, Err, refl, sym, ap, ◌∙◌, append_assoc, arith}
 use Rattle.std.proofs.lemmas.List.{append-nil}
-use Rattle.osc_cbor.specs.Data.{DataItem, Items, Pairs, no_pairs, pair, pair_count, nesting, most_nesting}
-use Rattle.osc_cbor.specs.Same.{has_key}
-use Rattle.osc_cbor.specs.Spelling.{Spells, SpellsPairs}
-use Rattle.osc_cbor.specs.Faults.{Fails}
+use Rattle.osc_cbor.specs.{DataItem, Items, Pairs, no_pairs, pair, pair_count, nesting, most_nesting, has_key, Spells, SpellsPairs, Fails, Found, push_pair, items_from, pairs_from, item_at}
 use Rattle.osc_cbor.specs.Inner.Ends.{Passed}
-use Rattle.osc_cbor.specs.Reading.{Found, push_pair, items_from, pairs_from, item_at}
 use Rattle.osc_cbor.specs.declared.error.ReadError.{ReadError}
 use Rattle.osc_cbor.proofs.Steps.{AreBytes, err_is, ok_or_err}
 use Rattle.osc_cbor.proofs.FoundLaws.{Takes, in_a_row}

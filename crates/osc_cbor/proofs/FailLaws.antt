@@ -3,13 +3,8 @@ use Rattle.std.proofs.Common.{◌≡◌, ◌≢◌, ℕ, zero, suc, ◌+◌, ◌
 use Rattle.std.specs.Str.{IsUtf8, is_utf8}
 use Rattle.std.proofs.lemmas.Bool.{lt-ltb, ne_eqb, cases_lt, false_from_ne_true}
 use Rattle.std.proofs.lemmas.Str.{IsUtf8-from_is_utf8}
-use Rattle.osc_cbor.specs.Data.{Items, no_items, item, Pairs, no_pairs, pair, item_count, pair_count, HasOwnKeys, items_nesting, pairs_nesting}
-use Rattle.osc_cbor.specs.Major.{major_number}
-use Rattle.osc_cbor.specs.Spelling.{SpellsItems, SpellsPairs, Follows}
-use Rattle.osc_cbor.specs.Faults.{IsExtended, IsUnsupported, reserved, no_simple_value, HeadFails, unsupported, cut_short, StringFails, bytes_end, text_ends, not_utf8, ItemsFail, PairFails, key_fails, key_again, value_fails, PairsFail, ItemFails, in_head, in_string, in_array, in_map, in_tag, TooDeepFails, too_deep, Fails}
+use Rattle.osc_cbor.specs.{Items, no_items, item, Pairs, no_pairs, pair, item_count, pair_count, HasOwnKeys, items_nesting, pairs_nesting, major_number, SpellsItems, SpellsPairs, Follows, IsExtended, IsUnsupported, reserved, no_simple_value, HeadFails, unsupported, cut_short, StringFails, bytes_end, text_ends, not_utf8, ItemsFail, PairFails, key_fails, key_again, value_fails, PairsFail, ItemFails, in_head, in_string, in_array, in_map, in_tag, TooDeepFails, too_deep, Fails, has_key, ◌>>=◌, Found, argument_at, simple_at, string_at, text_at, items_from, pairs_from, push_item, push_pair, content_at, item_at}
 use Rattle.osc_cbor.specs.Faults as faults
-use Rattle.osc_cbor.specs.Same.{has_key}
-use Rattle.osc_cbor.specs.Reading.{◌>>=◌, Found, argument_at, simple_at, string_at, text_at, items_from, pairs_from, push_item, push_pair, content_at, item_at}
 use Rattle.osc_cbor.specs.declared.heads.Major.{Major}
 use Rattle.osc_cbor.specs.declared.heads.Major.TheVariants.{Bytes, Text, Array, Map, Tag}
 use Rattle.osc_cbor.specs.declared.error.ReadError.{ReadError}

@@ -4,12 +4,7 @@ use Rattle.std.specs.Str.{IsUtf8, is_utf8}
 use Rattle.std.proofs.lemmas.Bool.{eqb-true, ltb-false}
 use Rattle.std.proofs.lemmas.List.{append-nil, take-append-drop, length-take}
 use Rattle.std.proofs.lemmas.Str.{IsUtf8-from_is_utf8}
-use Rattle.osc_cbor.specs.Data.{DataItem, unsigned, negative, byte_string, text_string, array, map, tag, bool, null, Items, no_items, item, Pairs, no_pairs, pair, item_count, pair_count, HasOwnKeys, nesting, items_nesting, pairs_nesting}
-use Rattle.osc_cbor.specs.Head.{IsHead}
-use Rattle.osc_cbor.specs.Major.{major_number}
-use Rattle.osc_cbor.specs.Spelling.{Spells, SpellsItems, SpellsPairs}
-use Rattle.osc_cbor.specs.Same.{has_key}
-use Rattle.osc_cbor.specs.Reading.{◌>>=◌, Found, argument_at, major_of, simple_at, string_at, text_at, items_from, pairs_from, push_item, push_pair, content_at, item_at}
+use Rattle.osc_cbor.specs.{DataItem, unsigned, negative, byte_string, text_string, array, map, tag, bool, null, Items, no_items, item, Pairs, no_pairs, pair, item_count, pair_count, HasOwnKeys, nesting, items_nesting, pairs_nesting, IsHead, major_number, Spells, SpellsItems, SpellsPairs, has_key, ◌>>=◌, Found, argument_at, major_of, simple_at, string_at, text_at, items_from, pairs_from, push_item, push_pair, content_at, item_at}
 use Rattle.osc_cbor.specs.declared.heads.Major.{Major}
 use Rattle.osc_cbor.specs.declared.heads.Major.TheVariants.{Unsigned, Negative, Bytes, Text, Array, Map, Tag}
 use Rattle.osc_cbor.specs.declared.error.ReadError.TheVariants.{Truncated, Unsupported, DuplicateKey, TooDeep}

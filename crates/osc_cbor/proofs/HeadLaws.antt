@@ -4,10 +4,7 @@ use Rattle.std.specs.Int.{Width, w8, w16, w32, w64, byte_len, from_be_bytes, to_
 use Rattle.std.proofs.lemmas.Bool.{cases_lt, cases_eq, lt-ltb, ltb-true, ltb-false, le-ltb, ne_eqb}
 use Rattle.std.proofs.lemmas.List.{take_at, drop_at, take-append-drop, length-append, length-take}
 use Rattle.std.proofs.lemmas.Nat.{be_bytes_2, be_bytes_4, be_bytes_8, from_be_bytes-to_be_bytes_2, from_be_bytes-to_be_bytes_4, from_be_bytes-to_be_bytes_8}
-use Rattle.osc_cbor.specs.Head.{IsHead, inline, in_one_byte, in_two_bytes, in_four_bytes, in_eight_bytes}
-use Rattle.osc_cbor.specs.Faults.{IsExtended, by_one, by_two, by_four, by_eight}
-use Rattle.osc_cbor.specs.Major.{major_number}
-use Rattle.osc_cbor.specs.Reading.{number_at, argument_at, major_of}
+use Rattle.osc_cbor.specs.{IsHead, inline, in_one_byte, in_two_bytes, in_four_bytes, in_eight_bytes, IsExtended, by_one, by_two, by_four, by_eight, major_number, number_at, argument_at, major_of}
 use Rattle.osc_cbor.specs.declared.heads.Major.{Major}
 use Rattle.osc_cbor.specs.declared.heads.Major.TheVariants.{Unsigned, Negative, Bytes, Text, Array, Map, Tag}
 use Rattle.osc_cbor.specs.declared.error.ReadError.{ReadError}

@@ -3,9 +3,7 @@ use Rattle.std.proofs.Common.{◌≡◌, ◌⊎◌, ℕ, Bool, true, false, ◌&
 use Rattle.std.specs.Str.{bytes_eq}
 use Rattle.std.specs.Bool.{beq}
 use Rattle.std.proofs.lemmas.Bool.{and_parts, or_cases, or_left, or_right, eqb-true, eq-eqb, false≢true, both_ways}
-use Rattle.osc_cbor.specs.Data.{DataItem, unsigned, negative, byte_string, text_string, array, map, tag, bool, null, Items, no_items, item, Pairs, no_pairs, pair, HasKey, HasOwnKeys}
-use Rattle.osc_cbor.specs.Same.{same, same_items, same_pairs, has_key}
-use Rattle.osc_cbor.specs.Reading.{push_item, push_pair}
+use Rattle.osc_cbor.specs.{DataItem, unsigned, negative, byte_string, text_string, array, map, tag, bool, null, Items, no_items, item, Pairs, no_pairs, pair, HasKey, HasOwnKeys, same, same_items, same_pairs, has_key, push_item, push_pair}
 
 -- ---- equal items
 

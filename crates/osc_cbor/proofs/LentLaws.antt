@@ -3,13 +3,9 @@ use Rattle.std.proofs.Common.{◌≡◌, ℕ, zero, suc, ◌+◌, ◌-◌, ◌<�
 use Rattle.std.specs.Str.{IsUtf8}
 use Rattle.std.proofs.lemmas.Bool.{ne_eqb}
 use Rattle.std.proofs.lemmas.List.{append-nil}
-use Rattle.osc_cbor.specs.Data.{DataItem, unsigned, negative, byte_string, text_string, array, map, tag, bool, null, Items, no_items, item, Pairs, no_pairs, pair, item_count, pair_count, nesting, items_nesting, pairs_nesting, most_nesting, value_under}
-use Rattle.osc_cbor.specs.Lent.{item_of, rest_of, item_in, items_in, pairs_in, Stands, AreItems, ArePairs, Opens}
+use Rattle.osc_cbor.specs.{DataItem, unsigned, negative, byte_string, text_string, array, map, tag, bool, null, Items, no_items, item, Pairs, no_pairs, pair, item_count, pair_count, nesting, items_nesting, pairs_nesting, most_nesting, value_under, item_of, rest_of, item_in, items_in, pairs_in, Stands, AreItems, ArePairs, Opens, Found, item_at, Spells, SpellsItems, SpellsPairs, IsWhole, items_of, pairs_of}
 use Rattle.osc_cbor.specs.Parts as part
-use Rattle.osc_cbor.specs.Reading.{Found, item_at}
-use Rattle.osc_cbor.specs.Spelling.{Spells, SpellsItems, SpellsPairs, IsWhole}
 use Rattle.osc_cbor.specs.Inner.Tokens.{Token, token_at, inside}
-use Rattle.osc_cbor.specs.View.{items_of, pairs_of}
 use Rattle.osc_cbor.specs.declared.error.ReadError.{ReadError}
 use Rattle.osc_cbor.proofs.AgainLaws.{item_again}
 use Rattle.osc_cbor.proofs.Steps.{ok_is}

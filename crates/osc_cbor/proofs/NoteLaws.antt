@@ -3,10 +3,8 @@ use Rattle.std.proofs.Common.{◌≡◌, ℕ, ◌≤◌, true, false, List, [], 
 use Rattle.std.specs.Str.{bytes_eq}
 use Rattle.std.proofs.lemmas.List.{append-nil, take-append-le, map-append}
 use Rattle.std.proofs.Math.Seq.{drop-append_seam, take-length}
-use Rattle.osc_cbor.specs.Data.{DataItem, Items, no_items, item, Pairs, no_pairs, pair, HasKey, HasOwnKeys}
-use Rattle.osc_cbor.specs.Spelling.{spelling, items_spelling, pairs_spelling, HasSpelling, PairsHaveSpellings}
+use Rattle.osc_cbor.specs.{DataItem, Items, no_items, item, Pairs, no_pairs, pair, HasKey, HasOwnKeys, spelling, items_spelling, pairs_spelling, HasSpelling, PairsHaveSpellings, push_item, push_pair}
 use Rattle.osc_cbor.specs.Inner.Notes.{piece, pieces, times, AreApart, Repeats, key_spellings}
-use Rattle.osc_cbor.specs.Reading.{push_item, push_pair}
 use Rattle.osc_cbor.specs.declared.keys.Key.{Key}
 use Rattle.osc_cbor.proofs.OneItem.{one_item, spells}
 use Rattle.osc_cbor.proofs.RowLaws.{times-cons, times-append, times-here, times-there, row_is, itself}

@@ -2,10 +2,7 @@
 use Rattle.std.proofs.Common.{◌≡◌, ℕ, zero, suc, ◌+◌, ◌*◌, ◌/◌, ◌%◌, ◌^◌, ◌<◌, ◌≤◌, ltb, true, List, [], ◌∷◌, ◌++◌, Ok, refl, ap, subst, ◌∙◌, arith, inl, inr}
 use Rattle.std.specs.Int.{w8, to_be_bytes}
 use Rattle.std.proofs.lemmas.Bool.{cases_lt, lt-ltb, le-ltb}
-use Rattle.osc_cbor.specs.Data.{DataItem, unsigned, negative}
-use Rattle.osc_cbor.specs.Head.{head}
-use Rattle.osc_cbor.specs.Spelling.{spelling}
-use Rattle.osc_cbor.specs.Reading.{number_at, argument_at, content_at, item_at}
+use Rattle.osc_cbor.specs.{DataItem, unsigned, negative, head, spelling, number_at, argument_at, content_at, item_at}
 use Rattle.osc_cbor.proofs.HeadLaws.{wide8, number_again, argument_24}
 
 -- these bytes are a number, and its spelling is the first of them

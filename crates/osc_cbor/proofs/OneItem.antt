@@ -2,10 +2,7 @@
 use Rattle.std.proofs.Common.{◌≡◌, ℕ, suc, ◌^◌, ◌<◌, max, List, ◌++◌, length, Ok, refl, sym, ap, ◌∙◌, arith, inl, inr}
 use Rattle.std.proofs.lemmas.Bool.{cases_lt, lt-ltb, le-ltb}
 use Rattle.std.proofs.lemmas.List.{append_cancel_right}
-use Rattle.osc_cbor.specs.Data.{DataItem, unsigned, negative, byte_string, text_string, array, map, tag, bool, null, Items, no_items, item, Pairs, no_pairs, pair, item_count, pair_count, nesting}
-use Rattle.osc_cbor.specs.Head.{IsHead, inline, in_one_byte, in_two_bytes, in_four_bytes, in_eight_bytes, head}
-use Rattle.osc_cbor.specs.Spelling.{Spells, SpellsItems, SpellsPairs, spelling, items_spelling, pairs_spelling, HasSpelling, HaveSpellings, PairsHaveSpellings}
-use Rattle.osc_cbor.specs.Reading.{item_at}
+use Rattle.osc_cbor.specs.{DataItem, unsigned, negative, byte_string, text_string, array, map, tag, bool, null, Items, no_items, item, Pairs, no_pairs, pair, item_count, pair_count, nesting, IsHead, inline, in_one_byte, in_two_bytes, in_four_bytes, in_eight_bytes, head, Spells, SpellsItems, SpellsPairs, spelling, items_spelling, pairs_spelling, HasSpelling, HaveSpellings, PairsHaveSpellings, item_at}
 use Rattle.osc_cbor.proofs.Steps.{ok_is}
 use Rattle.osc_cbor.proofs.AgainLaws.{item_again}
 

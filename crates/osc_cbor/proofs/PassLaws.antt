@@ -2,12 +2,8 @@
 use Rattle.std.proofs.Common.{◌≡◌, ℕ, ◌+◌, ◌-◌, ◌<◌, ◌≤◌, true, false, List, [], ◌∷◌, ◌++◌, length, drop, Result, Ok, Err, refl, sym, ap, ap₂, subst, ◌∙◌, append_assoc, arith}
 use Rattle.std.proofs.lemmas.List.{append-nil, length-append}
 use Rattle.std.proofs.Math.Seq.{drop-append_seam}
-use Rattle.osc_cbor.specs.Data.{DataItem, byte_string, text_string, array, map, tag, null, Items, no_items, Pairs, no_pairs, item_count, pair_count, HasOwnKeys}
-use Rattle.osc_cbor.specs.Head.{head}
-use Rattle.osc_cbor.specs.Spelling.{spelling, items_spelling, pairs_spelling, HasSpelling, PairsHaveSpellings}
-use Rattle.osc_cbor.specs.Same.{has_key}
+use Rattle.osc_cbor.specs.{DataItem, byte_string, text_string, array, map, tag, null, Items, no_items, Pairs, no_pairs, item_count, pair_count, HasOwnKeys, head, spelling, items_spelling, pairs_spelling, HasSpelling, PairsHaveSpellings, has_key, Found, push_item, push_pair, string_at, text_at, items_from, pairs_from, content_at}
 use Rattle.osc_cbor.specs.Inner.Notes.{Grows, piece, pieces, times, AreApart, Repeats, Judged, again, apart, key_spellings, Passes, PassesBehind}
-use Rattle.osc_cbor.specs.Reading.{Found, push_item, push_pair, string_at, text_at, items_from, pairs_from, content_at}
 use Rattle.osc_cbor.specs.declared.heads.Major.TheVariants.{Bytes, Text, Array, Map, Tag}
 use Rattle.osc_cbor.specs.declared.error.ReadError.{ReadError}
 use Rattle.osc_cbor.specs.declared.error.ReadError.TheVariants.{DuplicateKey}

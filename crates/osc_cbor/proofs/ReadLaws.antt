@@ -1,11 +1,8 @@
 -- What the answer of a read means.
 use Rattle.std.proofs.Common.{◌≡◌, ◌⊎◌, ℕ, zero, suc, ◌+◌, ◌-◌, ◌≤◌, List, ◌++◌, length, take, Result, Ok, Err, refl, sym, ap, subst, ◌∙◌, arith, inl, inr}
 use Rattle.std.proofs.lemmas.List.{take_at, length-append}
-use Rattle.osc_cbor.specs.Data.{DataItem, Pairs, nesting, most_nesting}
-use Rattle.osc_cbor.specs.Spelling.{Spells, Begins}
-use Rattle.osc_cbor.specs.Faults.{HeadFails, StringFails, PairFails, key_fails, key_again, value_fails, ItemFails, in_head, in_string, in_array, in_map, in_tag, TooDeepFails, too_deep, Fails}
+use Rattle.osc_cbor.specs.{DataItem, Pairs, nesting, most_nesting, Spells, Begins, HeadFails, StringFails, PairFails, key_fails, key_again, value_fails, ItemFails, in_head, in_string, in_array, in_map, in_tag, TooDeepFails, too_deep, Fails, Refuses, item_at}
 use Rattle.osc_cbor.specs.Faults as faults
-use Rattle.osc_cbor.specs.Reading.{Refuses, item_at}
 use Rattle.osc_cbor.specs.declared.error.ReadError.{ReadError}
 use Rattle.osc_cbor.specs.declared.error.ReadError.TheVariants.{Truncated, Unsupported, DuplicateKey, TooDeep, Memory}
 use Rattle.osc_cbor.proofs.Steps.{AreBytes, ok_is, ok_or_err}

@@ -1,8 +1,6 @@
 -- One step of the reader, as the code makes it.
 use Rattle.std.proofs.Common.{◌≡◌, ℕ, zero, suc, ◌+◌, ◌-◌, ◌<◌, ◌≤◌, ◌/◌, ◌%◌, true, false, List, [], ◌∷◌, Some, None, Result, Ok, Err, refl, arith}
-use Rattle.osc_cbor.specs.Data.{DataItem, Items, Pairs}
-use Rattle.osc_cbor.specs.Same.{has_key}
-use Rattle.osc_cbor.specs.Reading.{◌>>=◌, Refuses, Found, argument_at, major_of, push_item, push_pair, items_from, pairs_from, simple_at, content_at, item_at, any_pairs_from, any_content_at, any_item_at}
+use Rattle.osc_cbor.specs.{DataItem, Items, Pairs, has_key, ◌>>=◌, Refuses, Found, argument_at, major_of, push_item, push_pair, items_from, pairs_from, simple_at, content_at, item_at, any_pairs_from, any_content_at, any_item_at}
 use Rattle.osc_cbor.specs.declared.heads.Major.{Major}
 use Rattle.osc_cbor.specs.declared.error.ReadError.{ReadError}
 use Rattle.osc_cbor.specs.declared.error.ReadError.TheVariants.{Truncated, Unsupported, DuplicateKey, TooDeep, Memory}

@@ -3,14 +3,8 @@ use Rattle.std.proofs.Common.{◌≡◌, ◌≢◌, ℕ, zero, suc, ◌+◌, ◌
 use Rattle.std.specs.Str.{is_utf8}
 use Rattle.std.proofs.lemmas.Bool.{ltb-true, eqb-false, false≢true}
 use Rattle.std.proofs.lemmas.Str.{is_utf8-from_IsUtf8}
-use Rattle.osc_cbor.specs.Data.{DataItem, unsigned, negative, byte_string, text_string, array, map, tag, bool, null, Items, no_items, item, Pairs, no_pairs, pair, pair_count, HasOwnKeys, pairs_nesting}
-use Rattle.osc_cbor.specs.Head.{IsHead}
-use Rattle.osc_cbor.specs.Major.{major_number}
-use Rattle.osc_cbor.specs.Spelling.{SpellsPairs}
-use Rattle.osc_cbor.specs.Faults.{IsExtended, IsUnsupported, reserved, no_simple_value, HeadFails, unsupported, cut_short, StringFails, bytes_end, text_ends, not_utf8, ItemsFail, PairFails, key_fails, key_again, value_fails, PairsFail, ItemFails, in_head, in_string, in_array, in_map, in_tag, TooDeepFails, too_deep, Fails}
+use Rattle.osc_cbor.specs.{DataItem, unsigned, negative, byte_string, text_string, array, map, tag, bool, null, Items, no_items, item, Pairs, no_pairs, pair, pair_count, HasOwnKeys, pairs_nesting, IsHead, major_number, SpellsPairs, IsExtended, IsUnsupported, reserved, no_simple_value, HeadFails, unsupported, cut_short, StringFails, bytes_end, text_ends, not_utf8, ItemsFail, PairFails, key_fails, key_again, value_fails, PairsFail, ItemFails, in_head, in_string, in_array, in_map, in_tag, TooDeepFails, too_deep, Fails, has_key, ◌>>=◌, Found, argument_at, major_of, simple_at, string_at, text_at, items_from, pairs_from, push_item, push_pair, content_at, item_at}
 use Rattle.osc_cbor.specs.Faults as faults
-use Rattle.osc_cbor.specs.Same.{has_key}
-use Rattle.osc_cbor.specs.Reading.{◌>>=◌, Found, argument_at, major_of, simple_at, string_at, text_at, items_from, pairs_from, push_item, push_pair, content_at, item_at}
 use Rattle.osc_cbor.specs.declared.heads.Major.{Major}
 use Rattle.osc_cbor.specs.declared.heads.Major.TheVariants.{Unsigned, Negative, Bytes, Text, Array, Map, Tag}
 use Rattle.osc_cbor.specs.declared.error.ReadError.{ReadError}

@@ -1,9 +1,7 @@
 -- Whether two items are equal, step by step.
 use Rattle.std.proofs.Common.{◌≡◌, ℕ, suc, ◌+◌, ◌<◌, ◌≤◌, Bool, true, false, ◌&&◌, List, length, get_or, drop, refl, sym, ap, ◌∙◌}
 use Rattle.std.proofs.lemmas.List.{drop_all}
-use Rattle.osc_cbor.specs.Data.{Items, no_items, item, Pairs, no_pairs, pair, item_count, pair_count}
-use Rattle.osc_cbor.specs.Same.{same, same_items, same_pairs}
-use Rattle.osc_cbor.specs.View.{view, items_view, pairs_view}
+use Rattle.osc_cbor.specs.{Items, no_items, item, Pairs, no_pairs, pair, item_count, pair_count, same, same_items, same_pairs, view, items_view, pairs_view}
 use Rattle.osc_cbor.specs.declared.item.Item.{Item}
 use Rattle.osc_cbor.proofs.Views.{items_view-drop, pairs_view-drop, item_count-view, pair_count-view}
 

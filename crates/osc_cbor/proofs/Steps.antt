@@ -2,7 +2,7 @@
 use Rattle.std.proofs.Common.{◌≡◌, ◌⊎◌, ℕ, suc, ◌+◌, ◌<◌, Bool, true, false, cond, List, ◌∷◌, get_or, take, drop, Option, Some, None, Result, Ok, Err, refl, arith, inl, inr}
 use Rattle.std.proofs.lemmas.Bool.{cases_lt}
 use Rattle.std.proofs.lemmas.List.{get_or-drop, get_or-take, get_or_past, length-take}
-use Rattle.osc_cbor.specs.Reading.{◌>>=◌}
+use Rattle.osc_cbor.specs.{◌>>=◌}
 use Rattle.osc_cbor.specs.declared.error.ReadError.{ReadError}
 
 -- each element is a byte

@@ -3,11 +3,7 @@ use Rattle.std.proofs.Common.{◌≡◌, ◌≢◌, ℕ, suc, ◌+◌, ◌-◌, 
 use Rattle.std.specs.Int.{Width, w8, w16, w32, w64, byte_len, from_be_bytes}
 use Rattle.std.proofs.lemmas.Bool.{ne_eqb, or_left, false≢true, false_from_ne_true}
 use Rattle.std.proofs.lemmas.List.{append-nil, length-append, length-drop}
-use Rattle.osc_cbor.specs.Data.{DataItem, unsigned, negative, byte_string, text_string, array, map, tag, bool, null, Items, no_items, item, Pairs, no_pairs, pair, item_count, pair_count}
-use Rattle.osc_cbor.specs.Head.{IsHead, head}
-use Rattle.osc_cbor.specs.Spelling.{Spells, SpellsItems, SpellsPairs, Follows, spelling, items_spelling, pairs_spelling}
-use Rattle.osc_cbor.specs.Reading.{◌>>=◌, number_at, argument_at, string_at}
-use Rattle.osc_cbor.specs.Same.{same, has_key}
+use Rattle.osc_cbor.specs.{DataItem, unsigned, negative, byte_string, text_string, array, map, tag, bool, null, Items, no_items, item, Pairs, no_pairs, pair, item_count, pair_count, IsHead, head, Spells, SpellsItems, SpellsPairs, Follows, spelling, items_spelling, pairs_spelling, ◌>>=◌, number_at, argument_at, string_at, same, has_key}
 use Rattle.osc_cbor.specs.Inner.Tokens.{Token, token_behind, token_at, Stream, tokens, items_tokens, pairs_tokens, inside, Alike, Pending, Keys}
 use Rattle.osc_cbor.specs.declared.error.ReadError.{ReadError}
 use Rattle.osc_cbor.specs.declared.error.ReadError.TheVariants.{Truncated, Unsupported}

@@ -1,9 +1,7 @@
 -- What items look like, level by level.
 use Rattle.std.proofs.Common.{◌≡◌, ℕ, suc, ◌+◌, ◌<◌, List, [], ◌∷◌, ◌++◌, length, get_or, drop, Vec, Global, refl, ap, rules}
 use Rattle.std.proofs.lemmas.List.{drop_more}
-use Rattle.osc_cbor.specs.Data.{map, item, pair, item_count, pair_count}
-use Rattle.osc_cbor.specs.View.{view, items_view, pairs_view}
-use Rattle.osc_cbor.specs.Reading.{push_item, push_pair}
+use Rattle.osc_cbor.specs.{map, item, pair, item_count, pair_count, view, items_view, pairs_view, push_item, push_pair}
 use Rattle.osc_cbor.specs.declared.item.Item.{Item, the_lemmas}
 use Rattle.osc_cbor.specs.declared.item.Item.TheVariants as code
 

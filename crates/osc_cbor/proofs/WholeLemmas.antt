@@ -1,9 +1,7 @@
 -- Bytes that are one whole item, and what a read of them gives.
 use Rattle.std.proofs.Common.{◌≡◌, ℕ, List, [], length, Ok, sym, ap, subst, ◌∙◌, arith}
 use Rattle.std.proofs.lemmas.List.{append-nil, take_all}
-use Rattle.osc_cbor.specs.Data.{DataItem}
-use Rattle.osc_cbor.specs.Reading.{item_at, any_item_at}
-use Rattle.osc_cbor.specs.Spelling.{Spells, Begins, IsWhole}
+use Rattle.osc_cbor.specs.{DataItem, item_at, any_item_at, Spells, Begins, IsWhole}
 use Rattle.osc_cbor.proofs.Steps.{ok_is}
 use Rattle.osc_cbor.proofs.AgainLaws.{item_again}
 use Rattle.osc_cbor.proofs.AnyLaws.{item_too}

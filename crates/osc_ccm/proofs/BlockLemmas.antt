@@ -5,8 +5,7 @@ use Rattle.std.proofs.lemmas.List.{length-take, take_at, drop_at, take_min, drop
 use Rattle.std.proofs.lemmas.List.Sums.{fold_push}
 use Rattle.std.proofs.Math.Path.{ap₂}
 use Rattle.std.proofs.lemmas.List.FromFn.{map-range_with_len_more}
-use Rattle.osc_ccm.specs.Ccm.{xor, filled, piece, blocks, block_count, two_bytes, aad_blocks, mac_step}
-use Rattle.osc_ccm.specs.OneText.{length-xor}
+use Rattle.osc_ccm.specs.{xor, filled, piece, blocks, block_count, two_bytes, aad_blocks, mac_step, length-xor}
 
 -- a whole block needs no zeros
 pub filled_whole : (p : List ℕ) → length p ≡ 16 → filled p ≡ p

@@ -1,9 +1,7 @@
 -- What the comparison of the tags decides.
 use Rattle.std.proofs.Common.{◌≡◌, ◌↔◌, ℕ, ◌-◌, ◌≤◌, Bool, true, false, IsTrue, List, ◌<◌, ◌++◌, length, take, drop, sym, ap, subst, ◌∙◌, arith}
 use Rattle.std.proofs.lemmas.List.{take-append-drop, length-take, length-drop, length-append, append_cancel_left}
-use Rattle.osc_ccm.specs.Ccm.{ciphered, tag_of, IsSealing}
-use Rattle.osc_ccm.specs.Limits.{IsInRange}
-use Rattle.osc_ccm.specs.OneText.{ciphered-ciphered, text_of_sealing}
+use Rattle.osc_ccm.specs.{ciphered, tag_of, IsSealing, IsInRange, ciphered-ciphered, text_of_sealing}
 
 -- c is the ciphertext and t the tag that stands behind it
 genuine_parts : (key : List ℕ) (size : ℕ) (nonce aad c t sealed : List ℕ) (same : Bool) → sealed ≡ c ++ t → length t ≡ size → IsInRange (length c) (length aad) → length (ciphered key nonce c) ≡ length c → IsTrue same ↔ (t ≡ tag_of key size nonce aad (ciphered key nonce c)) → IsTrue same ↔ IsSealing key size nonce aad (ciphered key nonce c) sealed

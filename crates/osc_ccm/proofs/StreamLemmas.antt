@@ -5,8 +5,7 @@ use Rattle.std.proofs.Math.Seq.{take-add}
 use Rattle.std.proofs.lemmas.Bool.{cases_lt}
 use Rattle.std.proofs.lemmas.List.{take_at, drop_at, take_all, drop_all, drop-drop, flat_map_more, map-id, length-append, length-take, length-drop}
 use Rattle.std.proofs.lemmas.List.FromFn.{map-range_with_len_more}
-use Rattle.osc_ccm.specs.Ccm.{xor, piece, block_count, key_stream, stream_block, ciphered}
-use Rattle.osc_ccm.specs.OneText.{length-xor}
+use Rattle.osc_ccm.specs.{xor, piece, block_count, key_stream, stream_block, ciphered, length-xor}
 use Rattle.osc_ccm.proofs.XorLemmas.{xor-append, take-xor, xor-take, drop-xor}
 
 pub length-key_stream_none : (key nonce : List ℕ) → length (key_stream key nonce 0) ≡ 0

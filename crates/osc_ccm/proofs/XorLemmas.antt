@@ -5,8 +5,7 @@ use Rattle.std.specs.Simd.Lanes.{put_chunk}
 use Rattle.std.proofs.lemmas.Simd.{put_chunk_whole}
 use Rattle.std.proofs.lemmas.List.{take_all, take_more, take_more_same, same_from_push}
 use Rattle.std.proofs.lemmas.Nat.{le_or_l, le_or_r}
-use Rattle.osc_ccm.specs.Ccm.{xor}
-use Rattle.osc_ccm.specs.OneText.{length-xor}
+use Rattle.osc_ccm.specs.{xor, length-xor}
 
 pub xor-nil : (ys : List ℕ) → xor ys [] ≡ []
 xor-nil [] = refl

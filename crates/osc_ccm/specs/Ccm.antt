@@ -4,7 +4,7 @@
 use Rattle.std.specs.Prelude.{◌≡◌, ℕ, ◌+◌, ◌-◌, ◌*◌, ◌/◌, ◌%◌, List, [], ◌∷◌, ◌++◌, length, map, fold, take, drop, replicate, bit_xor}
 use Rattle.std.specs.List.{range_with_len, flat_map}
 use Rattle.std.specs.Simd.Lanes.{zip2}
-use Rattle.osc_aes.specs.Cipher.{encrypt_block}
+use Rattle.osc_aes.specs.{encrypt_block}
 use Rattle.osc_ccm.specs.Limits.{IsInRange}
 
 -- two lists xored byte by byte, as far as the shorter goes

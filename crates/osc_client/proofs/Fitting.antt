@@ -4,8 +4,8 @@ use Rattle.std.specs.Result.{IfOk}
 use Rattle.std.proofs.lemmas.List.Elements.{All-nil}
 use Rattle.osc_model.specs.declared.step.Datagram.{Datagram}
 use Rattle.osc_model.specs.declared.step.Step.{Step}
-use Rattle.osc_message.specs.Sending.{AreSendable, FitsDatagram}
-use Rattle.osc_client.specs.Sending.{refusing}
+use Rattle.osc_message.specs.{AreSendable, FitsDatagram}
+use Rattle.osc_client.specs.{refusing}
 
 pub none_fit : (out : List Datagram) → out ≡ [] → AreSendable out
 none_fit out none = subst AreSendable (sym none) (All-nil (λ sent. FitsDatagram sent.bytes))

@@ -3,12 +3,12 @@ use Rattle.std.proofs.Common.{◌≡◌, ◌∙◌, ℕ, true, List, Option, Som
 use Rattle.std.specs.Prelude.{IfSome, IfNone}
 use Rattle.osc_model.specs.declared.step.Note.{Note}
 use Rattle.osc_coap.specs.Message.{Message}
-use Rattle.osc_options.specs.Split.{has_oscore}
-use Rattle.osc_ccm.specs.Ciphers.{Sealings}
-use Rattle.osc_protect.specs.Protection.{SealedResponse, IsResponse}
-use Rattle.osc_authz.specs.Begun.{ClientContextState}
-use Rattle.osc_run.specs.ClientKinds.{response_note}
-use Rattle.osc_client.specs.Answering.{AskComes, IsSealedFor, answered, no_response, not_genuine}
+use Rattle.osc_options.specs.{has_oscore}
+use Rattle.osc_ccm.specs.{Sealings}
+use Rattle.osc_protect.specs.{SealedResponse, IsResponse}
+use Rattle.osc_authz.specs.{ClientContextState}
+use Rattle.osc_run.specs.{response_note}
+use Rattle.osc_client.specs.{AskComes, IsSealedFor, answered, no_response, not_genuine}
 use Rattle.osc_client.specs.Inner.Opened.{ComesOf, a_reply, no_reply, nothing}
 use Rattle.osc_client.specs.declared.answering.Outcome.{Outcome}
 use Rattle.osc_client.specs.declared.answering.Outcome.TheVariants.{Stays, Answers}

@@ -1,25 +1,23 @@
 -- What an answer comes to, by its cases.
 use Rattle.std.proofs.Common.{◌≡◌, ◌∙◌, sym, ap, ℕ, false, List, Option, Some, None, Result, Ok, Err, refl, subst}
-use Rattle.osc_model.specs.StepNotes.{quiet}
+use Rattle.osc_model.specs.{quiet}
 use Rattle.osc_model.specs.declared.code.Code.{Code}
 use Rattle.osc_model.specs.declared.reply.Reply.{Reply}
 use Rattle.osc_model.specs.declared.step.ClientResult.{ClientResult}
 use Rattle.osc_model.specs.declared.step.ClientResult.TheVariants as result
 use Rattle.osc_model.specs.declared.step.Note.{Note}
 use Rattle.osc_coap.specs.Message.{Message}
-use Rattle.osc_ccm.specs.Ciphers.{Sealings}
-use Rattle.osc_authz.specs.Begun.{Begun, ClientContextState}
-use Rattle.osc_authz.specs.Client.{Finishes}
+use Rattle.osc_ccm.specs.{Sealings}
+use Rattle.osc_authz.specs.{ClientContextState, Finishes}
+use Rattle.osc_authz.specs.Begun.{Begun}
 use Rattle.osc_authz.specs.declared.error.FinishError.{FinishError}
 use Rattle.osc_authz.specs.declared.error.FinishError.TheVariants.{Fields, EqualIds, Memory}
 use Rattle.osc_authz.specs.declared.granted.ClientDesk.{ClientDesk}
-use Rattle.osc_run.specs.ClientKinds.{ClientStep, ClientIdle, Made, Answered, Ended, IsEnding, IsMade, response_note}
-use Rattle.osc_run.specs.States.{ClientState, Nothing, Exchange as OpenExchange, Ask as AskOf}
-use Rattle.osc_options.specs.Texts.{IsReplyIn}
-use Rattle.osc_client.specs.Answering.{AskComes, Comes, ExchangeComes, code_of, context_after, ended_by, notes_of, waits_after}
+use Rattle.osc_run.specs.{ClientStep, ClientIdle, Made, Answered, Ended, IsEnding, IsMade, response_note, ClientState, Nothing, Exchange as OpenExchange, Ask as AskOf}
+use Rattle.osc_options.specs.{IsReplyIn}
+use Rattle.osc_client.specs.{AskComes, Comes, ExchangeComes, code_of, context_after, ended_by, notes_of, waits_after, outstanding, outstanding_of}
 use Rattle.osc_client.specs.Answering as comes
 use Rattle.osc_client.specs.Inner.Bounds.{IsOfGrant, NeedsContext}
-use Rattle.osc_client.specs.State.{outstanding, outstanding_of}
 use Rattle.osc_client.specs.declared.answering.Outcome.{Outcome}
 use Rattle.osc_client.specs.declared.answering.Outcome.TheVariants.{Stays, Makes, Answers, Ends}
 use Rattle.osc_client.specs.declared.waiting.Awaited.{Awaited}

@@ -6,18 +6,16 @@ use Rattle.std.proofs.lemmas.Slice.Eq.{bytes_eq-Decides}
 use Rattle.osc_model.specs.declared.node.Peer.{Peer}
 use Rattle.osc_coap.specs.declared.kind.Kind.{Kind}
 use Rattle.osc_coap.specs.declared.kind.Kind.TheVariants.{Confirmable, NonConfirmable, Acknowledgement, Reset}
-use Rattle.osc_message.specs.Confirmables.{Open, acknowledged, is_named, same_peer}
-use Rattle.osc_message.specs.Endpoint.{acknowledged_by}
+use Rattle.osc_message.specs.{Open, acknowledged, is_named, same_peer, acknowledged_by}
 use Rattle.osc_model.specs.declared.code.Code.{Code}
 use Rattle.osc_coap.specs.Message.{Message}
-use Rattle.osc_authz.specs.Begun.{Begun, ClientContextState}
-use Rattle.osc_authz.specs.Client.{Finishes, made_name}
+use Rattle.osc_authz.specs.{ClientContextState, Finishes, made_name}
+use Rattle.osc_authz.specs.Begun.{Begun}
 use Rattle.osc_authz.specs.Client as finishing
 use Rattle.osc_authz.specs.declared.error.FinishError.TheVariants.{Fields, EqualIds}
 use Rattle.osc_authz.specs.declared.granted.ClientDesk.{ClientDesk}
-use Rattle.osc_client.specs.Answering.{context_after, waits_after}
+use Rattle.osc_client.specs.{context_after, waits_after, counts, is_ended, is_reset}
 use Rattle.osc_client.specs.Inner.Bounds.{HasContext, KeepsOwn}
-use Rattle.osc_client.specs.Case.{counts, is_ended, is_reset}
 use Rattle.osc_client.specs.declared.answering.Outcome.{Outcome}
 use Rattle.osc_client.specs.declared.answering.Outcome.TheVariants.{Stays, Makes, Answers, Ends}
 use Rattle.osc_client.specs.declared.waiting.Waiting.{Waiting}

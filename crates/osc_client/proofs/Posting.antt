@@ -3,16 +3,14 @@ use Rattle.std.proofs.Common.{◌≡◌, ◌∙◌, ap, subst, ℕ, ◌+◌, ◌
 use Rattle.std.specs.Bool.{IsFalse, IsTrue}
 use Rattle.std.proofs.lemmas.Bool.{lt-ltb, le-ltb}
 use Rattle.std.proofs.lemmas.List.{length-append}
-use Rattle.osc_cbor.specs.Data.{byte_string, no_pairs, pair, unsigned}
-use Rattle.osc_cbor.specs.Head.{head}
-use Rattle.osc_cbor.specs.Spelling.{pairs_spelling, spelling as item_spelling}
-use Rattle.osc_coap.specs.Message.{Message, spelling}
+use Rattle.osc_cbor.specs.{byte_string, no_pairs, pair, unsigned, head, pairs_spelling, spelling as item_spelling}
+use Rattle.osc_coap.specs.{spelling}
+use Rattle.osc_coap.specs.Message.{Message}
 use Rattle.osc_authz.specs.Begun.{Begun}
-use Rattle.osc_authz.specs.Exchange.{post_item}
+use Rattle.osc_authz.specs.{post_item}
 use Rattle.osc_authz.specs.declared.granted.ClientDesk.{ClientDesk}
-use Rattle.osc_protect.specs.Protection.{longest_message}
-use Rattle.osc_client.specs.Sending.{OfEachPost, post_with}
-use Rattle.osc_client.specs.Route.{HostAndPort, through}
+use Rattle.osc_protect.specs.{longest_message}
+use Rattle.osc_client.specs.{OfEachPost, post_with, HostAndPort, through}
 use Rattle.osc_client.proofs.Through.{LengthLaw}
 
 -- ---- heads (RFC 8949 section 3)

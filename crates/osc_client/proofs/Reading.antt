@@ -1,13 +1,11 @@
 -- The reply that a text is.
 use Rattle.std.proofs.Common.{◌≡◌, inl, inr, ◌∙◌, sym, ap, ℕ, List, Option, Some, None, Result, Ok, Err, refl}
 use Rattle.osc_model.specs.declared.reply.Reply.{Reply}
-use Rattle.osc_coap.specs.Plaintext.{Plaintext, SpellsPlaintext}
-use Rattle.osc_coap.specs.Reading.{plaintext_at}
-use Rattle.osc_options.specs.PlaintextReplies.{if_reply, reply_of_plaintext}
-use Rattle.osc_options.specs.PlaintextRequests.{IsMemoryAside}
+use Rattle.osc_coap.specs.{SpellsPlaintext, plaintext_at}
+use Rattle.osc_coap.specs.Plaintext.{Plaintext}
+use Rattle.osc_options.specs.{if_reply, reply_of_plaintext, IsMemoryAside, IsReplyIn}
 use Rattle.osc_options.specs.declared.error.PlaintextError.{PlaintextError}
 use Rattle.osc_options.specs.declared.error.PlaintextError.TheVariants.{Format, Memory}
-use Rattle.osc_options.specs.Texts.{IsReplyIn}
 
 -- what was read as a reply is one
 pub reads_as : (text : List ℕ) (came : Result Reply PlaintextError) (reply : Reply)

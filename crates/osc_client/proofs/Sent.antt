@@ -1,24 +1,22 @@
 -- What a client sends for a datagram: one at most, to whom that came from.
 use Rattle.std.proofs.Common.{◌≡◌, sym, ap, ℕ, Bool, true, false, List, [], ◌∷◌, Option, Some, None, refl, subst}
 use Rattle.osc_model.specs.declared.bytes.Bytes.{Bytes}
-use Rattle.osc_model.specs.Arrival.{Arrival, read_as}
+use Rattle.osc_model.specs.{read_as}
+use Rattle.osc_model.specs.Arrival.{Arrival}
 use Rattle.osc_model.specs.declared.node.Peer.{Peer}
 use Rattle.osc_model.specs.declared.step.Datagram.{Datagram}
 use Rattle.osc_model.specs.declared.step.Step.{Step}
 use Rattle.osc_coap.specs.Message.{Message}
-use Rattle.osc_message.specs.Endpoint.{EndpointState}
+use Rattle.osc_message.specs.{EndpointState, AnswersAlone, IsAlone, ignores, noted_reply, rejects, repeats, acknowledgement, again, datagram, rejection, sent_to}
 use Rattle.osc_coap.specs.declared.kind.Kind.{Kind}
 use Rattle.osc_coap.specs.declared.kind.Kind.TheVariants.{Confirmable, NonConfirmable, Acknowledgement, Reset}
-use Rattle.osc_dedup.specs.Table.{Entry}
-use Rattle.osc_message.specs.Heard.{AnswersAlone, IsAlone, ignores, noted_reply, rejects, repeats}
+use Rattle.osc_dedup.specs.{Entry}
 use Rattle.osc_message.specs.declared.heard.Heard.{Heard}
 use Rattle.osc_message.specs.declared.heard.Heard.TheVariants as heard
 use Rattle.osc_model.specs.declared.node.Moment.{Moment}
-use Rattle.osc_message.specs.Sending.{acknowledgement, again, datagram, rejection, sent_to}
-use Rattle.osc_ccm.specs.Ciphers.{Sealings}
-use Rattle.osc_client.specs.Case.{case_of, is_ended}
+use Rattle.osc_ccm.specs.{Sealings}
+use Rattle.osc_client.specs.{case_of, is_ended, Answers, AnswersNew, SendsOne, Settles, refusal}
 use Rattle.osc_client.specs.State.{State}
-use Rattle.osc_client.specs.Table.{Answers, AnswersNew, SendsOne, Settles, refusal}
 use Rattle.osc_client.specs.declared.case.Case.{Case}
 use Rattle.osc_client.specs.declared.case.Case.TheVariants.{Refused, Unused, Counted}
 

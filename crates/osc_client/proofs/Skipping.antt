@@ -1,12 +1,12 @@
 -- What a run knows of a client whose number is raised.
 use Rattle.std.proofs.Common.{◌≡◌, inl, inr, ℕ, max, Option, Some, None, option_map, refl, ap}
 use Rattle.std.proofs.Math.Nat.{le-max_left}
-use Rattle.osc_authz.specs.Begun.{ClientContextState}
+use Rattle.osc_authz.specs.{ClientContextState}
 use Rattle.osc_authz.specs.declared.granted.ClientDesk.{ClientDesk}
-use Rattle.osc_run.specs.ClientKinds.{IsSkipped}
-use Rattle.osc_run.specs.States.{Outstanding}
+use Rattle.osc_run.specs.{IsSkipped, Outstanding}
 use Rattle.osc_client.specs.Inner.Bounds.{HasContext, NeedsContext}
-use Rattle.osc_client.specs.State.{State, core, outstanding, outstanding_of, raised_to, skipped_to}
+use Rattle.osc_client.specs.{core, outstanding, outstanding_of, raised_to, skipped_to}
+use Rattle.osc_client.specs.State.{State}
 use Rattle.osc_client.specs.declared.waiting.Awaited.TheVariants.{Exchange, Ask}
 use Rattle.osc_client.specs.declared.waiting.Awaited.{Awaited}
 use Rattle.osc_client.specs.declared.waiting.Waiting.{Waiting}

@@ -1,8 +1,7 @@
 -- Which kind of step each is.
 use Rattle.std.proofs.Common.{◌≡◌, ◌≤◌, ap, ℕ, Bool, true, false, List, Some, None, Option, Ok, refl, subst}
-use Rattle.osc_model.specs.Arrival.{Arrival, read_as}
-use Rattle.osc_model.specs.Step.{sends}
-use Rattle.osc_model.specs.StepNotes.{quiet}
+use Rattle.osc_model.specs.{read_as, sends, quiet}
+use Rattle.osc_model.specs.Arrival.{Arrival}
 use Rattle.osc_model.specs.declared.code.Code.{Code}
 use Rattle.osc_model.specs.declared.node.Draw.{Draw}
 use Rattle.osc_model.specs.declared.step.ClientResult.TheVariants as result
@@ -10,20 +9,17 @@ use Rattle.osc_model.specs.declared.step.ClientResult.TheVariants.{Refused}
 use Rattle.osc_model.specs.declared.step.Datagram.{Datagram}
 use Rattle.osc_model.specs.declared.step.Step.{Step}
 use Rattle.osc_coap.specs.Message.{Message}
-use Rattle.osc_message.specs.Endpoint.{EndpointState}
+use Rattle.osc_message.specs.{EndpointState}
 use Rattle.osc_message.specs.declared.heard.Heard.{Heard}
 use Rattle.osc_message.specs.declared.heard.Heard.TheVariants as heard
-use Rattle.osc_authz.specs.Begun.{Begun, ClientContextState}
-use Rattle.osc_authz.specs.Client.{Finishes}
-use Rattle.osc_run.specs.ClientKinds.{ClientStep, ClientIdle, Ended, IsMade, Lied}
-use Rattle.osc_run.specs.States.{ClientState, Nothing, Exchange as OpenExchange}
+use Rattle.osc_authz.specs.{ClientContextState, Finishes}
+use Rattle.osc_authz.specs.Begun.{Begun}
+use Rattle.osc_run.specs.{ClientStep, ClientIdle, Ended, IsMade, Lied, ClientState, Nothing, Exchange as OpenExchange}
 use Rattle.osc_client.specs.Inner.Bounds.{HasContext}
-use Rattle.osc_client.specs.Case.{case_of, is_ended, is_reset}
-use Rattle.osc_context.specs.Nonce.{greatest_number}
-use Rattle.osc_ccm.specs.Ciphers.{Sealings, Tags}
-use Rattle.osc_client.specs.Lying.{Lie, Lies, lies}
-use Rattle.osc_client.specs.State.{State, core, outstanding}
-use Rattle.osc_client.specs.Table.{Answers, AnswersNew, Settles}
+use Rattle.osc_client.specs.{case_of, is_ended, is_reset, Lie, Lies, lies, core, outstanding, Answers, AnswersNew, Settles}
+use Rattle.osc_context.specs.{greatest_number}
+use Rattle.osc_ccm.specs.{Sealings, Tags}
+use Rattle.osc_client.specs.State.{State}
 use Rattle.osc_client.specs.declared.case.Case.{Case}
 use Rattle.osc_client.specs.declared.case.Case.TheVariants.{Refused as RefusedCase, Unused, Counted}
 use Rattle.osc_client.specs.declared.waiting.Waiting.{Waiting}

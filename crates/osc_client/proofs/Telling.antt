@@ -3,8 +3,8 @@ use Rattle.std.proofs.Common.{◌≡◌, ℕ, Bool, true, false, ◌++◌, if◌
 use Rattle.std.specs.List.{All, Contains, filter_map}
 use Rattle.std.proofs.lemmas.List.Elements.{All-nil, All-cons, All-head, All-contains_itself, Contains-append_right}
 use Rattle.std.proofs.lemmas.Option.{same_Some}
-use Rattle.osc_model.specs.Step.{sends}
-use Rattle.osc_model.specs.StepNotes.{StepNotes, quiet}
+use Rattle.osc_model.specs.{sends, quiet}
+use Rattle.osc_model.specs.StepNotes.{StepNotes}
 use Rattle.osc_model.specs.declared.bytes.Bytes.{Bytes}
 use Rattle.osc_model.specs.declared.context.ContextName.{ContextName}
 use Rattle.osc_model.specs.declared.node.Draw.{Draw}
@@ -18,36 +18,27 @@ use Rattle.osc_model.specs.declared.step.ClientResult.TheVariants.{Answer}
 use Rattle.osc_model.specs.declared.step.Datagram.{Datagram}
 use Rattle.osc_model.specs.declared.step.Note.{Note}
 use Rattle.osc_model.specs.declared.step.Step.{Step}
-use Rattle.osc_coap.specs.Message.{Message, Spells}
-use Rattle.osc_options.specs.Split.{has_oscore}
-use Rattle.osc_ccm.specs.Ciphers.{Sealings, Tags}
-use Rattle.osc_protect.specs.Protection.{IsRequestOf, plain_bytes}
-use Rattle.osc_authz.specs.Begun.{Begun, ClientContextState}
+use Rattle.osc_coap.specs.{Spells}
+use Rattle.osc_coap.specs.Message.{Message}
+use Rattle.osc_options.specs.{has_oscore, IsReplyIn}
+use Rattle.osc_ccm.specs.{Sealings, Tags}
+use Rattle.osc_protect.specs.{IsRequestOf, plain_bytes}
+use Rattle.osc_authz.specs.{ClientContextState}
+use Rattle.osc_authz.specs.Begun.{Begun}
 use Rattle.osc_authz.specs.declared.error.FinishError.{FinishError}
 use Rattle.osc_authz.specs.declared.error.FinishError.TheVariants.{Fields, EqualIds, Memory}
-use Rattle.osc_message.specs.Confirmables.{Open}
-use Rattle.osc_message.specs.Endpoint.{EndpointState}
+use Rattle.osc_message.specs.{Open, EndpointState, AnswersAlone, IsAlone, ignores, noted_reply, rejects, repeats, GoesOut, empty_acknowledgement, is_confirmable, rejection, reset, again, datagram, sent_to, datagram_of, due_of, dues, tick_sends}
 use Rattle.osc_coap.specs.declared.kind.Kind.{Kind}
 use Rattle.osc_coap.specs.declared.kind.Kind.TheVariants.{Confirmable, NonConfirmable, Acknowledgement, Reset}
-use Rattle.osc_message.specs.Heard.{AnswersAlone, IsAlone, ignores, noted_reply, rejects, repeats}
 use Rattle.osc_message.specs.declared.heard.Heard.{Heard}
 use Rattle.osc_message.specs.declared.heard.Heard.TheVariants as heard
-use Rattle.osc_message.specs.Sending.{GoesOut, empty_acknowledgement, is_confirmable, rejection, reset, again, datagram, sent_to}
-use Rattle.osc_message.specs.Ticks.{datagram_of, due_of, dues, tick_sends}
 use Rattle.osc_message.specs.declared.due.Due.{Due}
 use Rattle.osc_message.specs.declared.due.Due.TheVariants.{Keep, Send, GiveUp}
-use Rattle.osc_run.specs.ClientKinds.{IsEnding, request_note, response_note}
-use Rattle.osc_run.specs.Seals.{IsOpenOf, IsSealOf}
-use Rattle.osc_options.specs.Texts.{IsReplyIn}
-use Rattle.osc_client.specs.Answering.{AskComes, Comes, ExchangeComes, code_of, ended_by, notes_of}
+use Rattle.osc_run.specs.{IsEnding, request_note, response_note, IsOpenOf, IsSealOf}
+use Rattle.osc_client.specs.{AskComes, Comes, ExchangeComes, code_of, ended_by, notes_of, case_of, is_ended, Lie, Lies, lies, outside_of, Asks, asks, hindered, plain_of, refusing, Answers, AnswersNew, Counts, Settles, refusal, AreTold, IsToldOf, NeedsNoSeal, SealsNothing, needs_none, noted_before, open_before, sealed_now, unprotected}
 use Rattle.osc_client.specs.Answering as comes
-use Rattle.osc_client.specs.Case.{case_of, is_ended}
-use Rattle.osc_client.specs.Lying.{Lie, Lies, lies, outside_of}
 use Rattle.osc_client.specs.Lying as lying
-use Rattle.osc_client.specs.Sending.{Asks, asks, hindered, plain_of, refusing}
 use Rattle.osc_client.specs.State.{State}
-use Rattle.osc_client.specs.Table.{Answers, AnswersNew, Counts, Settles, refusal}
-use Rattle.osc_client.specs.Told.{AreTold, IsToldOf, NeedsNoSeal, SealsNothing, needs_none, noted_before, open_before, sealed_now, unprotected}
 use Rattle.osc_client.specs.declared.answering.Outcome.{Outcome}
 use Rattle.osc_client.specs.declared.answering.Outcome.TheVariants as outcome
 use Rattle.osc_client.specs.declared.case.Case.{Case}

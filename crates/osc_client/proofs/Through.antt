@@ -5,20 +5,14 @@ use Rattle.std.specs.Result.{IsErr, IsOk}
 use Rattle.std.proofs.lemmas.Bool.{both_ways, cases_Bool, cases_lt, eqb-true, lt-ltb, le-ltb}
 use Rattle.std.proofs.lemmas.List.Elements.{filter-append}
 use Rattle.osc_model.specs.declared.request.Request.{Request}
-use Rattle.osc_coap.specs.Message.{NumberAndValue, Message, spelling}
+use Rattle.osc_coap.specs.{NumberAndValue, spelling, bare, extension_length, option_length, options_length, spelled_length}
+use Rattle.osc_coap.specs.Message.{Message}
 use Rattle.osc_coap.specs.declared.kind.Kind.{Kind}
 use Rattle.osc_coap.specs.declared.kind.Kind.TheVariants.{Confirmable}
-use Rattle.osc_coap.specs.Building.{bare}
 use Rattle.osc_coap.specs.Plaintext.{Plaintext}
-use Rattle.osc_coap.specs.Length.{extension_length, option_length, options_length, spelled_length}
 use Rattle.osc_options.specs.declared.table.Class.TheVariants.{E}
-use Rattle.osc_options.specs.Replies.{uint_bytes}
-use Rattle.osc_options.specs.Requests.{each, none_match_options, path_options, request_options, segments_of, uint_options, with_request}
-use Rattle.osc_options.specs.PlaintextRequests.{request_plaintext}
-use Rattle.osc_options.specs.Split.{AreInOrder, has_oscore, inner_options, insert, merge, of_number, outer_options, plaintext_of, same_class, unprotected}
-use Rattle.osc_options.specs.Table.{class_of}
-use Rattle.osc_client.specs.Sending.{plain_request, post_with}
-use Rattle.osc_client.specs.Route.{HostAndPort, proxy_options, through}
+use Rattle.osc_options.specs.{uint_bytes, each, none_match_options, path_options, request_options, segments_of, uint_options, with_request, request_plaintext, AreInOrder, has_oscore, inner_options, insert, merge, of_number, outer_options, plaintext_of, same_class, unprotected, class_of}
+use Rattle.osc_client.specs.{plain_request, post_with, HostAndPort, proxy_options, through}
 
 -- ---- the laws that this stands on
 

@@ -5,16 +5,13 @@ use Rattle.osc_model.specs.declared.node.Moment.{Moment}
 use Rattle.osc_model.specs.declared.node.Peer.{Peer}
 use Rattle.osc_message.specs.declared.due.Due.{Due}
 use Rattle.osc_message.specs.declared.due.Due.TheVariants.{Keep, Send, GiveUp}
-use Rattle.osc_message.specs.Confirmables.{Open, is_named}
-use Rattle.osc_message.specs.Endpoint.{after_tick}
-use Rattle.osc_message.specs.Sending.{GoesOut}
-use Rattle.osc_message.specs.Ticks.{after, dues, due_of, tick_sends, ticked}
-use Rattle.osc_model.specs.Step.{sends}
-use Rattle.osc_model.specs.StepNotes.{quiet}
+use Rattle.osc_message.specs.{Open, is_named, after_tick, GoesOut, after, dues, due_of, tick_sends, ticked}
+use Rattle.osc_model.specs.{sends, quiet}
 use Rattle.osc_model.specs.declared.step.ClientResult.TheVariants.{TimedOut}
 use Rattle.osc_model.specs.declared.step.Datagram.{Datagram}
 use Rattle.osc_model.specs.declared.step.Step.{Step}
-use Rattle.osc_client.specs.Sending.{Ticks, TicksBy, is_over}
+use Rattle.osc_client.specs.{TicksBy, is_over}
+use Rattle.osc_client.specs.Sending.{Ticks}
 use Rattle.osc_client.specs.State.{State}
 use Rattle.osc_client.specs.Inner.Bounds.{KeepsOwn}
 use Rattle.osc_client.specs.declared.waiting.Waiting.{Waiting}

@@ -1,29 +1,25 @@
 -- What an answer that counts comes to (RFC 8613 section 8.4, RFC 9203 section 4.2).
 use Rattle.std.specs.Prelude.{◌≡◌, ℕ, ◌/◌, Bool, true, false, ◌==◌, ◌||◌, List, [], Option, Some, None, Result, Ok, Err, unwrap_or}
 use Rattle.osc_model.specs.Refusals as refusal
-use Rattle.osc_model.specs.StepNotes.{StepNotes, quiet}
-use Rattle.osc_model.specs.Code.{code}
+use Rattle.osc_model.specs.{quiet, code}
+use Rattle.osc_model.specs.StepNotes.{StepNotes}
 use Rattle.osc_model.specs.declared.code.Code.{Code}
 use Rattle.osc_model.specs.declared.context.Side.TheVariants.{Server}
 use Rattle.osc_model.specs.declared.reply.Reply.{Reply}
 use Rattle.osc_model.specs.declared.step.ClientResult.TheVariants as result
-use Rattle.osc_cbor.specs.Data.{DataItem}
-use Rattle.osc_cbor.specs.Spelling.{IsWhole}
+use Rattle.osc_cbor.specs.{DataItem, IsWhole}
 use Rattle.osc_coap.specs.Message.{Message}
-use Rattle.osc_message.specs.Sending.{is_confirmable}
-use Rattle.osc_options.specs.Split.{has_oscore}
-use Rattle.osc_context.specs.Algorithm.{algorithm_of}
-use Rattle.osc_context.specs.Derivation.{key_of}
-use Rattle.osc_protect.specs.Aad.{aad_of}
-use Rattle.osc_ccm.specs.Ciphers.{Sealings}
-use Rattle.osc_protect.specs.Protection.{SealedResponse, IsResponse, response_nonce}
-use Rattle.osc_authz.specs.Begun.{Begun, ClientContextState}
-use Rattle.osc_authz.specs.Client.{Finishes}
+use Rattle.osc_message.specs.{is_confirmable}
+use Rattle.osc_options.specs.{has_oscore, IsReplyIn}
+use Rattle.osc_context.specs.{algorithm_of, key_of}
+use Rattle.osc_protect.specs.{aad_of, SealedResponse, IsResponse, response_nonce}
+use Rattle.osc_ccm.specs.{Sealings}
+use Rattle.osc_authz.specs.{ClientContextState, Finishes}
+use Rattle.osc_authz.specs.Begun.{Begun}
 use Rattle.osc_authz.specs.declared.error.FinishError.{FinishError}
 use Rattle.osc_authz.specs.declared.error.FinishError.TheVariants.{Fields, EqualIds, Memory}
 use Rattle.osc_authz.specs.declared.granted.ClientDesk.{ClientDesk}
-use Rattle.osc_run.specs.ClientKinds.{response_note}
-use Rattle.osc_options.specs.Texts.{IsReplyIn}
+use Rattle.osc_run.specs.{response_note}
 use Rattle.osc_client.specs.declared.answering.Outcome.{Outcome}
 use Rattle.osc_client.specs.declared.answering.Outcome.TheVariants.{Stays, Makes, Answers, Ends}
 use Rattle.osc_client.specs.declared.waiting.Awaited.{Awaited}

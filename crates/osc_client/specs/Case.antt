@@ -1,13 +1,12 @@
 -- Which case a new message is to a client: the first test that holds, read from the top.
 use Rattle.std.specs.Prelude.{ℕ, Bool, true, false, ◌&&◌, nat_eq, bytes_eq, if◌then◌else◌, Option, Some, None, is_some}
 use Rattle.osc_model.specs.declared.node.Peer.{Peer}
-use Rattle.osc_coap.specs.Code.{is_request_code}
+use Rattle.osc_coap.specs.{is_request_code}
 use Rattle.osc_coap.specs.Message.{Message as CoapMessage}
 use Rattle.osc_coap.specs.declared.kind.Kind.{Kind}
 use Rattle.osc_coap.specs.declared.kind.Kind.TheVariants.{Reset as ResetKind}
-use Rattle.osc_options.specs.Recognised.{unrecognised_critical}
-use Rattle.osc_message.specs.Confirmables.{same_peer}
-use Rattle.osc_message.specs.Sending.{is_acknowledgement, is_confirmable}
+use Rattle.osc_options.specs.{unrecognised_critical}
+use Rattle.osc_message.specs.{same_peer, is_acknowledgement, is_confirmable}
 use Rattle.osc_client.specs.declared.case.Case.{Case}
 use Rattle.osc_client.specs.declared.case.Case.TheVariants.{Refused, Unused, Counted}
 use Rattle.osc_client.specs.declared.waiting.Waiting.{Waiting}

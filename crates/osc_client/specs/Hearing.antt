@@ -5,11 +5,9 @@ use Rattle.osc_model.specs.Arrival.{Arrival}
 use Rattle.osc_model.specs.declared.node.Draw.{Draw}
 use Rattle.osc_model.specs.declared.node.Moment.{Moment}
 use Rattle.osc_model.specs.declared.step.Step.{Step}
-use Rattle.osc_message.specs.Heard.{heard}
-use Rattle.osc_message.specs.Received.{Receives}
-use Rattle.osc_message.specs.Sending.{AreSendable}
+use Rattle.osc_message.specs.{heard, Receives, AreSendable}
 use Rattle.osc_message.specs.declared.received.Received.{Received}
-use Rattle.osc_ccm.specs.Ciphers.{Sealings, Tags}
+use Rattle.osc_ccm.specs.{Sealings, Tags}
 use Rattle.osc_client.specs.Lying.{Lie, Lies}
 use Rattle.osc_client.specs.Sending.{Asked, Asks, Exchanges}
 use Rattle.osc_client.specs.Sending as sending

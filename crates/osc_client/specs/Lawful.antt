@@ -1,6 +1,6 @@
 -- What is true of each client, as its parts and its invariants say.
 use Rattle.std.specs.Prelude.{◌≡◌, [], None, IfSome, length}
-use Rattle.osc_protect.specs.Protection.{HasShortContext}
+use Rattle.osc_protect.specs.{HasShortContext}
 use Rattle.osc_client.specs.State.{State}
 use Rattle.osc_client.specs.Route.{IsLawfulOrigin}
 

@@ -1,22 +1,20 @@
 -- What a client's holder may seal that keeps no rule of its own: any text, at any number.
 use Rattle.std.specs.Prelude.{◌≡◌, ℕ, ◌+◌, ◌<◌, ◌≤◌, List, [], ◌∷◌, length, Option, Some, None}
 use Rattle.osc_model.specs.Refusals as refusal
-use Rattle.osc_model.specs.Code.{method_number}
-use Rattle.osc_model.specs.Draw.{message_id_drawn, token_drawn}
-use Rattle.osc_model.specs.StepNotes.{quiet}
+use Rattle.osc_model.specs.{method_number, message_id_drawn, token_drawn, quiet}
 use Rattle.osc_model.specs.declared.code.Method.TheVariants.{Post}
 use Rattle.osc_model.specs.declared.context.ContextName.{ContextName}
 use Rattle.osc_model.specs.declared.node.Draw.{Draw}
 use Rattle.osc_model.specs.declared.step.Step.{Step}
-use Rattle.osc_coap.specs.Building.{bare}
-use Rattle.osc_coap.specs.Message.{Message, Spells, spelling}
+use Rattle.osc_coap.specs.{bare, Spells, spelling}
+use Rattle.osc_coap.specs.Message.{Message}
 use Rattle.osc_coap.specs.declared.kind.Kind.TheVariants.{Confirmable}
-use Rattle.osc_context.specs.Algorithm.{algorithm_of}
-use Rattle.osc_ccm.specs.Ciphers.{Sealings, Tags}
-use Rattle.osc_protect.specs.Protection.{IsRequestOf, length_of_request, longest_message}
-use Rattle.osc_authz.specs.Begun.{ClientContextState}
-use Rattle.osc_run.specs.ClientKinds.{request_note}
-use Rattle.osc_message.specs.Sending.{datagram}
+use Rattle.osc_context.specs.{algorithm_of}
+use Rattle.osc_ccm.specs.{Sealings, Tags}
+use Rattle.osc_protect.specs.{IsRequestOf, length_of_request, longest_message}
+use Rattle.osc_authz.specs.{ClientContextState}
+use Rattle.osc_run.specs.{request_note}
+use Rattle.osc_message.specs.{datagram}
 use Rattle.osc_client.specs.Sending.{refusing}
 use Rattle.osc_client.specs.State.{State}
 use Rattle.osc_client.specs.Route.{HostAndPort, through}

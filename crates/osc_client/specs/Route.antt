@@ -1,9 +1,8 @@
 -- The way to the server: through a forward proxy, where it goes through one (RFC 7252 section 5.7.2).
 use Rattle.std.specs.Prelude.{ℕ, ◌≤◌, ◌<◌, ◌==◌, if◌then◌else◌, List, [], ◌∷◌, ◌++◌, length, Option, Some, None, codes}
-use Rattle.osc_coap.specs.Message.{NumberAndValue, Message}
-use Rattle.osc_options.specs.Numbers.{proxy_scheme, uri_host, uri_port}
-use Rattle.osc_options.specs.Replies.{uint_bytes}
-use Rattle.osc_options.specs.Split.{merge}
+use Rattle.osc_coap.specs.{NumberAndValue}
+use Rattle.osc_coap.specs.Message.{Message}
+use Rattle.osc_options.specs.{proxy_scheme, uri_host, uri_port, uint_bytes, merge}
 
 -- by which host and port a proxy knows the server
 pub record HostAndPort : Type 0 where

@@ -1,10 +1,7 @@
 -- What a client sends of its own, and what it keeps then.
 use Rattle.std.specs.Prelude.{◌≡◌, ◌≢◌, ℕ, ◌+◌, ◌<◌, ◌≤◌, Bool, true, false, ◌||◌, ◌==◌, nat_le, if◌then◌else◌, List, [], ◌∷◌, length, Option, Some, None, codes}
 use Rattle.osc_model.specs.Refusals as refusal
-use Rattle.osc_model.specs.Code.{method_number}
-use Rattle.osc_model.specs.Draw.{nonce_drawn, token_drawn}
-use Rattle.osc_model.specs.Step.{sends}
-use Rattle.osc_model.specs.StepNotes.{quiet}
+use Rattle.osc_model.specs.{method_number, nonce_drawn, token_drawn, sends, quiet}
 use Rattle.osc_model.specs.declared.code.Method.TheVariants.{Post}
 use Rattle.osc_model.specs.declared.node.Draw.{Draw}
 use Rattle.osc_model.specs.declared.node.Moment.{Moment}
@@ -13,25 +10,19 @@ use Rattle.osc_model.specs.declared.request.Request.{Request}
 use Rattle.osc_model.specs.declared.step.ClientResult.TheVariants.{Refused, TimedOut}
 use Rattle.osc_model.specs.declared.step.Datagram.{Datagram}
 use Rattle.osc_model.specs.declared.step.Step.{Step}
-use Rattle.osc_cbor.specs.Spelling.{spelling as item_spelling}
-use Rattle.osc_coap.specs.Building.{bare, payload_of}
-use Rattle.osc_coap.specs.Message.{Message, Spells, spelling}
+use Rattle.osc_cbor.specs.{spelling as item_spelling}
+use Rattle.osc_coap.specs.{bare, payload_of, Spells, spelling}
+use Rattle.osc_coap.specs.Message.{Message}
 use Rattle.osc_coap.specs.declared.kind.Kind.TheVariants.{Confirmable}
-use Rattle.osc_options.specs.Numbers.{content_format, uri_path}
-use Rattle.osc_options.specs.Requests.{with_request}
-use Rattle.osc_message.specs.Confirmables.{Open, with_open}
-use Rattle.osc_message.specs.Endpoint.{EndpointState, own_id, id_taken, after_tick, fresh}
-use Rattle.osc_message.specs.Ticks.{acts, ticked, tick_sends}
-use Rattle.osc_message.specs.Timeout.{timeout_of}
-use Rattle.osc_context.specs.Nonce.{greatest_number}
-use Rattle.osc_ccm.specs.Ciphers.{Sealings, Tags}
-use Rattle.osc_protect.specs.Protection.{IsProtectedRequest, longest_message, plain_bytes, request_length}
-use Rattle.osc_authz.specs.Begun.{Begun, ClientContextState}
-use Rattle.osc_authz.specs.Client.{offered_id}
-use Rattle.osc_authz.specs.Exchange.{post_item}
+use Rattle.osc_options.specs.{content_format, uri_path, with_request}
+use Rattle.osc_message.specs.{Open, with_open, EndpointState, own_id, id_taken, after_tick, fresh, acts, ticked, tick_sends, timeout_of, GoesOut, datagram}
+use Rattle.osc_context.specs.{greatest_number}
+use Rattle.osc_ccm.specs.{Sealings, Tags}
+use Rattle.osc_protect.specs.{IsProtectedRequest, longest_message, plain_bytes, request_length}
+use Rattle.osc_authz.specs.{ClientContextState, offered_id, post_item}
+use Rattle.osc_authz.specs.Begun.{Begun}
 use Rattle.osc_authz.specs.declared.granted.ClientDesk.{ClientDesk}
-use Rattle.osc_run.specs.ClientKinds.{request_note}
-use Rattle.osc_message.specs.Sending.{GoesOut, datagram}
+use Rattle.osc_run.specs.{request_note}
 use Rattle.osc_client.specs.State.{State}
 use Rattle.osc_client.specs.Route.{HostAndPort, through}
 use Rattle.osc_client.specs.declared.waiting.Awaited.{Awaited}

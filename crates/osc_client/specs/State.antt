@@ -1,10 +1,10 @@
 -- What a client keeps.
 use Rattle.std.specs.Prelude.{ℕ, max, Option, Some, None, option_map}
 use Rattle.osc_model.specs.declared.node.Peer.{Peer}
-use Rattle.osc_authz.specs.Begun.{ClientContextState}
+use Rattle.osc_authz.specs.{ClientContextState}
 use Rattle.osc_authz.specs.declared.granted.ClientDesk.{ClientDesk}
-use Rattle.osc_message.specs.Endpoint.{EndpointState}
-use Rattle.osc_run.specs.States.{ClientState, Outstanding, Nothing, Exchange as OpenExchange, Ask as AskOf}
+use Rattle.osc_message.specs.{EndpointState}
+use Rattle.osc_run.specs.{ClientState, Outstanding, Nothing, Exchange as OpenExchange, Ask as AskOf}
 use Rattle.osc_client.specs.Route.{HostAndPort}
 use Rattle.osc_client.specs.declared.waiting.Awaited.{Awaited}
 use Rattle.osc_client.specs.declared.waiting.Awaited.TheVariants.{Exchange, Ask}

@@ -1,9 +1,8 @@
 -- What a client does for each cause of a step: one step of a run, in which its holder doesn't lie, and what the table of its cases gives.
 use Rattle.std.specs.Prelude.{ℕ, false, ◌==◌, if◌then◌else◌, length}
 use Rattle.osc_model.specs.declared.step.Step.{Step}
-use Rattle.osc_ccm.specs.Ciphers.{Sealings}
-use Rattle.osc_run.specs.ClientKinds.{ClientStep}
-use Rattle.osc_run.specs.Nodes.{Cause, Came, Due}
+use Rattle.osc_ccm.specs.{Sealings}
+use Rattle.osc_run.specs.{ClientStep, Cause, Came, Due}
 use Rattle.osc_client.specs.Hearing.{Hears, Ticks}
 use Rattle.osc_client.specs.State.{State, core}
 

@@ -1,22 +1,19 @@
 -- What a client sends for each thing that it hears, and what it keeps after it.
 use Rattle.std.specs.Prelude.{◌≡◌, ◌≢◌, ℕ, Bool, true, false, List, [], ◌∷◌, Option, Some, None, option_map}
-use Rattle.osc_model.specs.Arrival.{Arrival, read_as}
-use Rattle.osc_model.specs.Code.{code}
-use Rattle.osc_model.specs.Step.{sends}
-use Rattle.osc_model.specs.StepNotes.{quiet}
+use Rattle.osc_model.specs.{read_as, code, sends, quiet}
+use Rattle.osc_model.specs.Arrival.{Arrival}
 use Rattle.osc_model.specs.declared.node.Peer.{Peer}
 use Rattle.osc_model.specs.declared.step.ClientResult.TheVariants.{Unverified}
 use Rattle.osc_model.specs.declared.step.Datagram.{Datagram}
 use Rattle.osc_model.specs.declared.step.Step.{Step}
-use Rattle.osc_coap.specs.Building.{bare}
-use Rattle.osc_coap.specs.Message.{Message, spelling}
+use Rattle.osc_coap.specs.{bare, spelling}
+use Rattle.osc_coap.specs.Message.{Message}
 use Rattle.osc_coap.specs.declared.kind.Kind.TheVariants.{Acknowledgement}
-use Rattle.osc_message.specs.Endpoint.{EndpointState, settled}
-use Rattle.osc_message.specs.Sending.{acknowledgement, datagram, is_confirmable, rejection, sent_to}
+use Rattle.osc_message.specs.{EndpointState, settled, acknowledgement, datagram, is_confirmable, rejection, sent_to}
 use Rattle.osc_message.specs.declared.handling.Handling.TheVariants as handling
 use Rattle.osc_message.specs.declared.heard.Heard.{Heard}
 use Rattle.osc_message.specs.declared.heard.Heard.TheVariants as heard
-use Rattle.osc_ccm.specs.Ciphers.{Sealings}
+use Rattle.osc_ccm.specs.{Sealings}
 use Rattle.osc_client.specs.Answering.{Comes, CountsInMemory, context_after, notes_of, waits_after}
 use Rattle.osc_client.specs.Case.{case_of, is_ended}
 use Rattle.osc_client.specs.State.{State}

@@ -8,13 +8,12 @@ use Rattle.osc_model.specs.declared.step.ClientResult.TheVariants.{Answer}
 use Rattle.osc_model.specs.declared.step.Datagram.{Datagram}
 use Rattle.osc_model.specs.declared.step.Note.{Note}
 use Rattle.osc_model.specs.declared.step.Step.{Step}
-use Rattle.osc_coap.specs.Message.{Message, spelling}
-use Rattle.osc_options.specs.Split.{has_oscore}
-use Rattle.osc_message.specs.Confirmables.{Open}
-use Rattle.osc_message.specs.Heard.{noted_reply}
-use Rattle.osc_ccm.specs.Ciphers.{Sealings}
-use Rattle.osc_run.specs.Seals.{IsOpenOf, IsSealOf}
-use Rattle.osc_options.specs.Texts.{IsReplyIn}
+use Rattle.osc_coap.specs.{spelling}
+use Rattle.osc_coap.specs.Message.{Message}
+use Rattle.osc_options.specs.{has_oscore, IsReplyIn}
+use Rattle.osc_message.specs.{Open, noted_reply}
+use Rattle.osc_ccm.specs.{Sealings}
+use Rattle.osc_run.specs.{IsOpenOf, IsSealOf}
 use Rattle.osc_client.specs.State.{State}
 
 -- A datagram for which nothing is sealed in this step: its message has no OSCORE option; or it is an open message, which is sent

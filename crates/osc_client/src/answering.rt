@@ -1,14 +1,12 @@
 //! What an answer that counts comes to.
 ghost use Rattle.std.specs.Prelude.{◌≡◌, ◌≢◌, ◌≤◌, ℕ, List, [], true, None, Some, IfOk, IfErr, IsErr, OnErr, IsSome, IfSome, IfNone, unwrap_or};
-ghost use Rattle.osc_context.specs.Nonce.{greatest_number};
-ghost use Rattle.osc_cbor.specs.Data.{DataItem};
-ghost use Rattle.osc_cbor.specs.Spelling.{IsWhole};
-ghost use Rattle.osc_model.specs.Code.{code};
+ghost use Rattle.osc_context.specs.{greatest_number};
+ghost use Rattle.osc_cbor.specs.{DataItem, IsWhole};
+ghost use Rattle.osc_model.specs.{code};
 ghost use Rattle.osc_model.specs.declared.reply.Reply.{Reply as AnyReply};
-ghost use Rattle.osc_options.specs.Split.{has_oscore as has_oscore_in};
-ghost use Rattle.osc_protect.specs.Protection.{IsResponse};
-ghost use Rattle.osc_run.specs.ClientKinds.{response_note};
-ghost use Rattle.osc_options.specs.Texts.{IsReplyIn};
+ghost use Rattle.osc_options.specs.{has_oscore as has_oscore_in, IsReplyIn};
+ghost use Rattle.osc_protect.specs.{IsResponse};
+ghost use Rattle.osc_run.specs.{response_note};
 ghost use Rattle.osc_client.specs.Answering.{AskComes, Comes, ExchangeComes, IsFinish, IsRead, IsSealedFor, awaited_after, code_of, context_after, is_error as is_error_of, is_success as is_success_of, notes_of, waits_after};
 ghost use Rattle.osc_client.specs.Inner.Bounds.{IsEnd, IsLawful, NeedsContext};
 ghost use Rattle.osc_client.specs.Inner.Opened.{ComesOf};

@@ -1,18 +1,17 @@
 //! Protected requests.
 ghost use Rattle.std.specs.Prelude.{◌≡◌, ◌≤◌, ◌↔◌, ◌+◌, length, IfOk, IsSome, IfSome};
-ghost use Rattle.osc_coap.specs.Message.{spelling};
-ghost use Rattle.osc_context.specs.Nonce.{greatest_number};
-ghost use Rattle.osc_options.specs.PlaintextRequests.{request_plaintext};
-ghost use Rattle.osc_options.specs.Split.{unprotected};
-ghost use Rattle.osc_protect.specs.Protection.{HasShortContext, IsProtectedRequest, longest_message, plain_bytes, request_length};
+ghost use Rattle.osc_coap.specs.{spelling};
+ghost use Rattle.osc_context.specs.{greatest_number};
+ghost use Rattle.osc_options.specs.{request_plaintext, unprotected};
+ghost use Rattle.osc_protect.specs.{HasShortContext, IsProtectedRequest, longest_message, plain_bytes, request_length};
 ghost use Rattle.osc_client.specs.Inner.Bounds.{room_for, size_for};
 ghost use Rattle.osc_client.specs.Sending.{plain_request};
 ghost use Rattle.osc_client.specs.Route.{through as through_of};
-ghost use Rattle.osc_run.specs.ClientKinds.{request_note};
+ghost use Rattle.osc_run.specs.{request_note};
 
 use crate::proxied::outside_with;
-use crate::waiting::OpenAsk;
 use crate::route::Origin;
+use crate::waiting::OpenAsk;
 use osc_authz::ClientContext;
 use osc_ccm::Ciphers;
 use osc_coap::MessageBuilder;

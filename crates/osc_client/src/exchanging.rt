@@ -1,11 +1,10 @@
 //! The post that begins an exchange.
 ghost use Rattle.std.specs.Prelude.{◌≡◌, ◌≤◌, ◌<◌, ◌↔◌, length, IsOk, IsTrue, IsFalse, IfOk, IfErr};
-ghost use Rattle.osc_cbor.specs.Head.{head};
-ghost use Rattle.osc_coap.specs.Length.{datagram_limit};
-ghost use Rattle.osc_coap.specs.Message.{spelling};
+ghost use Rattle.osc_cbor.specs.{head};
+ghost use Rattle.osc_coap.specs.{datagram_limit, spelling};
 ghost use Rattle.osc_client.specs.Sending.{OfEachPost, post_with};
 ghost use Rattle.osc_client.specs.Route.{through as through_of};
-ghost use Rattle.osc_protect.specs.Protection.{longest_message};
+ghost use Rattle.osc_protect.specs.{longest_message};
 
 use crate::proxied::through;
 use crate::route::Origin;

@@ -2,7 +2,7 @@
 ghost use Rattle.std.specs.Prelude.{◌≡◌, ℕ, List, Option};
 ghost use Rattle.osc_coap.specs.Message.{Message};
 ghost use Rattle.osc_model.specs.declared.request.Request.{Request as AnyRequest};
-ghost use Rattle.osc_options.specs.Split.{AreInOrder, plaintext_of};
+ghost use Rattle.osc_options.specs.{AreInOrder, plaintext_of};
 ghost use Rattle.osc_client.specs.Sending.{plain_request};
 ghost use Rattle.osc_client.specs.Route.{HostAndPort, through};
 

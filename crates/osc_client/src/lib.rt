@@ -12,15 +12,15 @@ mod lying;
 mod node;
 mod proxied;
 mod refusing;
+mod route;
 mod sending;
 mod waiting;
-mod route;
 
 pub use answering::Outcome;
 pub use case::Case;
 pub use client::Client;
-pub use waiting::{Awaited, OpenAsk, Waiting};
 pub use route::{Origin, Route};
+pub use waiting::{Awaited, OpenAsk, Waiting};
 
 /// The message layer of a client. It awaits one thing at a time, so it has a place for one confirmable message.
 type Endpoint = osc_message::Endpoint<1>;

@@ -1,16 +1,16 @@
 //! What a client's holder may seal beside its requests.
 ghost use Rattle.std.specs.Prelude.{◌≡◌, ◌≤◌, IfOk, Some};
 ghost use Rattle.osc_model.specs.declared.node.Draw.{Draw as AnyDraw};
-ghost use Rattle.osc_context.specs.Nonce.{greatest_number};
-ghost use Rattle.osc_protect.specs.Protection.{HasShortContext};
-ghost use Rattle.osc_message.specs.Sending.{AreSendable};
+ghost use Rattle.osc_context.specs.{greatest_number};
+ghost use Rattle.osc_protect.specs.{HasShortContext};
+ghost use Rattle.osc_message.specs.{AreSendable};
 ghost use Rattle.osc_client.specs.Lying.{Lies, outside_of};
 ghost use Rattle.osc_client.specs.State.{State};
 
 use crate::proxied::outside_with;
 use crate::refusing::refused;
-use crate::sending::message_out;
 use crate::route::Origin;
+use crate::sending::message_out;
 use osc_authz::ClientContext;
 use osc_ccm::Ciphers;
 use osc_coap::{DATAGRAM_LIMIT, MessageBuilder};

@@ -1,10 +1,8 @@
 //! Messages to a server behind a proxy (RFC 7252 section 5.7.2).
 ghost use Rattle.std.specs.Prelude.{◌≡◌, ◌<◌, ◌≤◌, ◌↔◌, ◌++◌, None, Some, length, OnOk, IsOk, IfOk};
-ghost use Rattle.osc_coap.specs.Building.{bare, last_number};
-ghost use Rattle.osc_coap.specs.Length.{datagram_limit};
+ghost use Rattle.osc_coap.specs.{bare, last_number, datagram_limit, spelling};
 ghost use Rattle.osc_coap.specs.declared.kind.Kind.TheVariants.{Confirmable};
-ghost use Rattle.osc_coap.specs.Message.{spelling};
-ghost use Rattle.osc_options.specs.Split.{inner_options};
+ghost use Rattle.osc_options.specs.{inner_options};
 ghost use Rattle.osc_client.specs.Route.{port_options, proxy_options, through as through_of};
 
 use crate::route::Origin;

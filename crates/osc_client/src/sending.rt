@@ -1,7 +1,7 @@
 //! What a client sends in answer to a datagram.
 ghost use Rattle.std.specs.Prelude.{◌≡◌, ◌∷◌, [], true, IfOk, IsErr, option_map};
-ghost use Rattle.osc_coap.specs.Message.{Spells, spelling};
-ghost use Rattle.osc_message.specs.Sending.{acknowledgement as acknowledgement_of, AreSendable, IsSendableReply, datagram, is_confirmable, sent_to};
+ghost use Rattle.osc_coap.specs.{Spells, spelling};
+ghost use Rattle.osc_message.specs.{acknowledgement as acknowledgement_of, AreSendable, IsSendableReply, datagram, is_confirmable, sent_to};
 ghost use Rattle.osc_client.specs.Table.{refusal as refusal_of};
 
 use osc_coap::{Kind, MessageBuilder, MessageRef};

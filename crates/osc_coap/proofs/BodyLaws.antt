@@ -3,8 +3,7 @@ use Rattle.std.proofs.Common.{◌≡◌, ℕ, zero, suc, ◌<◌, ◌≤◌, eqb
 use Rattle.std.specs.Prelude.{IfSome}
 use Rattle.std.proofs.lemmas.Bool.{cases_Bool, eqb-true, eqb-false, ne_eqb}
 use Rattle.std.proofs.lemmas.Option.{same_Some}
-use Rattle.osc_coap.specs.Message.{NumberAndValue, option_spelling, options_spelling, payload_spelling, AreOptions}
-use Rattle.osc_coap.specs.Reading.{AreBytes, ◌>>=◌, Body, option_at, payload_at, body_within, body_at}
+use Rattle.osc_coap.specs.{NumberAndValue, option_spelling, options_spelling, payload_spelling, AreOptions, AreBytes, ◌>>=◌, Body, option_at, payload_at, body_within, body_at}
 use Rattle.osc_coap.proofs.Steps.{bind_some}
 use Rattle.osc_coap.proofs.OptionLaws.{IsOptionRead, first_byte, option_spelling-cons, first_byte_below, option_again, option_takes, option_left}
 

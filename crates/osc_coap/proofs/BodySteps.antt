@@ -4,8 +4,7 @@ use Rattle.std.specs.Prelude.{IsTrue, is_some, unwrap_or}
 use Rattle.std.specs.Option.{option_map}
 use Rattle.std.proofs.lemmas.Bool.{eqb-true, eqb-false, cases_Bool}
 use Rattle.std.proofs.lemmas.List.{nil_from_length}
-use Rattle.osc_coap.specs.Message.{NumberAndValue}
-use Rattle.osc_coap.specs.Reading.{Body, option_at, payload_at, body_at, is_end, options_in, payload_in, CanBeRead}
+use Rattle.osc_coap.specs.{NumberAndValue, Body, option_at, payload_at, body_at, is_end, options_in, payload_in, CanBeRead}
 use Rattle.osc_coap.proofs.OptionLaws.{option_left}
 use Rattle.osc_coap.proofs.BodyLaws.{behind, body_nil, body_marker, body_option, body_refused}
 

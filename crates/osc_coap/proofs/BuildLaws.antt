@@ -4,10 +4,8 @@ use Rattle.std.specs.Prelude.{IfSome, IsOk, OnOk, OnErr}
 use Rattle.std.proofs.lemmas.Bool.{lt-ltb}
 use Rattle.std.proofs.lemmas.List.{append-nil, length-append}
 use Rattle.osc_coap.specs.declared.kind.Kind.{Kind}
-use Rattle.osc_coap.specs.Kind.{kind_bits}
-use Rattle.osc_coap.specs.Message.{NumberAndValue, Message, IsOptionBehind, nibble, extension, option_spelling, options_spelling, payload_spelling, spelling, header, AreOptions, HasSpelling, Spells}
-use Rattle.osc_coap.specs.Building.{last_number, bare, with_option, payload_of, with_payload}
-use Rattle.osc_coap.specs.MessageBuilder.{IsKept, found, message_in}
+use Rattle.osc_coap.specs.{kind_bits, NumberAndValue, IsOptionBehind, nibble, extension, option_spelling, options_spelling, payload_spelling, spelling, header, AreOptions, HasSpelling, Spells, last_number, bare, with_option, payload_of, with_payload, IsKept, found, message_in}
+use Rattle.osc_coap.specs.Message.{Message}
 use Rattle.osc_coap.specs.declared.builder.MessageBuilder.TheInside.{Inside}
 use Rattle.osc_coap.proofs.LengthLaws.{length-option_spelling}
 use Rattle.osc_coap.proofs.MessageLaws.{message_again}

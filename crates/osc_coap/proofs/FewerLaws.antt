@@ -2,9 +2,7 @@
 use Rattle.std.proofs.Common.{◌≡◌, ℕ, ◌+◌, ◌-◌, ◌≤◌, Bool, List, [], ◌∷◌, ◌++◌, refl, ap, arith, inl, inr}
 use Rattle.std.specs.Prelude.{filter}
 use Rattle.std.proofs.lemmas.Bool.{cases_Bool}
-use Rattle.osc_coap.specs.Message.{NumberAndValue, AreOptions}
-use Rattle.osc_coap.specs.Length.{extension_length, options_length}
-use Rattle.osc_coap.specs.Building.{last_number}
+use Rattle.osc_coap.specs.{NumberAndValue, AreOptions, extension_length, options_length, last_number}
 use Rattle.osc_coap.proofs.LengthLaws.{extension_length-add}
 
 -- ---- two parts

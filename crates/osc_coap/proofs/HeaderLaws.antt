@@ -2,10 +2,8 @@
 use Rattle.std.proofs.Common.{◌≡◌, ℕ, zero, suc, ◌<◌, refl, arith}
 use Rattle.osc_coap.specs.declared.kind.Kind.{Kind}
 use Rattle.osc_coap.specs.declared.kind.Kind.TheVariants.{Confirmable, NonConfirmable, Acknowledgement, Reset}
-use Rattle.osc_coap.specs.Kind.{kind_bits}
-use Rattle.osc_coap.specs.Message.{Message, spelling, HasSpelling}
-use Rattle.osc_coap.specs.Header.{HasHeader}
-use Rattle.osc_coap.specs.Reading.{kind_of}
+use Rattle.osc_coap.specs.{kind_bits, spelling, HasSpelling, HasHeader, kind_of}
+use Rattle.osc_coap.specs.Message.{Message}
 
 -- the kind of a kind's bits
 pub kind_again : (kind : Kind) → kind_of (kind_bits kind) ≡ kind

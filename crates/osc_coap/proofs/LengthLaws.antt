@@ -5,9 +5,8 @@ use Rattle.std.proofs.lemmas.Bool.{cases_lt, le-ltb, lt-ltb}
 use Rattle.std.proofs.lemmas.List.{length-append}
 use Rattle.std.proofs.lemmas.List.Sums.{sum_by-cons}
 use Rattle.osc_coap.specs.declared.kind.Kind.{Kind}
-use Rattle.osc_coap.specs.Message.{NumberAndValue, Message, header, extension, option_spelling, options_spelling, payload_spelling, spelling}
-use Rattle.osc_coap.specs.Length.{extension_length, option_length, options_length, payload_length, spelled_length}
-use Rattle.osc_coap.specs.Building.{last_number, bare, with_option, payload_of, with_payload}
+use Rattle.osc_coap.specs.{NumberAndValue, header, extension, option_spelling, options_spelling, payload_spelling, spelling, extension_length, option_length, options_length, payload_length, spelled_length, last_number, bare, with_option, payload_of, with_payload}
+use Rattle.osc_coap.specs.Message.{Message}
 use Rattle.osc_coap.proofs.OptionLaws.{nibble_small, nibble_middle, nibble_large}
 
 -- ---- an extension

@@ -9,10 +9,8 @@ use Rattle.std.proofs.lemmas.Option.{same_Some}
 use Rattle.osc_coap.specs.declared.kind.Kind.{Kind}
 use Rattle.osc_coap.specs.declared.error.ParseError.{ParseError}
 use Rattle.osc_coap.specs.declared.error.ParseError.TheVariants.{Version, Format}
-use Rattle.osc_coap.specs.Kind.{kind_bits}
-use Rattle.osc_coap.specs.Message.{Message, header, options_spelling, payload_spelling, spelling, IsBare, HasSpelling, Spells}
-use Rattle.osc_coap.specs.Header.{HasOtherVersion}
-use Rattle.osc_coap.specs.Reading.{AreBytes, Body, body_at, kind_of, options_in, payload_in, with_body, fields_at, message_at}
+use Rattle.osc_coap.specs.{kind_bits, header, options_spelling, payload_spelling, spelling, IsBare, HasSpelling, Spells, HasOtherVersion, AreBytes, Body, body_at, kind_of, options_in, payload_in, with_body, fields_at, message_at}
+use Rattle.osc_coap.specs.Message.{Message}
 use Rattle.osc_coap.proofs.Steps.{AreBytes-rest, AreBytes-drop}
 use Rattle.osc_coap.proofs.OptionLaws.{pair_bytes}
 use Rattle.osc_coap.proofs.HeaderLaws.{kind_again, kind_below, kind_takes}

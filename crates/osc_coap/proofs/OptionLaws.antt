@@ -5,8 +5,7 @@ use Rattle.std.proofs.lemmas.Bool.{cases_lt, ltb-false, le-ltb, lt-ltb, ne_eqb}
 use Rattle.std.proofs.lemmas.List.{take_at, drop_at, take-append-drop, length-append, length-take, length-drop}
 use Rattle.std.proofs.lemmas.Option.{some_pair_parts}
 use Rattle.std.specs.Option.{option_map}
-use Rattle.osc_coap.specs.Message.{NumberAndValue, nibble, extension, option_spelling, IsOptionBehind}
-use Rattle.osc_coap.specs.Reading.{AreBytes, ◌>>=◌, above, byte_at, two_bytes_at, extended_at, option_at}
+use Rattle.osc_coap.specs.{NumberAndValue, nibble, extension, option_spelling, IsOptionBehind, AreBytes, ◌>>=◌, above, byte_at, two_bytes_at, extended_at, option_at}
 use Rattle.osc_coap.proofs.Steps.{AreBytes-rest, AreBytes-drop, bind_some, goes_on, Takes, Takes-then}
 
 -- the three forms of a number

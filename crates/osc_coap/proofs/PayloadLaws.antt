@@ -2,9 +2,7 @@
 use Rattle.std.proofs.Common.{◌≡◌, ℕ, ◌+◌, ◌-◌, ◌≤◌, List, [], ◌∷◌, ◌++◌, length, take, replicate, refl, sym, ap, ◌∙◌, append_assoc, arith}
 use Rattle.std.proofs.Math.Seq.{take-append_seam}
 use Rattle.std.proofs.lemmas.List.{append-nil, length-append, length-replicate}
-use Rattle.osc_coap.specs.Message.{payload_spelling}
-use Rattle.osc_coap.specs.Building.{payload_of}
-use Rattle.osc_coap.specs.Length.{payload_length}
+use Rattle.osc_coap.specs.{payload_spelling, payload_of, payload_length}
 use Rattle.osc_coap.proofs.LengthLaws.{length-payload_spelling}
 
 -- a payload has no fewer bytes than its own

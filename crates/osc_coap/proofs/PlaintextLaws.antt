@@ -4,12 +4,9 @@ use Rattle.std.specs.Prelude.{IfSome}
 use Rattle.std.specs.Option.{option_map}
 use Rattle.std.proofs.lemmas.List.{append-nil, length-append}
 use Rattle.std.proofs.lemmas.Option.{same_Some}
-use Rattle.osc_coap.specs.Message.{IsOptionBehind, option_spelling, options_spelling, payload_spelling}
-use Rattle.osc_coap.specs.Plaintext.{Plaintext, plaintext_spelling, HasPlaintextSpelling, SpellsPlaintext}
-use Rattle.osc_coap.specs.Length.{plaintext_length}
-use Rattle.osc_coap.specs.Building.{last_number, bare_plaintext, payload_of, with_inner_option, with_inner_payload}
-use Rattle.osc_coap.specs.Reading.{AreBytes, Body, body_at, options_in, payload_in, plaintext_with, plaintext_at}
-use Rattle.osc_coap.specs.PlaintextBuilder.{IsKept, found, plaintext_in}
+use Rattle.osc_coap.specs.{IsOptionBehind, option_spelling, options_spelling, payload_spelling, plaintext_spelling, HasPlaintextSpelling, SpellsPlaintext, plaintext_length, last_number, bare_plaintext, payload_of, with_inner_option, with_inner_payload, AreBytes, Body, body_at, options_in, payload_in, plaintext_with, plaintext_at, plaintext_in}
+use Rattle.osc_coap.specs.Plaintext.{Plaintext}
+use Rattle.osc_coap.specs.PlaintextBuilder.{IsKept, found}
 use Rattle.osc_coap.specs.declared.plaintext.PlaintextBuilder.TheInside.{Inside}
 use Rattle.osc_coap.proofs.Steps.{AreBytes-rest}
 use Rattle.osc_coap.proofs.BodyLaws.{body_spelling, body_again, body_takes}

@@ -1,7 +1,7 @@
 -- Steps of a reader that may fail, and lists of bytes.
 use Rattle.std.proofs.Common.{◌≡◌, ℕ, suc, ◌+◌, Bool, true, false, cond, List, ◌∷◌, ◌++◌, drop, Option, Some, None, refl, sym, ap, ◌∙◌, append_assoc}
 use Rattle.std.proofs.lemmas.List.{get_or-drop}
-use Rattle.osc_coap.specs.Reading.{◌>>=◌, AreBytes}
+use Rattle.osc_coap.specs.{◌>>=◌, AreBytes}
 
 -- bytes without the first are bytes
 pub AreBytes-rest : (b : ℕ) (bytes : List ℕ) → AreBytes (b ∷ bytes) → AreBytes bytes

@@ -4,7 +4,7 @@ use Rattle.std.specs.Prelude.{codes, Option}
 use Rattle.osc_model.specs.declared.algorithm.Algorithm.{Algorithm}
 use Rattle.osc_model.specs.declared.context.ContextName.{ContextName}
 use Rattle.osc_model.specs.declared.context.Side.{Side}
-use Rattle.osc_context.specs.Derivation.{derived, common_iv_of, key_of, KeyName, key_name_of}
+use Rattle.osc_context.specs.{derived, common_iv_of, key_of, KeyName, key_name_of}
 
 -- a name without IDs
 bare : List ℕ → List ℕ → Option (List ℕ) → Algorithm → ContextName

@@ -3,7 +3,7 @@ use Rattle.std.proofs.Common.{◌≡◌, ℕ, suc, ◌+◌, ◌-◌, ◌*◌, �
 use Rattle.std.specs.Simd.Lanes.{zip2}
 use Rattle.std.proofs.lemmas.List.{length-replicate}
 use borrow.Rule.Slice.PartMut.{put_mid}
-use Rattle.osc_context.specs.Nonce.{five_bytes, without_zeros, partial_iv, padded, nonce}
+use Rattle.osc_context.specs.{five_bytes, without_zeros, partial_iv, padded, nonce}
 use Rattle.osc_context.proofs.ListLemmas.{parts_of_append, xor_cancels}
 
 -- ---- without leading zeros

@@ -2,10 +2,8 @@
 use Rattle.std.proofs.Common.{◌≡◌, ℕ, ◌+◌, ◌-◌, ◌%◌, ◌<◌, ◌≤◌, inl, inr, true, false, ltb, List, [], ◌∷◌, ◌++◌, length, take, drop, refl, sym, ap, ◌∙◌, arith, lt-ltb, le-ltb, append_assoc, length-append}
 use Rattle.std.proofs.lemmas.List.{take_at, drop_at}
 use Rattle.std.proofs.lemmas.Bool.{cases_lt}
-use Rattle.osc_cbor.specs.Data.{byte_string}
-use Rattle.osc_cbor.specs.Head.{head}
-use Rattle.osc_cbor.specs.Spelling.{spelling}
-use Rattle.osc_context.specs.MasterSalt.{master_salt, string_at, client_nonce, server_nonce}
+use Rattle.osc_cbor.specs.{byte_string, head, spelling}
+use Rattle.osc_context.specs.{master_salt, string_at, client_nonce, server_nonce}
 
 -- the head of a byte string is one byte, or two from 24 on
 short_head : (n : ℕ) → n < 24 → head 2 n ≡ (64 + n) ∷ []

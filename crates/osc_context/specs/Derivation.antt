@@ -1,13 +1,12 @@
 -- The security context of a name (RFC 8613 section 3.2.1).
 use Rattle.std.specs.Prelude.{ℕ, List, [], Option, Some, None, codes}
-use Rattle.osc_model.specs.Algorithm.{algorithm_number}
+use Rattle.osc_model.specs.{algorithm_number}
 use Rattle.osc_model.specs.declared.algorithm.Algorithm.{Algorithm}
 use Rattle.osc_model.specs.declared.context.ContextName.{ContextName}
 use Rattle.osc_model.specs.declared.context.Side.{Side}
 use Rattle.osc_model.specs.declared.context.Side.TheVariants.{Client, Server}
-use Rattle.osc_hkdf.specs.Hkdf.{extract_of, expand_of}
-use Rattle.osc_cbor.specs.Data.{DataItem, unsigned, byte_string, text_string, array, null, no_items, item}
-use Rattle.osc_cbor.specs.Spelling.{spelling}
+use Rattle.osc_hkdf.specs.{extract_of, expand_of}
+use Rattle.osc_cbor.specs.{DataItem, unsigned, byte_string, text_string, array, null, no_items, item, spelling}
 use Rattle.osc_context.specs.Algorithm.{algorithm_of}
 
 -- ---- the two ends

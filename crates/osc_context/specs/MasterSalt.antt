@@ -1,7 +1,6 @@
 -- The master salt of an exchange, and how both nonces are read back from it (RFC 9203 section 4.3).
 use Rattle.std.specs.Prelude.{ℕ, ◌-◌, nat_lt, if◌then◌else◌, List, [], ◌∷◌, ◌++◌, length, take, drop}
-use Rattle.osc_cbor.specs.Data.{byte_string}
-use Rattle.osc_cbor.specs.Spelling.{spelling}
+use Rattle.osc_cbor.specs.{byte_string, spelling}
 
 -- salt, nonce1 and nonce2, each as a CBOR byte string, one after the other
 unfoldable pub master_salt : List ℕ → List ℕ → List ℕ → List ℕ

@@ -1,10 +1,7 @@
 //! CBOR items (RFC 8949 section 3), each appended to bytes. For want of memory nothing more is said of the bytes.
 
 ghost use Rattle.std.specs.Prelude.{◌≡◌, ◌++◌, OnOk};
-ghost use Rattle.osc_cbor.specs.Data.{unsigned, byte_string, text_string};
-ghost use Rattle.osc_cbor.specs.Head.{head};
-ghost use Rattle.osc_cbor.specs.Major.{major_number};
-ghost use Rattle.osc_cbor.specs.Spelling.{spelling};
+ghost use Rattle.osc_cbor.specs.{unsigned, byte_string, text_string, head, major_number, spelling};
 ghost use Rattle.osc_context.specs.Derivation.{id_context_item};
 
 use osc_cbor::Major;

@@ -1,8 +1,8 @@
 //! Derivation of a security context from its name (RFC 8613 section 3.2).
 
 ghost use Rattle.std.specs.Prelude.{◌≡◌, ◌≤◌, ◌<◌, ◌↔◌, ◌⊎◌, [], codes, length, IfOk, Err};
-ghost use Rattle.osc_cbor.specs.Spelling.{spelling};
-ghost use Rattle.osc_hkdf.specs.Hkdf.{extract_of, expand_of};
+ghost use Rattle.osc_cbor.specs.{spelling};
+ghost use Rattle.osc_hkdf.specs.{extract_of, expand_of};
 ghost use Rattle.osc_context.specs.Derivation.{info, derived, common_iv_of, sender_of, recipient_of};
 ghost use Rattle.osc_context.specs.Nonce.{longest_id};
 

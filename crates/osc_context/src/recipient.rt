@@ -1,7 +1,7 @@
 //! The recipient context, its replay window, and accepted numbers (RFC 8613 sections 3.1 and 7.4).
 
 ghost use Rattle.std.specs.Prelude.{◌≡◌, ◌≤◌, ◌↔◌, [], length, IsTrue};
-ghost use Rattle.osc_window.specs.Window.{IsFresh, with_accepted};
+ghost use Rattle.osc_window.specs.{IsFresh, with_accepted};
 ghost use Rattle.osc_context.specs.Nonce.{longest_id, greatest_number};
 ghost use Rattle.osc_context.specs.Derivation.{next_accepted};
 

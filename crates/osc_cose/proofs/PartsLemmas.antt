@@ -1,9 +1,8 @@
 -- The parts of an object, taken out of its item.
 use Rattle.std.proofs.Common.{◌≡◌, ℕ, List, Option, Some, None, refl, sym, ap, ◌∙◌, subst}
 use Rattle.std.specs.Option.{option_map, option_and_then}
-use Rattle.osc_cbor.specs.Data.{DataItem, unsigned, negative, byte_string, text_string, array, map, tag, bool, null, Items, no_items, item, Pairs}
-use Rattle.osc_cbor.specs.Parts.{as_bytes, as_array, as_map, value}
-use Rattle.osc_cose.specs.Encrypt0.{IsObject, IsProtected, untagged}
+use Rattle.osc_cbor.specs.{DataItem, unsigned, negative, byte_string, text_string, array, map, tag, bool, null, Items, no_items, item, Pairs, as_bytes, as_array, as_map, value}
+use Rattle.osc_cose.specs.{IsObject, IsProtected, untagged}
 use Rattle.osc_cose.specs.Inner.Parts.{three_of, typed, parts_of}
 use Rattle.osc_cose.specs.declared.encrypt0.Encrypt0.{Encrypt0}
 

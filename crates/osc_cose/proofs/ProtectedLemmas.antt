@@ -1,10 +1,8 @@
 -- Protected headers, and what they name.
 use Rattle.std.proofs.Common.{◌≡◌, ◌≢◌, ℕ, false, List, [], length, Some, sym, ap, ◌∙◌, nat_eq}
 use Rattle.std.proofs.lemmas.Bool.{false≢true}
-use Rattle.osc_cbor.specs.Data.{Pairs, DataItem, unsigned, negative, byte_string, text_string, array, map, tag, bool, null}
-use Rattle.osc_cbor.specs.Parts.{value}
-use Rattle.osc_cbor.specs.Spelling.{IsWhole}
-use Rattle.osc_cose.specs.Encrypt0.{IsProtected, NamesAlgorithm}
+use Rattle.osc_cbor.specs.{Pairs, DataItem, unsigned, negative, byte_string, text_string, array, map, tag, bool, null, value, IsWhole}
+use Rattle.osc_cose.specs.{IsProtected, NamesAlgorithm}
 
 pub names_from_value : (bytes : List ℕ) (d : DataItem) → IsWhole bytes d → value 1 d ≡ Some (unsigned 10) → NamesAlgorithm bytes
 names_from_value bytes (map ps) w e = NamesAlgorithm.named ps w e

@@ -1,8 +1,8 @@
 -- The associated data of the cipher, part by part.
 use Rattle.std.proofs.Common.{◌≡◌, ℕ, ◌+◌, List, [], ◌∷◌, ◌++◌, length, refl, arith}
 use Rattle.std.proofs.lemmas.List.{append-nil, append_assoc, length-append}
-use Rattle.osc_cbor.specs.Head.{head}
-use Rattle.osc_cose.specs.Encrypt0.{enc_structure}
+use Rattle.osc_cbor.specs.{head}
+use Rattle.osc_cose.specs.{enc_structure}
 
 -- the head of an array of three items, and the text Encrypt0
 abbrev pub context : List ℕ

@@ -1,8 +1,8 @@
 -- The item of an object, read again.
 use Rattle.std.proofs.Common.{◌≡◌, ℕ, List, Option, Some, None, refl}
 use Rattle.std.specs.Option.{option_map}
-use Rattle.osc_cbor.specs.Data.{byte_string, no_pairs, Pairs, value_under}
-use Rattle.osc_cose.specs.Encrypt0.{parameter}
+use Rattle.osc_cbor.specs.{byte_string, no_pairs, Pairs, value_under}
+use Rattle.osc_cose.specs.{parameter}
 
 abbrev pub header : Option (List ℕ) → Option (List ℕ) → Pairs
 header kid iv = parameter 4 kid (parameter 5 iv no_pairs)

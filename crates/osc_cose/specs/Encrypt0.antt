@@ -1,7 +1,6 @@
 -- COSE_Encrypt0 objects (RFC 9052 section 5.2), with the header parameters kid and IV.
 use Rattle.std.specs.Prelude.{◌≡◌, ℕ, ◌==◌, if◌then◌else◌, List, [], Option, Some, None, option_map, codes}
-use Rattle.osc_cbor.specs.Data.{DataItem, unsigned, byte_string, text_string, array, map, tag, no_items, item, Pairs, no_pairs, pair, value_under}
-use Rattle.osc_cbor.specs.Spelling.{IsWhole, spelling}
+use Rattle.osc_cbor.specs.{DataItem, unsigned, byte_string, text_string, array, map, tag, no_items, item, Pairs, no_pairs, pair, value_under, IsWhole, spelling}
 use Rattle.osc_cose.specs.declared.encrypt0.Encrypt0.{Encrypt0}
 
 -- ---- which bytes are which object

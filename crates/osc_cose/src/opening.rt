@@ -1,7 +1,7 @@
 //! Opening.
 
 ghost use Rattle.std.specs.Prelude.{◌≡◌, ◌≢◌, ◌⊎◌, ◌↔◌, ◌+◌, ◌-◌, ◌≤◌, ℕ, List, length, take, IfOk, OnErr, Ok, Err};
-ghost use Rattle.osc_ccm.specs.Limits.{IsInRange, IsTooLong};
+ghost use Rattle.osc_ccm.specs.{IsInRange, IsTooLong};
 ghost use Rattle.osc_cose.specs.Encrypt0.{IsProtected, NamesAlgorithm, enc_structure as structure};
 
 use crate::encrypt0::Encrypt0;

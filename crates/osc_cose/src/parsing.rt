@@ -1,9 +1,7 @@
 //! Reading COSE_Encrypt0 objects.
 
 ghost use Rattle.std.specs.Prelude.{◌≡◌, ◌⊎◌, ℕ, List, Option, option_map, option_copied, IfOk, IfSome, Ok, Err, Some};
-ghost use Rattle.osc_cbor.specs.Data.{DataItem, byte_string, value_under};
-ghost use Rattle.osc_cbor.specs.View.{pairs_of};
-ghost use Rattle.osc_cbor.specs.Spelling.{IsWhole};
+ghost use Rattle.osc_cbor.specs.{DataItem, byte_string, value_under, pairs_of, IsWhole};
 ghost use Rattle.osc_cose.specs.Encrypt0.{IsObject};
 ghost use Rattle.osc_cose.specs.Inner.Parts.{object_of_parts};
 ghost use Rattle.osc_cose.specs.declared.encrypt0.Encrypt0.{Encrypt0 as AnyObject};

@@ -1,8 +1,7 @@
 //! The parts of an object's item.
 
 ghost use Rattle.std.specs.Prelude.{◌≡◌, option_map};
-ghost use Rattle.osc_cbor.specs.Data.{map};
-ghost use Rattle.osc_cbor.specs.View.{items_of, pairs_of};
+ghost use Rattle.osc_cbor.specs.{map, items_of, pairs_of};
 ghost use Rattle.osc_cose.specs.Encrypt0.{untagged as without_tag};
 ghost use Rattle.osc_cose.specs.Inner.Parts.{three_of, typed as typed_parts, parts_of};
 

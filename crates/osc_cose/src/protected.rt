@@ -1,7 +1,7 @@
 //! Protected headers.
 
 ghost use Rattle.std.specs.Prelude.{◌≡◌, ◌↔◌, Some, IsTrue};
-ghost use Rattle.osc_cbor.specs.Data.{unsigned};
+ghost use Rattle.osc_cbor.specs.{unsigned};
 ghost use Rattle.osc_cbor.specs.Parts as part;
 ghost use Rattle.osc_cose.specs.Encrypt0.{IsProtected, NamesAlgorithm};
 

@@ -1,7 +1,7 @@
 //! Sealing.
 
 ghost use Rattle.std.specs.Prelude.{◌≡◌, length, IfOk, Ok, Err, None, Some};
-ghost use Rattle.osc_ccm.specs.Limits.{IsTooLong};
+ghost use Rattle.osc_ccm.specs.{IsTooLong};
 ghost use Rattle.osc_cose.specs.Encrypt0.{enc_structure as structure};
 
 use crate::encrypt0::Encrypt0;

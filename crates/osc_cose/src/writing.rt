@@ -1,9 +1,7 @@
 //! Writing COSE_Encrypt0 objects.
 
 ghost use Rattle.std.specs.Prelude.{◌≡◌, ◌++◌, OnOk, OnErr, IfOk};
-ghost use Rattle.osc_cbor.specs.Data.{no_pairs};
-ghost use Rattle.osc_cbor.specs.Spelling.{spelling};
-ghost use Rattle.osc_cbor.specs.View.{view, pairs_view};
+ghost use Rattle.osc_cbor.specs.{no_pairs, spelling, view, pairs_view};
 ghost use Rattle.osc_cose.specs.Encrypt0.{parameter, object_item};
 
 use crate::encrypt0::Encrypt0;

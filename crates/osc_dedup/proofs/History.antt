@@ -9,9 +9,7 @@ use Rattle.std.proofs.lemmas.List.Elements.{All-nil, All-cons, All-head, All-tai
 use Rattle.osc_model.specs.declared.node.Moment.{Moment}
 use Rattle.osc_model.specs.declared.node.Peer.{Peer}
 use Rattle.osc_dedup.specs.declared.table.Noted.{Noted}
-use Rattle.osc_dedup.specs.Table.{Entry, is_of, is_alive, alive, staying, with_note, looked}
-use Rattle.osc_dedup.specs.History.{Note, AreInOrder, table_of, unreplaced, IsThere}
-use Rattle.osc_dedup.specs.Keys.{key_of}
+use Rattle.osc_dedup.specs.{Entry, is_of, is_alive, alive, staying, with_note, looked, Note, AreInOrder, table_of, unreplaced, IsThere, key_of}
 use Rattle.osc_dedup.proofs.Keys.{same_key_equiv}
 use Rattle.osc_dedup.proofs.Splits.{none_round, snoc_split, filter_split, find_split, find_at, filter_both, filter_swap}
 

@@ -11,8 +11,7 @@ use Rattle.std.proofs.lemmas.List.Sums.{length-filter, count_by-le-length}
 use Rattle.osc_model.specs.declared.node.Moment.{Moment}
 use Rattle.osc_model.specs.declared.node.Peer.{Peer}
 use Rattle.osc_dedup.specs.declared.table.Noted.{Noted}
-use Rattle.osc_dedup.specs.Table.{Entry, is_of, is_alive, alive, staying, with_note, looked}
-use Rattle.osc_dedup.specs.Keys.{Key, key_of, same_key, entry_of, entries_of, stays, while_alive}
+use Rattle.osc_dedup.specs.{Entry, is_of, is_alive, alive, staying, with_note, looked, Key, key_of, same_key, entry_of, entries_of, stays, while_alive}
 
 -- two keys are the same or are not
 pub same_key_equiv : IsEquivalence same_key

@@ -5,8 +5,7 @@ use Rattle.std.specs.Map.{lookup, keys_of}
 use Rattle.std.proofs.lemmas.List.Sums.{length-filter}
 use Rattle.osc_model.specs.declared.node.Moment.{Moment}
 use Rattle.osc_dedup.specs.declared.table.Noted.{Noted}
-use Rattle.osc_dedup.specs.Table.{alive, is_alive}
-use Rattle.osc_dedup.specs.Keys.{Key, same_key, entry_of, entries_of, stays, is_other, nothing, AreGone, AllLiveUntil}
+use Rattle.osc_dedup.specs.{alive, is_alive, Key, same_key, entry_of, entries_of, stays, is_other, nothing, AreGone, AllLiveUntil}
 
 never : (n : ℕ) → nat_lt n 0 ≡ false
 never n = grind arith

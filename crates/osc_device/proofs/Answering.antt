@@ -2,32 +2,27 @@
 -- their server.
 use Rattle.std.proofs.Common.{◌≡◌, ◌≢◌, ◌∙◌, ap, sym, subst, ℕ, List, [], ◌∷◌, length, Option, Some, None}
 use Rattle.std.specs.Option.{IsSome}
-use Rattle.osc_model.specs.Arrival.{read_as}
+use Rattle.osc_model.specs.{read_as}
 use Rattle.osc_model.specs.declared.node.Draw.{Draw}
 use Rattle.osc_model.specs.declared.node.Moment.{Moment}
 use Rattle.osc_model.specs.declared.node.Peer.{Peer}
 use Rattle.osc_model.specs.declared.step.ClientResult.TheVariants as result
 use Rattle.osc_model.specs.declared.step.Datagram.{Datagram}
 use Rattle.osc_model.specs.declared.step.Step.{Step}
-use Rattle.osc_coap.specs.Message.{spelling}
-use Rattle.osc_message.specs.Sending.{datagram}
-use Rattle.osc_ccm.specs.Ciphers.{Sealings, Tags}
-use Rattle.osc_scope.specs.Entries.{Entry}
+use Rattle.osc_coap.specs.{spelling}
+use Rattle.osc_message.specs.{datagram}
+use Rattle.osc_ccm.specs.{Sealings, Tags}
+use Rattle.osc_scope.specs.{Entry}
 use Rattle.osc_token.specs.declared.claims.Claims.{Claims}
-use Rattle.osc_authz.specs.Begun.{ClientContextState}
+use Rattle.osc_authz.specs.{ClientContextState}
 use Rattle.osc_authz.specs.SecurityContext.{SecurityContext}
-use Rattle.osc_client.specs.Hearing.{Begins, Hears as ClientHears, Requests}
-use Rattle.osc_client.specs.Lawful.{IsLawfulClient}
-use Rattle.osc_client.specs.Sending.{Asked, Asks, Exchanges}
+use Rattle.osc_client.specs.{Begins, Hears as ClientHears, Requests, IsLawfulClient, Asked, Asks, Exchanges}
 use Rattle.osc_client.specs.State.{State as Client}
-use Rattle.osc_server.specs.Hearing.{Hears as ServerHears}
+use Rattle.osc_server.specs.{Hears as ServerHears}
 use Rattle.osc_server.specs.State.{State as Server}
-use Rattle.osc_rounds.specs.AskRound.{IsAskedAndAnswered, IsLawfulServer, IsServedAndAnswered, StraightRequest, asked_text}
-use Rattle.osc_rounds.specs.ExchangeRound.{IsAgreedAndMade, IsBegunAndMade, StraightPost}
-use Rattle.osc_rounds.specs.Ready.{IsStraight, MayAsk, MayExchange}
-use Rattle.osc_device.specs.Answered.{IsAnswered, IsOpen, IsReady, IsWhole, MayOpen}
-use Rattle.osc_device.specs.Carrying.{Carries, ComesBack, Reaches, at_device, at_server}
-use Rattle.osc_device.specs.State.{State, own_address, server_address}
+use Rattle.osc_rounds.specs.{IsAskedAndAnswered, IsLawfulServer, IsServedAndAnswered, StraightRequest, asked_text, IsAgreedAndMade, IsBegunAndMade, StraightPost, IsStraight, MayAsk, MayExchange}
+use Rattle.osc_device.specs.{IsAnswered, IsOpen, IsReady, IsWhole, MayOpen, Carries, ComesBack, Reaches, at_device, at_server, own_address, server_address}
+use Rattle.osc_device.specs.State.{State}
 use Rattle.osc_device.specs.declared.round.Round.{Round}
 
 one_bytes : (out : List Datagram) (one other : Datagram) → out ≡ one ∷ [] → out ≡ other ∷ [] → one.bytes ≡ other.bytes

@@ -3,26 +3,22 @@ use Rattle.std.proofs.Common.{◌≡◌, ◌∙◌, ap, sym, subst, ℕ, ◌≤�
 use Rattle.std.specs.Prelude.{IfOk, OnErr}
 use Rattle.std.specs.Result.{result_ok}
 use Rattle.std.specs.declared.alloc.AllocError.{AllocError}
-use Rattle.osc_model.specs.Arrival.{Arrival, read_as}
+use Rattle.osc_model.specs.{read_as}
+use Rattle.osc_model.specs.Arrival.{Arrival}
 use Rattle.osc_model.specs.StepNotes.{StepNotes}
 use Rattle.osc_model.specs.declared.node.Draw.{Draw}
 use Rattle.osc_model.specs.declared.node.Moment.{Moment}
 use Rattle.osc_model.specs.declared.step.Datagram.{Datagram}
 use Rattle.osc_model.specs.declared.step.Step.{Step}
-use Rattle.osc_ccm.specs.Ciphers.{Sealings, Tags}
+use Rattle.osc_ccm.specs.{Sealings, Tags}
 use Rattle.osc_authz.specs.declared.granted.ClientDesk.{ClientDesk}
-use Rattle.osc_protect.specs.Protection.{longest_message}
-use Rattle.osc_run.specs.ClientKinds.{ClientStep}
-use Rattle.osc_run.specs.States.{ClientState}
-use Rattle.osc_run.specs.ServerKinds.{ServerStep}
-use Rattle.osc_client.specs.Hearing.{Hears as ClientHears, Ticks}
-use Rattle.osc_client.specs.Sending.{Asked, Asks, Exchanges, OfEachPost, PostFits, TicksBy, is_over}
-use Rattle.osc_client.specs.State.{State as Client, core as client_core}
-use Rattle.osc_client.specs.Route.{HostAndPort}
-use Rattle.osc_server.specs.Hearing.{Hears as ServerHears}
-use Rattle.osc_server.specs.State.{State as Server, core as server_core}
-use Rattle.osc_device.specs.Carrying.{ClientTakesMemory, ComesBack, Reaches, ServerTakesMemory, at_device}
-use Rattle.osc_device.specs.State.{server_address}
+use Rattle.osc_protect.specs.{longest_message}
+use Rattle.osc_run.specs.{ClientStep, ClientState, ServerStep}
+use Rattle.osc_client.specs.{Hears as ClientHears, Ticks, Asked, Asks, Exchanges, OfEachPost, PostFits, TicksBy, is_over, core as client_core, HostAndPort}
+use Rattle.osc_client.specs.State.{State as Client}
+use Rattle.osc_server.specs.{Hears as ServerHears, core as server_core}
+use Rattle.osc_server.specs.State.{State as Server}
+use Rattle.osc_device.specs.{ClientTakesMemory, ComesBack, Reaches, ServerTakesMemory, at_device, server_address}
 use Rattle.osc_world.proofs.Way.{hears_same}
 
 -- a list of one

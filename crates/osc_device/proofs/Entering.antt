@@ -2,8 +2,9 @@
 use Rattle.std.proofs.Common.{◌≡◌, ◌∙◌, ap, sym, refl, subst, inl, inr, ℕ, false, List, [], ◌∷◌, ◌++◌, Option, Some, None}
 use Rattle.std.specs.Prelude.{option_to_list, option_map}
 use Rattle.std.proofs.lemmas.List.{append_assoc}
-use Rattle.osc_authz.specs.Members.{In}
-use Rattle.osc_client.specs.State.{State as Client, core as client_core}
+use Rattle.osc_authz.specs.{In}
+use Rattle.osc_client.specs.{core as client_core}
+use Rattle.osc_client.specs.State.{State as Client}
 use Rattle.osc_model.specs.StepNotes.{StepNotes}
 use Rattle.osc_model.specs.declared.node.Draw.{Draw}
 use Rattle.osc_model.specs.declared.node.Moment.{Moment}
@@ -12,18 +13,13 @@ use Rattle.osc_model.specs.declared.step.ClientResult.{ClientResult}
 use Rattle.osc_model.specs.declared.step.ClientResult.TheVariants as result
 use Rattle.osc_model.specs.declared.step.Note.{Note}
 use Rattle.osc_model.specs.declared.step.Step.{Step}
-use Rattle.osc_ccm.specs.Ciphers.{Sealings}
-use Rattle.osc_run.specs.ClientKinds.{ClientStep, IsEnding, response_note}
+use Rattle.osc_ccm.specs.{Sealings}
+use Rattle.osc_run.specs.{ClientStep, IsEnding, response_note, Acceptance, acceptance_in, acceptances, Noted, by_client, IsReplyOfRequest, IsReached, ClientState, Minted, WorldState}
 use Rattle.osc_run.specs.ClientKinds as kinds
-use Rattle.osc_run.specs.History.{Acceptance, acceptance_in, acceptances}
-use Rattle.osc_run.specs.Notes.{Noted, by_client}
 use Rattle.osc_run.specs.declared.noted.Actor.TheVariants.{Client as ByClient}
-use Rattle.osc_run.specs.OneHistory.{IsReplyOfRequest, OneHistory}
+use Rattle.osc_run.specs.OneHistory.{OneHistory}
 use Rattle.osc_run.specs.Premise.{Premise}
-use Rattle.osc_run.specs.Runs.{IsReached}
-use Rattle.osc_run.specs.States.{ClientState, Minted, WorldState}
-use Rattle.osc_device.specs.Carrying.{Carries, ComesBack}
-use Rattle.osc_device.specs.Runs.{IsIn, IsTold, noted, of_own, of_server}
+use Rattle.osc_device.specs.{Carries, ComesBack, IsIn, IsTold, noted, of_own, of_server}
 use Rattle.osc_device.specs.State.{State}
 use Rattle.osc_device.specs.declared.round.Round.{Round}
 use Rattle.osc_device.proofs.Going.{device, of_round}

@@ -3,28 +3,23 @@ use Rattle.std.proofs.Common.{◌≡◌, ◌∙◌, ap, sym, subst, refl, ℕ, �
 use Rattle.std.specs.Prelude.{nat_lt}
 use Rattle.std.specs.Str.{IsUtf8}
 use Rattle.std.proofs.lemmas.List.{length-append}
-use Rattle.osc_cbor.specs.Data.{byte_string, item, map, no_items, no_pairs, pair, unsigned}
-use Rattle.osc_cbor.specs.Head.{head}
-use Rattle.osc_cbor.specs.Spelling.{items_spelling, pairs_spelling, spelling}
-use Rattle.osc_ccm.specs.Limits.{most_tag}
-use Rattle.osc_cose.specs.Encrypt0.{enc_structure, object_item}
+use Rattle.osc_cbor.specs.{byte_string, item, map, no_items, no_pairs, pair, unsigned, head, items_spelling, pairs_spelling, spelling}
+use Rattle.osc_ccm.specs.{most_tag, IsLongerBy, Sealings}
+use Rattle.osc_cose.specs.{enc_structure, object_item}
 use Rattle.osc_authz.specs.HoldsToken.{HoldsToken}
-use Rattle.osc_client.specs.Sending.{PostIsTooLong}
+use Rattle.osc_client.specs.{PostIsTooLong}
 use Rattle.osc_client.specs.State.{State as Client}
-use Rattle.osc_model.specs.Grant.{HasBegun, IsNotOver}
+use Rattle.osc_model.specs.{HasBegun, IsNotOver}
 use Rattle.osc_model.specs.declared.algorithm.Algorithm.TheVariants.{EightByteTag}
 use Rattle.osc_model.specs.declared.node.Moment.{Moment}
-use Rattle.osc_ccm.specs.Ciphers.{IsLongerBy, Sealings}
-use Rattle.osc_rounds.specs.Ready.{MayExchange}
+use Rattle.osc_rounds.specs.{MayExchange}
 use Rattle.osc_server.specs.State.{State as Server}
-use Rattle.osc_token.specs.Minted.{HasLawfulParts}
-use Rattle.osc_token.specs.Token.{algorithm_header, claims_item, token_object}
-use Rattle.osc_world.specs.Refusals.{FitAToken, IsLawful}
-use Rattle.osc_world.specs.Starts.{Beginning, Enrols, begun, first_nodes}
+use Rattle.osc_token.specs.{HasLawfulParts, algorithm_header, claims_item, token_object}
+use Rattle.osc_world.specs.{FitAToken, IsLawful, Beginning, Enrols, begun, first_nodes}
 use Rattle.osc_world.specs.declared.nodes.Placed.{Placed}
 use Rattle.osc_world.specs.declared.start.Holder.{Holder}
-use Rattle.osc_device.specs.Begun.{IsBegun, IsGranted, IsTooLongToPost, own_claims, own_holder, server_alone}
-use Rattle.osc_device.specs.State.{State, server_address}
+use Rattle.osc_device.specs.{IsBegun, IsGranted, IsTooLongToPost, own_claims, own_holder, server_alone, server_address}
+use Rattle.osc_device.specs.State.{State}
 use Rattle.osc_device.specs.declared.own_token.OwnToken.{OwnToken}
 use Rattle.osc_device.specs.declared.own_token.ServerParts.{ServerParts}
 

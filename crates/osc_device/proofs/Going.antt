@@ -10,20 +10,14 @@ use Rattle.osc_model.specs.declared.node.Draw.{Draw}
 use Rattle.osc_model.specs.declared.node.Moment.{Moment}
 use Rattle.osc_model.specs.declared.step.Datagram.{Datagram}
 use Rattle.osc_model.specs.declared.step.Step.{Step}
-use Rattle.osc_ccm.specs.Ciphers.{Sealings}
-use Rattle.osc_client.specs.State.{State as Client, core as client_core}
-use Rattle.osc_server.specs.State.{State as Server, core as server_core}
-use Rattle.osc_run.specs.ClientKinds.{ClientStep}
-use Rattle.osc_run.specs.Nodes.{Came}
-use Rattle.osc_run.specs.ServerKinds.{ServerStep}
-use Rattle.osc_server.specs.Hearing.{Hears as ServerHears}
-use Rattle.osc_server.specs.Steps.{IsStep as IsServerStep}
-use Rattle.osc_run.specs.Notes.{Noted, by_client, by_server}
-use Rattle.osc_run.specs.Runs.{IsReached, WorldStep}
+use Rattle.osc_ccm.specs.{Sealings}
+use Rattle.osc_client.specs.{core as client_core}
+use Rattle.osc_client.specs.State.{State as Client}
+use Rattle.osc_server.specs.{core as server_core, Hears as ServerHears, IsStep as IsServerStep}
+use Rattle.osc_server.specs.State.{State as Server}
+use Rattle.osc_run.specs.{ClientStep, Came, ServerStep, Noted, by_client, by_server, IsReached, WorldStep, ClientState, ServerState, WorldState}
 use Rattle.osc_run.specs.Runs as run
-use Rattle.osc_run.specs.States.{ClientState, ServerState, WorldState}
-use Rattle.osc_device.specs.Carrying.{Carries, ComesBack, Reaches, at_server}
-use Rattle.osc_device.specs.Runs.{AllGoOn, GoesOn, IsIn, noted, of_own, of_server}
+use Rattle.osc_device.specs.{Carries, ComesBack, Reaches, at_server, AllGoOn, GoesOn, IsIn, noted, of_own, of_server}
 use Rattle.osc_device.specs.State.{State}
 use Rattle.osc_device.specs.declared.round.Round.{Round}
 use Rattle.osc_device.proofs.Slots.{got_back, others_stay}

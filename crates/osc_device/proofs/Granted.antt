@@ -1,24 +1,23 @@
 -- A device whose token counts may post it.
 use Rattle.std.proofs.Common.{◌≡◌, ◌≢◌, ◌∙◌, ap, sym, subst, ℕ, List, [], length, drop, Option, Some, None, arith}
 use Rattle.std.proofs.lemmas.List.{length-drop, length-take}
-use Rattle.osc_client.specs.Sending.{Exchanges, PostFits, begun_by}
+use Rattle.osc_client.specs.{Exchanges, PostFits, begun_by}
 use Rattle.osc_client.specs.State.{State as Client}
-use Rattle.osc_model.specs.Draw.{nonce_drawn, token_drawn}
+use Rattle.osc_model.specs.{nonce_drawn, token_drawn}
 use Rattle.osc_model.specs.declared.step.ClientResult.{ClientResult}
 use Rattle.osc_model.specs.declared.step.ClientResult.TheVariants.{Refused}
 use Rattle.osc_model.specs.declared.step.Step.{Step}
-use Rattle.osc_dedup.specs.Table.{looked}
-use Rattle.osc_message.specs.Endpoint.{own_id}
+use Rattle.osc_dedup.specs.{looked}
+use Rattle.osc_message.specs.{own_id}
 use Rattle.osc_model.specs.declared.node.Draw.{Draw}
 use Rattle.osc_model.specs.declared.node.Moment.{Moment}
-use Rattle.osc_ccm.specs.Ciphers.{Sealings}
-use Rattle.osc_authz.specs.Table.{IsFull, alive}
+use Rattle.osc_ccm.specs.{Sealings}
+use Rattle.osc_authz.specs.{IsFull, alive}
 use Rattle.osc_authz.specs.declared.token_entry.TokenEntry.{TokenEntry}
-use Rattle.osc_scope.specs.Entries.{Entry}
+use Rattle.osc_scope.specs.{Entry}
 use Rattle.osc_token.specs.declared.claims.Claims.{Claims}
-use Rattle.osc_device.specs.Answered.{MayOpen}
-use Rattle.osc_device.specs.Begun.{IsGranted}
-use Rattle.osc_device.specs.State.{State, own_address}
+use Rattle.osc_device.specs.{MayOpen, IsGranted, own_address}
+use Rattle.osc_device.specs.State.{State}
 
 pub may_open : (is_sealing : Sealings) (device : State) (now : Moment) (draw : Draw) (claims : Claims) (entries : List Entry)
     → IsGranted is_sealing device claims entries

@@ -2,22 +2,19 @@
 use Rattle.std.proofs.Common.{◌≡◌, ◌⊎◌, ◌∙◌, ap, sym, subst, refl, ℕ, zero, suc, List, [], ◌∷◌, ◌++◌, length, Some, inl, inr, ⊎_elim, arith}
 use Rattle.std.specs.Prelude.{slice_get}
 use Rattle.std.proofs.lemmas.Option.{same_Some}
-use Rattle.osc_authz.specs.Contexts.{of_tokens}
-use Rattle.osc_authz.specs.Members.{In}
-use Rattle.osc_client.specs.State.{State as Client, core as client_core, outstanding}
+use Rattle.osc_authz.specs.{of_tokens, In}
+use Rattle.osc_client.specs.{core as client_core, outstanding}
+use Rattle.osc_client.specs.State.{State as Client}
 use Rattle.osc_model.specs.Grant.{Grant}
-use Rattle.osc_ccm.specs.Ciphers.{Sealings}
-use Rattle.osc_cbor.specs.Spelling.{spelling}
-use Rattle.osc_run.specs.Runs.{IsNewClient, IsReached, IsStart, IsTextOf}
-use Rattle.osc_run.specs.States.{ClientState, Minted}
-use Rattle.osc_scope.specs.Entries.{Entry, IsScope, scope_of}
+use Rattle.osc_ccm.specs.{Sealings}
+use Rattle.osc_cbor.specs.{spelling}
+use Rattle.osc_run.specs.{IsNewClient, IsReached, IsStart, IsTextOf, ClientState, Minted}
+use Rattle.osc_scope.specs.{Entry, IsScope, scope_of}
 use Rattle.osc_server.specs.State.{State as Server}
-use Rattle.osc_token.specs.Minted.{FitTheirTypes, HasLawfulParts}
-use Rattle.osc_token.specs.Token.{claims_item}
+use Rattle.osc_token.specs.{FitTheirTypes, HasLawfulParts, claims_item}
 use Rattle.osc_token.specs.declared.claims.Claims.{Claims}
-use Rattle.osc_world.specs.Starts.{Beginning, minted_of}
-use Rattle.osc_device.specs.Begun.{IsBegun, own_claims}
-use Rattle.osc_device.specs.Runs.{AreOthers, IsIn, first_run}
+use Rattle.osc_world.specs.{Beginning, minted_of}
+use Rattle.osc_device.specs.{IsBegun, own_claims, AreOthers, IsIn, first_run}
 use Rattle.osc_device.specs.State.{State}
 use Rattle.osc_device.specs.declared.own_token.OwnToken.{OwnToken}
 use Rattle.osc_device.specs.declared.own_token.ServerParts.{ServerParts}

@@ -2,8 +2,7 @@
 use Rattle.std.specs.Prelude.{◌≡◌, ◌≢◌, ℕ, false, List, [], Option, Some, None}
 use Rattle.std.specs.Option.{IsSome}
 use Rattle.osc_model.specs.Refusals as refusal
-use Rattle.osc_model.specs.Apply.{apply_read}
-use Rattle.osc_model.specs.Code.{code, method_number}
+use Rattle.osc_model.specs.{apply_read, code, method_number}
 use Rattle.osc_model.specs.declared.code.Method.{Method}
 use Rattle.osc_model.specs.declared.node.Draw.{Draw}
 use Rattle.osc_model.specs.declared.node.Moment.{Moment}
@@ -11,20 +10,18 @@ use Rattle.osc_model.specs.declared.reply.Reply.{Reply}
 use Rattle.osc_model.specs.declared.request.Request.{Request}
 use Rattle.osc_model.specs.declared.step.ClientResult.TheVariants as result
 use Rattle.osc_model.specs.declared.step.Step.{Step}
-use Rattle.osc_dedup.specs.Table.{looked}
-use Rattle.osc_message.specs.Endpoint.{own_id}
-use Rattle.osc_scope.specs.Entries.{Entry}
+use Rattle.osc_dedup.specs.{looked}
+use Rattle.osc_message.specs.{own_id}
+use Rattle.osc_scope.specs.{Entry}
 use Rattle.osc_token.specs.declared.claims.Claims.{Claims}
-use Rattle.osc_ccm.specs.Ciphers.{Sealings}
-use Rattle.osc_authz.specs.Begun.{ClientContextState}
+use Rattle.osc_ccm.specs.{Sealings}
+use Rattle.osc_authz.specs.{ClientContextState}
 use Rattle.osc_authz.specs.SecurityContext.{SecurityContext}
-use Rattle.osc_client.specs.Sending.{Asked}
-use Rattle.osc_run.specs.ServerKinds.{Replies as AppliesTo}
-use Rattle.osc_options.specs.Texts.{read_request}
-use Rattle.osc_server.specs.Table.{notes_of_request}
-use Rattle.osc_rounds.specs.AskRound.{asked_text}
-use Rattle.osc_rounds.specs.ExchangeRound.{IsHeld}
-use Rattle.osc_rounds.specs.Ready.{MayAsk, MayExchange}
+use Rattle.osc_client.specs.{Asked}
+use Rattle.osc_run.specs.{Replies as AppliesTo}
+use Rattle.osc_options.specs.{read_request}
+use Rattle.osc_server.specs.{notes_of_request}
+use Rattle.osc_rounds.specs.{asked_text, IsHeld, MayAsk, MayExchange}
 use Rattle.osc_device.specs.State.{State, own_address}
 use Rattle.osc_device.specs.declared.round.Round.{Round}
 

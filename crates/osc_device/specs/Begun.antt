@@ -1,18 +1,16 @@
 -- Where a device begins: as a world does whose server is the device's, and whose one client is the device itself.
 use Rattle.std.specs.Prelude.{◌≡◌, ◌<◌, ℕ, ◌+◌, List, [], length, None}
 use Rattle.osc_authz.specs.HoldsToken.{HoldsToken}
-use Rattle.osc_cbor.specs.Spelling.{spelling}
-use Rattle.osc_client.specs.Sending.{PostIsTooLong}
-use Rattle.osc_cose.specs.Encrypt0.{object_item}
+use Rattle.osc_cbor.specs.{spelling}
+use Rattle.osc_client.specs.{PostIsTooLong}
+use Rattle.osc_cose.specs.{object_item}
 use Rattle.osc_model.specs.declared.algorithm.Algorithm.TheVariants.{EightByteTag}
-use Rattle.osc_ccm.specs.Ciphers.{Sealings}
-use Rattle.osc_scope.specs.Entries.{Entry}
-use Rattle.osc_token.specs.Minted.{HasLawfulParts}
-use Rattle.osc_token.specs.Token.{claims_item, token_object}
+use Rattle.osc_ccm.specs.{Sealings}
+use Rattle.osc_scope.specs.{Entry}
+use Rattle.osc_token.specs.{HasLawfulParts, claims_item, token_object}
 use Rattle.osc_token.specs.declared.claims.Claims.{Claims}
 use Rattle.osc_client.specs.State.{State as Client}
-use Rattle.osc_world.specs.Refusals.{Refuses}
-use Rattle.osc_world.specs.Starts.{Beginning, Enrols, IsPlaced, first_nodes}
+use Rattle.osc_world.specs.{Refuses, Beginning, Enrols, IsPlaced, first_nodes}
 use Rattle.osc_world.specs.declared.nodes.Placed.{Placed}
 use Rattle.osc_world.specs.declared.start.Holder.{Holder}
 use Rattle.osc_device.specs.State.{State, own_address, server_address}

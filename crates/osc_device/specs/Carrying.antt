@@ -1,25 +1,20 @@
 -- What a device begins goes to its server, and what that answers comes back: each a step of a node, and of a kind that a run has.
 use Rattle.std.specs.Prelude.{◌≡◌, ℕ, false, List, [], ◌∷◌, Option, Some, None}
-use Rattle.osc_model.specs.Arrival.{Arrival, read_as}
+use Rattle.osc_model.specs.{read_as}
+use Rattle.osc_model.specs.Arrival.{Arrival}
 use Rattle.osc_model.specs.declared.node.Draw.{Draw}
 use Rattle.osc_model.specs.declared.node.Moment.{Moment}
 use Rattle.osc_model.specs.declared.request.Request.{Request}
 use Rattle.osc_model.specs.declared.step.Datagram.{Datagram}
 use Rattle.osc_model.specs.declared.step.Step.{Step}
-use Rattle.osc_message.specs.Heard.{heard as heard_as}
-use Rattle.osc_message.specs.Received.{Receives}
+use Rattle.osc_message.specs.{heard as heard_as, Receives}
 use Rattle.osc_message.specs.declared.received.Received.{Received}
-use Rattle.osc_ccm.specs.Ciphers.{Sealings, Tags}
-use Rattle.osc_run.specs.ClientKinds.{ClientStep}
-use Rattle.osc_run.specs.Nodes.{Came}
-use Rattle.osc_client.specs.Hearing.{Requests}
-use Rattle.osc_client.specs.Sending.{Asked}
-use Rattle.osc_client.specs.State.{State as Client, core as client_core}
-use Rattle.osc_client.specs.Steps.{IsStep as IsClientStep}
-use Rattle.osc_client.specs.Table.{TakesMemory}
-use Rattle.osc_server.specs.Case.{IsAnswered}
+use Rattle.osc_ccm.specs.{Sealings, Tags}
+use Rattle.osc_run.specs.{ClientStep, Came}
+use Rattle.osc_client.specs.{Requests, Asked, core as client_core, IsStep as IsClientStep, TakesMemory}
+use Rattle.osc_client.specs.State.{State as Client}
+use Rattle.osc_server.specs.{IsAnswered, IsStep as IsServerStep}
 use Rattle.osc_server.specs.State.{State as Server}
-use Rattle.osc_server.specs.Steps.{IsStep as IsServerStep}
 use Rattle.osc_device.specs.State.{State, own_address, server_address}
 use Rattle.osc_device.specs.declared.round.Round.{Round}
 

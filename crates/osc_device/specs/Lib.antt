@@ -5,3 +5,9 @@ pub mod Answered
 pub mod Begun
 pub mod Runs
 pub mod Words
+pub use Answered.{IsAnswered, IsAnsweredWhereReady, IsOpen, IsReady, IsWhole, MayOpen, own_request}
+pub use Begun.{IsBegun, IsGranted, IsNoDevice, IsTooLongToPost, own_claims, own_holder, server_alone}
+pub use Carrying.{AskedOfServer, AsksItsServer, Carries, ClientTakesMemory, ComesBack, Reaches, ServerTakesMemory, asked_by, at_device, at_server}
+pub use Runs.{AllGoOn, AreOthers, GoesOn, IsIn, IsOfAnEntry, IsTold, first_run, noted, of_own, of_server, restarts}
+pub use State.{own_address, server_address}
+pub use Words.{Holder, ServedRequest, refused_in, served_as, served_in}

@@ -1,21 +1,17 @@
 -- The runs that a device is in: its server is the run's, and the device itself one of the clients, beside whoever else holds a token.
 use Rattle.std.specs.Prelude.{◌≡◌, ◌≢◌, ℕ, false, List, [], ◌∷◌, ◌++◌, Option, Some, None, slice_get}
-use Rattle.osc_model.specs.Isolation.{HaveOwnPaths, IsIsolated}
-use Rattle.osc_model.specs.StepNotes.{quiet}
+use Rattle.osc_model.specs.{HaveOwnPaths, IsIsolated, quiet}
 use Rattle.osc_model.specs.Tree.{Tree}
 use Rattle.osc_model.specs.declared.step.ClientResult.TheVariants as result
 use Rattle.osc_model.specs.declared.reply.Reply.{Reply}
 use Rattle.osc_model.specs.declared.step.Step.{Step}
-use Rattle.osc_authz.specs.Members.{In}
-use Rattle.osc_client.specs.State.{core as client_core}
-use Rattle.osc_run.specs.History.{Acceptance, history}
-use Rattle.osc_run.specs.Notes.{Noted, by_client, by_server}
-use Rattle.osc_run.specs.OneHistory.{IsReplyOfRequest, OneHistory}
+use Rattle.osc_authz.specs.{In}
+use Rattle.osc_client.specs.{core as client_core}
+use Rattle.osc_run.specs.{Acceptance, history, Noted, by_client, by_server, IsReplyOfRequest, IsNewClient, IsReached, IsTextOf, ClientState, Minted, WorldState, grants_of}
+use Rattle.osc_run.specs.OneHistory.{OneHistory}
 use Rattle.osc_run.specs.Premise.{Premise}
-use Rattle.osc_run.specs.Runs.{IsNewClient, IsReached, IsTextOf}
-use Rattle.osc_run.specs.States.{ClientState, Minted, WorldState, grants_of}
-use Rattle.osc_options.specs.Texts.{read_request}
-use Rattle.osc_server.specs.State.{core as server_core}
+use Rattle.osc_options.specs.{read_request}
+use Rattle.osc_server.specs.{core as server_core}
 use Rattle.osc_device.specs.State.{State}
 use Rattle.osc_device.specs.declared.round.Round.{Round}
 

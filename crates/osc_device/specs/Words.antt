@@ -1,6 +1,6 @@
 -- What a step of a server did, as a device tells it.
 use Rattle.std.specs.Prelude.{ℕ, List, [], ◌∷◌, Option, Some, None, Result, Ok, Err, option_map}
-use Rattle.osc_model.specs.Code.{method_of}
+use Rattle.osc_model.specs.{method_of}
 use Rattle.osc_model.specs.StepNotes.{StepNotes}
 use Rattle.osc_model.specs.declared.code.Code.{Code}
 use Rattle.osc_model.specs.declared.code.Method.{Method}
@@ -11,7 +11,7 @@ use Rattle.osc_model.specs.declared.step.Datagram.{Datagram}
 use Rattle.osc_model.specs.declared.step.Entry.{Entry}
 use Rattle.osc_model.specs.declared.step.RefusedRequest.{RefusedRequest}
 use Rattle.osc_model.specs.declared.step.Step.{Step}
-use Rattle.osc_options.specs.Texts.{read_request}
+use Rattle.osc_options.specs.{read_request}
 
 -- ---- a protected request that was served
 

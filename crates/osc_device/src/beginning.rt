@@ -2,8 +2,7 @@
 ghost use Rattle.std.specs.Prelude.{◌≡◌, ◌∷◌, ◌<◌, ◌^◌, [], IfErr, IfOk, OnOk, length};
 ghost use Rattle.std.specs.Str.{IsUtf8};
 ghost use Rattle.osc_client.specs.State.{State as AnyClient};
-ghost use Rattle.osc_world.specs.Refusals.{IsLawful, Refuses};
-ghost use Rattle.osc_world.specs.Starts.{Enrols, first_nodes};
+ghost use Rattle.osc_world.specs.{IsLawful, Refuses, Enrols, first_nodes};
 ghost use Rattle.osc_world.specs.declared.nodes.Placed.{Placed as AnyPlaced};
 ghost use Rattle.osc_device.specs.Begun.{own_claims, own_holder as own_holder_of, server_alone as server_alone_of};
 ghost use Rattle.osc_device.specs.declared.own_token.ServerParts.{ServerParts as AnyParts};

@@ -1,25 +1,19 @@
 //! The device.
 ghost use Rattle.std.specs.Prelude.{◌≡◌, ◌≢◌, ◌∷◌, ◌<◌, ◌≤◌, ◌↔◌, true, false, [], List, None, Some, length, IfErr, IfNone, IfOk, IfSome, OnErr};
 ghost use Rattle.osc_model.specs.Refusals as refusal;
-ghost use Rattle.osc_scope.specs.Entries.{Entry, IsScope};
+ghost use Rattle.osc_scope.specs.{Entry, IsScope};
 ghost use Rattle.osc_token.specs.declared.claims.Claims.{Claims as AnyClaims};
-ghost use Rattle.osc_client.specs.Hearing.{Begins};
-ghost use Rattle.osc_client.specs.Sending.{PostFits, acts_at, restarted};
-ghost use Rattle.osc_client.specs.State.{State as Own, core as own_core};
-ghost use Rattle.osc_client.specs.Steps.{IsStep as IsOwnStep};
-ghost use Rattle.osc_run.specs.ClientKinds.{ClientStep};
-ghost use Rattle.osc_run.specs.Nodes.{Came, Due};
-ghost use Rattle.osc_run.specs.Notes.{by_server};
-ghost use Rattle.osc_run.specs.ServerKinds.{ServerStep};
-ghost use Rattle.osc_server.specs.State.{core};
-ghost use Rattle.osc_server.specs.Steps.{IsStep, again};
-ghost use Rattle.osc_model.specs.StepNotes.{quiet};
+ghost use Rattle.osc_client.specs.{Begins, PostFits, acts_at, restarted, core as own_core, IsStep as IsOwnStep};
+ghost use Rattle.osc_client.specs.State.{State as Own};
+ghost use Rattle.osc_run.specs.{ClientStep, Came, Due, by_server, ServerStep};
+ghost use Rattle.osc_server.specs.{core, IsStep, again};
+ghost use Rattle.osc_model.specs.{quiet};
 ghost use Rattle.osc_model.specs.declared.node.Draw.{Draw as AnyDraw};
 ghost use Rattle.osc_model.specs.declared.node.Moment.{Moment as AnyMoment};
-ghost use Rattle.osc_message.specs.Endpoint.{after_tick, fresh};
-ghost use Rattle.osc_authz.specs.Begun.{ClientContextState};
+ghost use Rattle.osc_message.specs.{after_tick, fresh};
+ghost use Rattle.osc_authz.specs.{ClientContextState};
 ghost use Rattle.osc_authz.specs.SecurityContext.{SecurityContext};
-ghost use Rattle.osc_rounds.specs.AskRound.{IsLawfulServer};
+ghost use Rattle.osc_rounds.specs.{IsLawfulServer};
 ghost use Rattle.osc_model.specs.declared.step.ClientResult.TheVariants as result_of;
 ghost use Rattle.osc_model.specs.declared.code.Method.TheVariants.{Delete, Get, Post, Put};
 ghost use Rattle.osc_device.specs.Answered.{IsAnsweredWhereReady, IsOpen, IsWhole, MayOpen, own_request as own_request_of};
@@ -63,9 +57,8 @@ impl Drop for Device {
 impl Model for Device {
     ghost use Rattle.std.specs.Prelude.{◌≡◌, None};
     ghost use Rattle.std.specs.Coded.{codes};
-    ghost use Rattle.osc_model.specs.Scope.{coded_scope};
-    ghost use Rattle.osc_model.specs.Tree.{coded_tree};
-    ghost use Rattle.osc_client.specs.Sending.{PostFits};
+    ghost use Rattle.osc_model.specs.{coded_scope, coded_tree};
+    ghost use Rattle.osc_client.specs.{PostFits};
     ghost use Rattle.osc_device.specs.State.{State, server_address};
 
     ghost Value = { State };

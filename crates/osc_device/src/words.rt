@@ -1,6 +1,6 @@
 //! What a step of a server did, in the words of whoever made the device.
 ghost use Rattle.std.specs.Prelude.{◌≡◌, IfOk, option_map};
-ghost use Rattle.osc_options.specs.Texts.{read_request};
+ghost use Rattle.osc_options.specs.{read_request};
 ghost use Rattle.osc_device.specs.Words.{holder_of as holder_of_entry, refused_in, request_in as request_in_of, served_by as served_by_of, served_in};
 
 use osc_model::{ContextName, Entry, Method, Path, Peer, RefusedRequest, Reply, Request, Step};

@@ -1,7 +1,7 @@
 //! What a holder wants, as the lock reads it from what a step served.
 ghost use Rattle.std.specs.Prelude.{◌≡◌, ◌↔◌, ◌++◌, IfNone, IfOk, IfSome, IsTrue, Some, codes, option_map};
 ghost use Rattle.osc_model.specs.declared.code.Method.TheVariants.{Put};
-ghost use Rattle.osc_device.specs.Words.{ServedRequest, served_in};
+ghost use Rattle.osc_device.specs.{ServedRequest, served_in};
 ghost use Rattle.osc_example.specs.Inner.Bolt.{bolt_word, wanted_word};
 ghost use Rattle.osc_example.specs.Inner.Place.{text_of};
 ghost use Rattle.osc_example.specs.Inner.Wish.{IsDone, IsWish, name_in};

@@ -8,8 +8,7 @@ use Rattle.std.proofs.lemmas.Slice.{between_is, take-put_mid}
 use Rattle.std.specs.List.{between, flat_map, range_with_len}
 use Rattle.std.specs.Int.{div_ceil}
 use Rattle.sha2.proofs.Facts256.{length-sha256}
-use Rattle.osc_hkdf.specs.Hmac.{hmac_of}
-use Rattle.osc_hkdf.specs.Hkdf.{extract_of, salt_or_zeros, output_block, output_blocks, expand_of}
+use Rattle.osc_hkdf.specs.{hmac_of, extract_of, salt_or_zeros, output_block, output_blocks, expand_of}
 use borrow.Rule.Slice.PartMut.{put_mid, same_len_mid}
 
 pub length-hmac_of : (key text : List ℕ) → length (hmac_of key text) ≡ 32

@@ -1,6 +1,6 @@
 -- How a lab ends.
 use Rattle.std.proofs.Common.{◌≢◌}
-use Rattle.osc_programs.specs.Ended.{CannotLab, EndsLab, IsFault}
+use Rattle.osc_programs.specs.{CannotLab, EndsLab, IsFault}
 use Rattle.osc_programs.specs.declared.ended.Ended.{Ended}
 use Rattle.osc_programs.specs.declared.ended.Ended.TheVariants.{Done, BadCommandLine, BadLine, BadSettings, OutOfMemory, Failed, PortFailed, NotDone}
 

@@ -1,7 +1,8 @@
 -- A lab's steps are those of a run.
 use Rattle.osc_model.specs.Tree.{Tree}
-use Rattle.osc_run.specs.Runs.{IsReached}
-use Rattle.osc_lab.specs.Lab.{Lab, Leads, goes, run_of, stays}
+use Rattle.osc_run.specs.{IsReached}
+use Rattle.osc_lab.specs.{Leads, goes, run_of, stays}
+use Rattle.osc_lab.specs.Lab.{Lab}
 
 pub reached : (first : Tree) (old new : Lab) → Leads old new → IsReached (run_of first old) → IsReached (run_of first new)
 reached first old _ stays begun = begun

@@ -10,45 +10,36 @@ use Rattle.std.specs.Option.{IfSome}
 use Rattle.std.specs.Prelude.{◌↔◌, ◌==◌, IsErrAnd, IsSome, IsTrue, option_map, slice_get, slice_set, option_to_list}
 use Rattle.std.specs.Io.KnownBytes.{Appends}
 use Rattle.osc_client.specs.Hearing as hearing
-use Rattle.osc_client.specs.Sending.{acts_at}
-use Rattle.osc_client.specs.State.{State as Client, core}
-use Rattle.osc_client.specs.Steps.{IsStep as IsStepOfClient}
+use Rattle.osc_client.specs.{acts_at, core, IsStep as IsStepOfClient}
+use Rattle.osc_client.specs.State.{State as Client}
 use Rattle.osc_proxy.specs.State.{State as Proxy}
-use Rattle.osc_proxy.specs.Steps.{IsStep as IsStepOfProxy}
-use Rattle.osc_server.specs.State.{State as Server, core as core_of_server}
-use Rattle.osc_server.specs.Steps.{IsStep as IsStepOfServer}
+use Rattle.osc_proxy.specs.{IsStep as IsStepOfProxy}
+use Rattle.osc_server.specs.{core as core_of_server, IsStep as IsStepOfServer}
+use Rattle.osc_server.specs.State.{State as Server}
 use Rattle.osc_model.specs.StepNotes.{StepNotes}
 use Rattle.osc_model.specs.declared.request.Request.{Request}
 use Rattle.osc_model.specs.declared.step.Step.{Step}
 use Rattle.osc_model.specs.declared.node.Draw.{Draw}
 use Rattle.osc_model.specs.declared.node.Moment.{Moment}
-use Rattle.osc_run.specs.ClientKinds.{ClientStep}
-use Rattle.osc_run.specs.History.{history}
-use Rattle.osc_run.specs.Nodes.{Cause, moment_of}
+use Rattle.osc_run.specs.{ClientStep, history, Cause, moment_of, Kept, Noted, by_client, by_proxy, by_server, IsReached, WorldStep, OfServer as ByTheServer, OfClient as ByTheClient, OfProxy as ByTheProxy, ClientState, Minted, WorldState}
 use Rattle.osc_run.specs.Premise.{Premise}
-use Rattle.osc_run.specs.Notes.{Kept, Noted, by_client, by_proxy, by_server}
 use Rattle.osc_run.specs.declared.noted.Actor.{Actor}
 use Rattle.osc_run.specs.declared.noted.Actor.TheVariants.{Proxy as ByProxy, Server as ByServer}
-use Rattle.osc_run.specs.Runs.{IsReached, WorldStep, OfServer as ByTheServer, OfClient as ByTheClient, OfProxy as ByTheProxy}
-use Rattle.osc_run.specs.States.{ClientState, Minted, WorldState}
-use Rattle.osc_script.specs.Script.{IsScript}
+use Rattle.osc_script.specs.{IsScript}
 use Rattle.osc_script.specs.declared.client_name.ClientName.{ClientName}
 use Rattle.osc_script.specs.declared.line.Line.{Line}
 use Rattle.osc_script.specs.declared.line.Line.TheVariants.{Exchange, Ask}
-use Rattle.osc_world.specs.Nodes.{Ask as Asks, ClientTask, Deed, Do, NodeStates, Nothing, OfClient, Take}
-use Rattle.osc_world.specs.Steps.{a_node}
+use Rattle.osc_world.specs.{Ask as Asks, ClientTask, Deed, Do, NodeStates, Nothing, OfClient, Take, a_node}
 use Rattle.osc_world.specs.declared.nodes.Placed.{Placed}
 use Rattle.osc_world.specs.declared.nodes.Whose.{Whose}
 use Rattle.osc_world.specs.declared.nodes.Whose.TheVariants as whose
-use Rattle.osc_turn.specs.Ports.{cause_of}
-use Rattle.osc_simulation.specs.Names.{granted, name_of_number}
-use Rattle.osc_simulation.specs.Simulation.{is_sealing, tag_of}
-use Rattle.osc_simulation.specs.Trace.{end_text}
-use Rattle.osc_programs.specs.Ended.{IsFault}
+use Rattle.osc_turn.specs.{cause_of}
+use Rattle.osc_simulation.specs.{granted, name_of_number, is_sealing, tag_of, end_text}
+use Rattle.osc_programs.specs.{IsFault, Running, TakesTurn}
 use Rattle.osc_lab.specs.Inner.Telling.{Begins, BeginsBy, Did, DidTask, IsUntold, LearnsNothing, Observed, Stayed, Stops, Tells, TookTurn, TookTurnOrStayed}
-use Rattle.osc_lab.specs.Lab.{BreaksOff, EndsWith, Lab, Learnt, Rules, learnt, learnt_by, all_told, Goes, Leads, stays, goes, LineBegins, TellsLine, TellsLines, ComesOf, Turn, Turns, WholeTurn, WholeTurns, Prints, client_of, deed_of, is_waiting, rules_of, run_of, task_of}
+use Rattle.osc_lab.specs.{BreaksOff, EndsWith, Learnt, Rules, learnt, learnt_by, all_told, Goes, Leads, stays, goes, LineBegins, TellsLine, TellsLines, ComesOf, Turn, Turns, WholeTurn, WholeTurns, Prints, client_of, deed_of, is_waiting, rules_of, run_of, task_of}
+use Rattle.osc_lab.specs.Lab.{Lab}
 use Rattle.osc_lab.specs.Lab as lab
-use Rattle.osc_programs.specs.Turning.{Running, TakesTurn}
 use Rattle.osc_programs.specs.declared.ended.Ended.{Ended}
 use Rattle.osc_lab.proofs.Appended.{appends_more}
 

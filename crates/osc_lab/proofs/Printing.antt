@@ -1,6 +1,6 @@
 -- The pieces of a line, one behind the other.
 use Rattle.std.proofs.Common.{◌≡◌, ℕ, List, [], ◌∷◌, ◌++◌, append_assoc, codes}
-use Rattle.osc_simulation.specs.Text.{line}
+use Rattle.osc_simulation.specs.{line}
 
 pub learnt_pieces : (client learnt learnt-is : List ℕ) → learnt ≡ learnt-is
     → client ++ (codes " " ++ (learnt ++ 10 ∷ [])) ≡ line (client ++ codes " " ++ learnt-is)

@@ -7,36 +7,23 @@ use Rattle.osc_model.specs.Tree.{Tree}
 use Rattle.osc_model.specs.declared.node.Draw.{Draw}
 use Rattle.osc_model.specs.declared.node.Moment.{Moment}
 use Rattle.osc_model.specs.declared.step.ClientResult.{ClientResult}
-use Rattle.osc_run.specs.History.{history}
-use Rattle.osc_run.specs.Nodes.{Cause}
-use Rattle.osc_run.specs.Notes.{Noted, collected}
+use Rattle.osc_run.specs.{history, Cause, Noted, collected, IsReached, Minted, WorldState}
 use Rattle.osc_run.specs.Premise.{Premise}
-use Rattle.osc_run.specs.Runs.{IsReached}
-use Rattle.osc_run.specs.States.{Minted, WorldState}
 use Rattle.osc_run.specs.declared.noted.Actor.{Actor}
 use Rattle.osc_run.specs.declared.noted.Actor.TheVariants.{Client as ByClient}
 use Rattle.osc_client.specs.State.{State as Client}
-use Rattle.osc_script.specs.Script.{IsScript}
+use Rattle.osc_script.specs.{IsScript}
 use Rattle.osc_script.specs.declared.client_name.ClientName.{ClientName}
 use Rattle.osc_script.specs.declared.line.Line.{Line}
 use Rattle.osc_script.specs.declared.line.Line.TheVariants.{Exchange, Ask}
-use Rattle.osc_world.specs.Log.{steps_with}
-use Rattle.osc_world.specs.Nodes.{Begin, ClientTask, Ask as Asks, Deed, NodeStates, Nothing, OfClient, Take, deed_by}
-use Rattle.osc_world.specs.Starting.{AreParts}
-use Rattle.osc_world.specs.Starts.{Beginning}
-use Rattle.osc_world.specs.Steps.{Takes}
-use Rattle.osc_world.specs.Worlds.{run_with}
+use Rattle.osc_world.specs.{steps_with, Begin, ClientTask, Ask as Asks, Deed, NodeStates, Nothing, OfClient, Take, deed_by, AreParts, Beginning, Takes, run_with}
 use Rattle.osc_world.specs.declared.nodes.Placed.{Placed}
 use Rattle.osc_world.specs.declared.nodes.Taken.{Taken}
 use Rattle.osc_world.specs.declared.nodes.Whose.{Whose}
 use Rattle.osc_world.specs.declared.nodes.Whose.TheVariants as whose
 use Rattle.osc_world.specs.declared.start.Parts.{Parts}
-use Rattle.osc_simulation.specs.Names.{granted, name_of_number, number_of}
-use Rattle.osc_simulation.specs.Records.{learnt_text}
-use Rattle.osc_simulation.specs.Simulation.{IsStartOf, is_sealing, tag_of}
-use Rattle.osc_simulation.specs.Text.{line}
-use Rattle.osc_simulation.specs.Trace.{end_text}
-use Rattle.osc_programs.specs.Ended.{IsFault}
+use Rattle.osc_simulation.specs.{granted, name_of_number, number_of, learnt_text, IsStartOf, is_sealing, tag_of, line, end_text}
+use Rattle.osc_programs.specs.{IsFault}
 use Rattle.osc_programs.specs.declared.ended.Ended.{Ended}
 use Rattle.osc_programs.specs.declared.ended.Ended.TheVariants.{Failed}
 

@@ -3,7 +3,7 @@
 ghost use Rattle.osc_model.specs.Tree.{Tree as AnyTree};
 ghost use Rattle.osc_run.specs.OneHistory.{OneHistory};
 ghost use Rattle.osc_run.specs.Premise.{Premise};
-ghost use Rattle.osc_run.specs.Runs.{IsReached};
+ghost use Rattle.osc_run.specs.{IsReached};
 ghost use Rattle.osc_lab.specs.Lab.{Lab, Leads, run_of};
 
 use osc_run::laws::one_history;

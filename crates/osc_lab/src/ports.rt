@@ -6,7 +6,7 @@ use crate::port::{AddressMap, Known, LabPort};
 use osc_model::Peer;
 use osc_programs::{Ended, UdpPort, bound};
 use osc_script::Node;
-use osc_turn::{Pace, Port, ClockAndRandom, Watch};
+use osc_turn::{ClockAndRandom, Pace, Port, Watch};
 use osc_world::{Parts, Placed};
 use std::alloc::Global;
 use std::net::Net;

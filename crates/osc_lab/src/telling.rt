@@ -1,8 +1,7 @@
 //! The lines that a lab tells.
 ghost use Rattle.std.specs.Prelude.{◌≡◌, ◌++◌, Some, IfErr, IfOk, OnOk, codes, option_map, option_to_list, string_bytes};
 ghost use Rattle.std.specs.Io.KnownBytes.{Appends};
-ghost use Rattle.osc_simulation.specs.Records.{learnt_text};
-ghost use Rattle.osc_simulation.specs.Text.{line};
+ghost use Rattle.osc_simulation.specs.{learnt_text, line};
 ghost use Rattle.osc_lab.specs.Inner.Telling as inner;
 ghost use Rattle.osc_lab.specs.Lab as spec;
 

@@ -4,16 +4,14 @@ use Rattle.std.specs.Prelude.{option_and_then}
 use Rattle.osc_model.specs.declared.bytes.Bytes.{Bytes}
 use Rattle.osc_model.specs.declared.node.Moment.{Moment}
 use Rattle.osc_model.specs.declared.node.Peer.{Peer}
-use Rattle.osc_coap.specs.Code.{is_request_code}
-use Rattle.osc_coap.specs.Message.{HasSpelling, Message as CoapMessage}
+use Rattle.osc_coap.specs.{is_request_code, HasSpelling}
+use Rattle.osc_coap.specs.Message.{Message as CoapMessage}
 use Rattle.osc_coap.specs.declared.kind.Kind.{Kind}
 use Rattle.osc_coap.specs.declared.kind.Kind.TheVariants.{Confirmable, NonConfirmable, Acknowledgement, Reset as ResetKind}
-use Rattle.osc_dedup.specs.Table.{Entry, looked}
+use Rattle.osc_dedup.specs.{Entry, looked}
 use Rattle.osc_dedup.specs.declared.table.Noted.{Noted}
 use Rattle.osc_message.specs.Heard as heard_of
-use Rattle.osc_message.specs.Heard.{AnswersAlone, IsAlone, empty_heard, heard, ignores, is_reserved, new_or_repeated, noted_reply, rejected, rejects, repeats}
-use Rattle.osc_message.specs.Received.{HasShortId, Receives}
-use Rattle.osc_message.specs.Sending.{rejection, reset}
+use Rattle.osc_message.specs.{AnswersAlone, IsAlone, empty_heard, heard, ignores, is_reserved, new_or_repeated, noted_reply, rejected, rejects, repeats, HasShortId, Receives, rejection, reset}
 use Rattle.osc_message.specs.declared.heard.Heard.{Heard}
 use Rattle.osc_message.specs.declared.heard.Heard.TheVariants.{Alone, Empty, Message}
 use Rattle.osc_message.specs.declared.received.Received.{Received}

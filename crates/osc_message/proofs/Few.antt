@@ -4,10 +4,8 @@ use Rattle.std.specs.List.{filter_map}
 use Rattle.osc_model.specs.declared.node.Moment.{Moment}
 use Rattle.osc_message.specs.declared.due.Due.{Due}
 use Rattle.osc_message.specs.declared.due.Due.TheVariants.{Keep, Send, GiveUp}
-use Rattle.osc_message.specs.Confirmables.{Open}
+use Rattle.osc_message.specs.{Open, GoesOut, due_of, dues, datagram_of, tick_sends}
 use Rattle.osc_model.specs.declared.step.Datagram.{Datagram}
-use Rattle.osc_message.specs.Sending.{GoesOut}
-use Rattle.osc_message.specs.Ticks.{due_of, dues, datagram_of, tick_sends}
 
 -- what is due of one more message sends one datagram more at most
 one_more : (message : Open) (due : Due) (pairs : List (Open × Due)) (n : ℕ)

@@ -5,9 +5,7 @@ use Rattle.osc_model.specs.declared.node.Moment.{Moment}
 use Rattle.osc_model.specs.declared.node.Peer.{Peer}
 use Rattle.osc_message.specs.declared.due.Due.{Due}
 use Rattle.osc_message.specs.declared.due.Due.TheVariants.{Keep, Send, GiveUp}
-use Rattle.osc_message.specs.Confirmables.{Sent, Open, is_to, is_outstanding, has_open, has_outstanding, peers_of}
-use Rattle.osc_message.specs.Ticks.{outstanding_due, due_of, dues, given_up_of, tick_gives_up}
-use Rattle.osc_message.specs.Limits.{IsWithinLimits}
+use Rattle.osc_message.specs.{Sent, Open, is_to, is_outstanding, has_open, has_outstanding, peers_of, outstanding_due, due_of, dues, given_up_of, tick_gives_up, IsWithinLimits}
 use Rattle.osc_message.proofs.Limits.{count, count_is, goes_to, no_more_peers, open_filter}
 use Rattle.osc_message.proofs.Peers.{same_peer_equiv, length_peers, weight}
 

@@ -4,8 +4,7 @@ use Rattle.std.specs.List.{filter_map, cons_option, list_any}
 use Rattle.osc_model.specs.declared.node.Moment.{Moment}
 use Rattle.osc_message.specs.declared.due.Due.{Due}
 use Rattle.osc_message.specs.declared.due.Due.TheVariants.{Keep, Send, GiveUp}
-use Rattle.osc_message.specs.Confirmables.{Open}
-use Rattle.osc_message.specs.Ticks.{dues, dues_of, datagram_of, given_up_of, after, ticked, tick_sends, tick_gives_up, is_kept, acts}
+use Rattle.osc_message.specs.{Open, dues, dues_of, datagram_of, given_up_of, after, ticked, tick_sends, tick_gives_up, is_kept, acts}
 
 -- what comes of messages that are kept, where nothing comes of one
 none_of : {X : Type 0} (f : Open × Due → Option X) → ((message : Open) → f (message, Keep) ≡ None) → (pairs : List (Open × Due))

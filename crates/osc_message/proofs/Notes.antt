@@ -7,15 +7,12 @@ use Rattle.std.proofs.lemmas.List.Elements.{All-nil, All-head, All-tail, All-pus
 use Rattle.osc_coap.specs.declared.kind.Kind.{Kind}
 use Rattle.osc_coap.specs.declared.kind.Kind.TheVariants.{Confirmable, NonConfirmable, Acknowledgement, Reset}
 use Rattle.osc_dedup.specs.declared.table.Noted.{Noted}
-use Rattle.osc_dedup.specs.Table.{most_entries, Entry, is_alive, is_of, staying, with_note, alive, looked}
+use Rattle.osc_dedup.specs.{most_entries, Entry, is_alive, is_of, staying, with_note, alive, looked}
 use Rattle.osc_model.specs.declared.bytes.Bytes.{Bytes}
 use Rattle.osc_model.specs.declared.node.Moment.{Moment}
 use Rattle.osc_model.specs.declared.node.Peer.{Peer}
 use Rattle.osc_model.specs.declared.step.Datagram.{Datagram}
-use Rattle.osc_message.specs.Bounds.{AreShort}
-use Rattle.osc_message.specs.Endpoint.{noted}
-use Rattle.osc_message.specs.Heard.{noted_reply}
-use Rattle.osc_message.specs.Sending.{AreSendable, FitsDatagram, IsSendableReply}
+use Rattle.osc_message.specs.{AreShort, noted, noted_reply, AreSendable, FitsDatagram, IsSendableReply}
 
 abbrev IsShort : Entry → Type 0
 IsShort entry = IsSendableReply entry.noted.reply

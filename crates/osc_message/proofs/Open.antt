@@ -4,8 +4,7 @@ use Rattle.std.specs.List.{All}
 use Rattle.std.proofs.lemmas.List.{take_more, take_all}
 use Rattle.std.proofs.lemmas.List.Elements.{All-head, All-tail, All-push}
 use Rattle.osc_model.specs.declared.node.Peer.{Peer}
-use Rattle.osc_message.specs.Confirmables.{Open, is_to, is_outstanding, has_outstanding}
-use Rattle.osc_message.specs.Queue.{AreMarked, IsIdle, messages}
+use Rattle.osc_message.specs.{Open, is_to, is_outstanding, has_outstanding, AreMarked, IsIdle, messages}
 use Rattle.osc_message.specs.declared.queued.Queued.{Queued}
 use Rattle.osc_message.proofs.Peers.{same_peer_equiv}
 

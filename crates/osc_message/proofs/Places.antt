@@ -5,9 +5,7 @@ use Rattle.std.specs.Option.{option_to_list}
 use Rattle.osc_model.specs.declared.node.Moment.{Moment}
 use Rattle.osc_message.specs.declared.due.Due.{Due}
 use Rattle.osc_message.specs.declared.due.Due.TheVariants.{Keep, Send, GiveUp}
-use Rattle.osc_message.specs.Confirmables.{Sent, Open}
-use Rattle.osc_message.specs.Ticks.{outstanding_due, due_of, dues, dues_of, sent_again, after, ticked}
-use Rattle.osc_message.specs.Schedule.{done_at, done_over, first_done, done_among}
+use Rattle.osc_message.specs.{Sent, Open, outstanding_due, due_of, dues, dues_of, sent_again, after, ticked, done_at, done_over, first_done, done_among}
 use Rattle.osc_message.proofs.Walk.{cons_option_is}
 
 append_nil : (xs : List Open) → xs ++ [] ≡ xs

@@ -3,9 +3,7 @@ use Rattle.std.proofs.Common.{◌≡◌, ℕ, ◌≤◌, Bool, true, false, cond
 use Rattle.osc_model.specs.declared.node.Moment.{Moment}
 use Rattle.osc_message.specs.declared.due.Due.{Due}
 use Rattle.osc_message.specs.declared.due.Due.TheVariants.{Keep, Send, GiveUp}
-use Rattle.osc_message.specs.Confirmables.{Sent, Open}
-use Rattle.osc_message.specs.Ticks.{due_at, sent_again}
-use Rattle.osc_message.specs.Schedule.{done_at, done_over, on_first, schedule, is_sending}
+use Rattle.osc_message.specs.{Sent, Open, due_at, sent_again, done_at, done_over, on_first, schedule, is_sending}
 
 -- one more retransmission, where there are any left
 sends : (message : Open) (sent : Sent) → ltb sent.repeats 4 ≡ true → (does : Moment → List Moment → List (Moment × Due))

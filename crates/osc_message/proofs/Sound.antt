@@ -8,11 +8,8 @@ use Rattle.osc_model.specs.declared.node.Moment.{Moment}
 use Rattle.osc_model.specs.declared.node.Peer.{Peer}
 use Rattle.osc_message.specs.declared.due.Due.{Due}
 use Rattle.osc_message.specs.declared.due.Due.TheVariants.{Keep, Send, GiveUp}
-use Rattle.osc_message.specs.Confirmables.{Sent, Open, has_open, takes, sent_at, with_open}
+use Rattle.osc_message.specs.{Sent, Open, has_open, takes, sent_at, with_open, FitsDatagram, AreSendable, GoesOut, datagram_of, tick_sends, due_at, due_of, dues, dues_of, sent_again, after, ticked, most_open, IsBoundedSent, IsBounded, IsSound}
 use Rattle.osc_model.specs.declared.step.Datagram.{Datagram}
-use Rattle.osc_message.specs.Sending.{FitsDatagram, AreSendable, GoesOut}
-use Rattle.osc_message.specs.Ticks.{datagram_of, tick_sends, due_at, due_of, dues, dues_of, sent_again, after, ticked}
-use Rattle.osc_message.specs.Bounds.{most_open, IsBoundedSent, IsBounded, IsSound}
 use Rattle.osc_message.proofs.Limits.{limits_nil, limits_filter, limits_push, limits_ticked, most_messages}
 
 -- ---- what is due of each, beside the messages

@@ -5,10 +5,7 @@ use Rattle.std.proofs.lemmas.List.Elements.{All-tail}
 use Rattle.std.specs.List.{All, filter_map, zip, cons_option}
 use Rattle.std.specs.Option.{option_to_list}
 use Rattle.osc_model.specs.declared.node.Moment.{Moment}
-use Rattle.osc_message.specs.Confirmables.{Open}
-use Rattle.osc_message.specs.Bounds.{IsBounded}
-use Rattle.osc_message.specs.Queue.{messages}
-use Rattle.osc_message.specs.Ticks.{after}
+use Rattle.osc_message.specs.{Open, IsBounded, messages, after}
 use Rattle.osc_message.specs.declared.queued.Queued.{Queued}
 use Rattle.osc_message.specs.declared.due.Due.{Due}
 

@@ -4,7 +4,7 @@ use Rattle.std.specs.List.{All}
 use Rattle.osc_model.specs.declared.node.Moment.{Moment}
 use Rattle.osc_message.specs.Confirmables.{Sent, Open}
 use Rattle.osc_message.specs.Limits.{IsWithinLimits}
-use Rattle.osc_dedup.specs.Table.{Entry}
+use Rattle.osc_dedup.specs.{Entry}
 use Rattle.osc_message.specs.Sending.{FitsDatagram, IsSendableReply}
 use Rattle.osc_message.specs.Ticks.{most_repeats}
 

@@ -1,13 +1,13 @@
 -- The state of a node's message layer, and what each call makes of it (RFC 7252 section 4).
 use Rattle.std.specs.Prelude.{ℕ, ◌+◌, ◌%◌, List, [], Option, Some, None}
-use Rattle.osc_model.specs.Draw.{message_id_drawn}
+use Rattle.osc_model.specs.{message_id_drawn}
 use Rattle.osc_model.specs.declared.bytes.Bytes.{Bytes}
 use Rattle.osc_model.specs.declared.node.Draw.{Draw}
 use Rattle.osc_model.specs.declared.node.Moment.{Moment}
 use Rattle.osc_model.specs.declared.node.Peer.{Peer}
 use Rattle.osc_coap.specs.declared.kind.Kind.{Kind}
 use Rattle.osc_coap.specs.declared.kind.Kind.TheVariants.{Confirmable, Acknowledgement, Reset as ResetKind}
-use Rattle.osc_dedup.specs.Table.{Entry, alive, with_note}
+use Rattle.osc_dedup.specs.{Entry, alive, with_note}
 use Rattle.osc_message.specs.declared.heard.Heard.{Heard}
 use Rattle.osc_message.specs.declared.heard.Heard.TheVariants.{Empty, Message}
 use Rattle.osc_message.specs.declared.handling.Handling.{Handling}

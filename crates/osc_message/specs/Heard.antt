@@ -7,10 +7,10 @@ use Rattle.osc_model.specs.declared.node.Peer.{Peer}
 use Rattle.osc_model.specs.declared.step.Datagram.{Datagram}
 use Rattle.osc_coap.specs.declared.kind.Kind.{Kind}
 use Rattle.osc_coap.specs.declared.kind.Kind.TheVariants.{Confirmable, Acknowledgement, Reset as ResetKind}
-use Rattle.osc_coap.specs.Code.{is_request_code}
-use Rattle.osc_coap.specs.Message.{HasSpelling, Message as CoapMessage}
+use Rattle.osc_coap.specs.{is_request_code, HasSpelling}
+use Rattle.osc_coap.specs.Message.{Message as CoapMessage}
 use Rattle.osc_dedup.specs.declared.table.Noted.{Noted}
-use Rattle.osc_dedup.specs.Table.{Entry, looked}
+use Rattle.osc_dedup.specs.{Entry, looked}
 use Rattle.osc_message.specs.Sending.{AreSendable, again, datagram, rejection, reset}
 use Rattle.osc_message.specs.declared.received.Received.{Received}
 use Rattle.osc_message.specs.declared.received.Received.TheVariants as received

@@ -1,7 +1,7 @@
 -- What a datagram is, whatever its bytes (RFC 7252 sections 3, 4.2 and 4.3).
 use Rattle.std.specs.Prelude.{ℕ, ◌<◌, ◌≤◌, ◌^◌, ◌⊎◌, List, length}
-use Rattle.osc_coap.specs.Message.{Message as CoapMessage, Spells}
-use Rattle.osc_coap.specs.Header.{HasHeader, HasOtherVersion}
+use Rattle.osc_coap.specs.{Spells, HasHeader, HasOtherVersion}
+use Rattle.osc_coap.specs.Message.{Message as CoapMessage}
 use Rattle.osc_message.specs.declared.received.Received.{Received}
 use Rattle.osc_message.specs.declared.received.Received.TheVariants.{Nothing, Malformed, Message}
 

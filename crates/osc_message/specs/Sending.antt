@@ -7,9 +7,8 @@ use Rattle.osc_model.specs.declared.node.Peer.{Peer}
 use Rattle.osc_model.specs.declared.step.Datagram.{Datagram}
 use Rattle.osc_coap.specs.declared.kind.Kind.{Kind}
 use Rattle.osc_coap.specs.declared.kind.Kind.TheVariants.{Confirmable, NonConfirmable, Acknowledgement, Reset as ResetKind}
-use Rattle.osc_coap.specs.Message.{Message, spelling}
-use Rattle.osc_coap.specs.Building.{bare}
-use Rattle.osc_coap.specs.Length.{datagram_limit}
+use Rattle.osc_coap.specs.{spelling, bare, datagram_limit}
+use Rattle.osc_coap.specs.Message.{Message}
 use Rattle.osc_message.specs.Endpoint.{EndpointState, own_id, id_taken}
 use Rattle.osc_message.specs.declared.handling.Handling.{Handling}
 use Rattle.osc_message.specs.declared.handling.Handling.TheVariants.{Dropped, Answered, Counted}

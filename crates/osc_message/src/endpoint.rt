@@ -15,7 +15,7 @@ ghost use Rattle.osc_message.specs.Limits.{IsWithinLimits};
 ghost use Rattle.osc_message.specs.declared.handling.Handling.TheVariants.{Dropped};
 ghost use Rattle.osc_message.specs.declared.heard.Heard.TheVariants as heard;
 ghost use Rattle.osc_message.specs.declared.received.Received.{Received as AnyReceived};
-ghost use Rattle.osc_model.specs.Step.{sends};
+ghost use Rattle.osc_model.specs.{sends};
 
 use crate::confirmable::acknowledge;
 use crate::deadline::deadline;

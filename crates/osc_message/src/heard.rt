@@ -1,7 +1,7 @@
 //! What a datagram is to the message layer (RFC 7252 sections 4.2, 4.3 and 4.5).
 ghost use Rattle.std.specs.Prelude.{◌≡◌, IfOk, OnErr, IsErr, IsSome};
 ghost use Rattle.std.specs.Option.{option_copied};
-ghost use Rattle.osc_dedup.specs.Table.{looked};
+ghost use Rattle.osc_dedup.specs.{looked};
 ghost use Rattle.osc_message.specs.Bounds.{AreShort};
 ghost use Rattle.osc_message.specs.Heard.{IsSendableHeard, SendsAlone, heard as heard_as, is_reserved as is_reserved_of, rejected, repeated, empty_heard, new_or_repeated, carried, message_heard};
 ghost use Rattle.osc_message.specs.Sending.{AreSendable, IsSendableReply, again as again_of};

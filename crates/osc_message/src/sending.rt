@@ -1,6 +1,6 @@
 //! Messages that every node sends (RFC 7252 sections 4.2, 4.3 and 5.2), and their datagrams.
 ghost use Rattle.std.specs.Prelude.{◌≡◌, [], ◌∷◌, true, IfOk, OnErr};
-ghost use Rattle.osc_coap.specs.Message.{HasSpelling, spelling};
+ghost use Rattle.osc_coap.specs.{HasSpelling, spelling};
 ghost use Rattle.osc_message.specs.Sending.{is_acknowledgement as is_acknowledgement_of, is_confirmable as is_confirmable_of, reset as reset_message, empty_acknowledgement as empty_acknowledgement_of, acknowledgement as acknowledgement_of, rejection as rejection_of, AreSendable, FitsDatagram, datagram, reply_kind as reply_kind_of};
 
 use crate::outbox::ReplyRoom;

@@ -4,9 +4,9 @@ use Rattle.std.proofs.lemmas.Bool.Decides.{nat_tests}
 use Rattle.std.specs.List.{AllByRecursion}
 use Rattle.std.specs.FinMap as map
 use Rattle.std.specs.FinSet as set
-use Rattle.osc_model.specs.Tree.{Tree, payload_length, longest_payload, most_resources}
-use Rattle.osc_model.specs.Scope.{Scope, covers, is_same_method, allows, names}
-use Rattle.osc_model.specs.Checks.{CanWrite, AllowsWrite, first_failing, checks, refusal}
+use Rattle.osc_model.specs.{payload_length, longest_payload, most_resources, covers, is_same_method, allows, names, CanWrite, AllowsWrite, first_failing, checks, refusal}
+use Rattle.osc_model.specs.Tree.{Tree}
+use Rattle.osc_model.specs.Scope.{Scope}
 use Rattle.osc_model.specs.declared.code.Code.{Code}
 use Rattle.osc_model.specs.declared.code.Method.{Method}
 use Rattle.osc_model.specs.declared.request.Request.{Request}

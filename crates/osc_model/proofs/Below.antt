@@ -4,8 +4,7 @@ use Rattle.std.specs.List.{onto_first, list_all}
 use Rattle.std.proofs.lemmas.Bool.{and_parts}
 use Rattle.std.proofs.lemmas.List.{append_cancel_left}
 use Rattle.std.proofs.lemmas.Slice.Eq.{bytes_eq-Decides}
-use Rattle.osc_model.specs.Path.{path_text, segments_of, begins_with, IsPath}
-use Rattle.osc_model.specs.Scope.{is_reached}
+use Rattle.osc_model.specs.{path_text, segments_of, begins_with, IsPath, is_reached}
 use Rattle.osc_model.proofs.Members.{or_true, both_ways}
 use Rattle.osc_model.proofs.Segments.{parts, text_back, parts_from_is_path}
 

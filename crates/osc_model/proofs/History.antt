@@ -2,9 +2,8 @@
 use Rattle.std.proofs.Common.{◌≡◌, ℕ, List, [], ◌∷◌, ◌++◌, Result, refl}
 use Rattle.std.specs.List.{AllByRecursion}
 use Rattle.osc_model.specs.Tree.{Tree}
-use Rattle.osc_model.specs.Apply.{MayReply}
+use Rattle.osc_model.specs.{MayReply, IsSameRequest, HasOwnNumbers, outcome_of, tree_after, effect, AreAnswered, IsInTime, IsLegal, MayFollow}
 use Rattle.osc_model.specs.Grant.{Grant}
-use Rattle.osc_model.specs.History.{IsSameRequest, HasOwnNumbers, outcome_of, tree_after, effect, AreAnswered, IsInTime, IsLegal, MayFollow}
 use Rattle.osc_model.specs.declared.code.Code.{Code}
 use Rattle.osc_model.specs.declared.request.Request.{Request}
 use Rattle.osc_model.specs.declared.step.Entry.{Entry}

@@ -4,11 +4,9 @@ use Rattle.std.specs.List.{AllByRecursion, filter, find}
 use Rattle.std.specs.FinMap as fin
 use Rattle.std.proofs.lemmas.Slice.Eq.{bytes_eq-Decides}
 use Rattle.osc_model.specs.Tree.{Tree}
-use Rattle.osc_model.specs.Scope.{Scope, names}
-use Rattle.osc_model.specs.Apply.{Outcome, MayReply, apply_read}
-use Rattle.osc_model.specs.Grant.{Grant, IsTimely, grant_of, scope_of}
-use Rattle.osc_model.specs.History.{outcome_of, tree_after, AreAnswered, IsInTime, IsLegal}
-use Rattle.osc_model.specs.Isolation.{held_by, HaveOwnSecrets, AreApart, HaveOwnPaths, answers, entries_under, machine_answers, is_for_want, AgreeUpToWant, numbers, IsIsolated}
+use Rattle.osc_model.specs.{names, Outcome, MayReply, apply_read, IsTimely, grant_of, scope_of, outcome_of, tree_after, AreAnswered, IsInTime, IsLegal, held_by, HaveOwnSecrets, AreApart, HaveOwnPaths, answers, entries_under, machine_answers, is_for_want, AgreeUpToWant, numbers, IsIsolated}
+use Rattle.osc_model.specs.Scope.{Scope}
+use Rattle.osc_model.specs.Grant.{Grant}
 use Rattle.osc_model.specs.declared.code.Code.{Code}
 use Rattle.osc_model.specs.declared.context.ContextName.{ContextName}
 use Rattle.osc_model.specs.declared.reply.Reply.{Reply}

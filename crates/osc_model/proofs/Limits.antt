@@ -1,8 +1,8 @@
 -- Which changes keep a tree within its limits.
 use Rattle.std.proofs.Common.{◌≡◌, ℕ, ◌<◌, ◌≤◌, ◌+◌, ◌-◌, Bool, true, false, cond, List, length, Option, Some, None, arith, refl, sym, subst}
 use Rattle.std.specs.FinMap as map
-use Rattle.osc_model.specs.Path.{path_cmp}
-use Rattle.osc_model.specs.Tree.{Tree, IsWithinLimits, payload_length, longest_payload, most_resources}
+use Rattle.osc_model.specs.{path_cmp, IsWithinLimits, payload_length, longest_payload, most_resources}
+use Rattle.osc_model.specs.Tree.{Tree}
 use Rattle.osc_model.specs.declared.resource.Resource.{Resource}
 use Rattle.osc_model.proofs.Orders.{paths_total}
 

@@ -11,9 +11,7 @@ use Rattle.std.specs.Ordering.{nat_cmp, bool_cmp, eq_by_cmp, is_eq, ordering_the
 use Rattle.std.specs.FinMap.{IsAntisymmetric}
 use Rattle.std.proofs.lemmas.Cmp.{nat_cmp_total, nat_list_cmp_total, on_total, then_total}
 use Rattle.std.proofs.lemmas.Map.Lookups.{exact_pairs, exact_unsigned, exact_bytes}
-use Rattle.osc_model.specs.Path.{path_cmp}
-use Rattle.osc_model.specs.Scope.{Permission, permission_cmp, is_same_method}
-use Rattle.osc_model.specs.Code.{method_number, method_with_number, method_back}
+use Rattle.osc_model.specs.{path_cmp, Permission, permission_cmp, is_same_method, method_number, method_with_number, method_back}
 use Rattle.osc_model.specs.declared.code.Method.{Method}
 
 pub paths_total : IsTotalOrder path_cmp

@@ -3,11 +3,9 @@ use Rattle.std.proofs.Common.{◌≡◌, ℕ, Bool, true, false, ◌==◌, ◌�
 use Rattle.std.specs.List.{AllByRecursion}
 use Rattle.std.specs.FinMap as map
 use Rattle.std.proofs.lemmas.Bool.{and_parts}
-use Rattle.osc_model.specs.Code.{code, method_of}
+use Rattle.osc_model.specs.{code, method_of, checks, first_failing, refusal, written, Outcome, read, write, perform, refused_or, apply_at, apply}
 use Rattle.osc_model.specs.Tree.{Tree}
 use Rattle.osc_model.specs.Scope.{Scope}
-use Rattle.osc_model.specs.Checks.{checks, first_failing, refusal, written}
-use Rattle.osc_model.specs.Apply.{Outcome, read, write, perform, refused_or, apply_at, apply}
 use Rattle.osc_model.specs.declared.code.Code.{Code}
 use Rattle.osc_model.specs.declared.code.Method.{Method}
 use Rattle.osc_model.specs.declared.code.Method.TheVariants.{Get, Post, Put, Delete}

@@ -5,7 +5,7 @@ use Rattle.std.proofs.lemmas.Bool.Decides.{nat_tests}
 use Rattle.std.proofs.lemmas.List.{drop_more}
 use Rattle.std.proofs.lemmas.List.Elements.{All-nil, All-cons}
 use Rattle.std.proofs.lemmas.List.Splits.{slice_split_none, slice_split_at, length-slice_split}
-use Rattle.osc_model.specs.Path.{is_segment, are_segments, path_text, IsPath}
+use Rattle.osc_model.specs.{is_segment, are_segments, path_text, IsPath}
 
 abbrev pub parts : List ℕ → List (List ℕ)
 parts rest = slice_split (λ b. b == 47) rest

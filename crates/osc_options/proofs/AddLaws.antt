@@ -2,10 +2,9 @@
 use Rattle.std.proofs.Common.{◌≡◌, ℕ, ◌≤◌, ◌+◌, List, [], ◌∷◌, ◌++◌, length, Result, Ok, Err, refl, ap, append_assoc, arith}
 use Rattle.std.specs.Result.{IsErr, IsOk}
 use Rattle.std.proofs.lemmas.Bool.{both_ways}
-use Rattle.osc_coap.specs.Message.{NumberAndValue, Message, spelling}
-use Rattle.osc_coap.specs.Plaintext.{Plaintext, plaintext_spelling}
-use Rattle.osc_coap.specs.Length.{options_length, spelled_length, plaintext_length}
-use Rattle.osc_coap.specs.Building.{last_number, with_option, with_inner_option}
+use Rattle.osc_coap.specs.{NumberAndValue, spelling, plaintext_spelling, options_length, spelled_length, plaintext_length, last_number, with_option, with_inner_option}
+use Rattle.osc_coap.specs.Message.{Message}
+use Rattle.osc_coap.specs.Plaintext.{Plaintext}
 use Rattle.osc_options.specs.Inner.Merging.{with_options, with_inner_options}
 
 -- the last number is that of the option behind the others

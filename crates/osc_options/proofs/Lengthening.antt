@@ -1,11 +1,9 @@
 -- What is sent in place of a message is longer than it.
 use Rattle.std.proofs.Common.{◌≡◌, ℕ, ◌+◌, ◌-◌, ◌<◌, ◌≤◌, false, ◌==◌, List, [], ◌∷◌, length, ap, arith, inl, inr}
 use Rattle.std.proofs.lemmas.Bool.{cases_Bool, cases_lt, lt-ltb, le-ltb}
-use Rattle.osc_coap.specs.Message.{NumberAndValue, Message, spelling}
-use Rattle.osc_coap.specs.Plaintext.{plaintext_spelling}
-use Rattle.osc_coap.specs.Length.{extension_length, options_length, payload_length}
-use Rattle.osc_coap.specs.Building.{payload_of}
-use Rattle.osc_options.specs.Split.{AreInOrder, has_oscore, inner_options, insert, outer_options, plaintext_of, protected}
+use Rattle.osc_coap.specs.{NumberAndValue, spelling, plaintext_spelling, extension_length, options_length, payload_length, payload_of}
+use Rattle.osc_coap.specs.Message.{Message}
+use Rattle.osc_options.specs.{AreInOrder, has_oscore, inner_options, insert, outer_options, plaintext_of, protected}
 use Rattle.osc_options.proofs.AddLaws.{LengthLaw, PlaintextLaw}
 use Rattle.osc_options.proofs.MergeLaws.{insert_before, insert_behind, option_length_closer}
 use Rattle.osc_options.proofs.SplitLaws.{class_cases, inner_left, inner_taken, outer_left, outer_taken}

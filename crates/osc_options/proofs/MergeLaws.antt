@@ -4,11 +4,9 @@ use Rattle.std.specs.Prelude.{filter, MatchOption}
 use Rattle.std.specs.Iterator.{MakesProgress, item_count}
 use Rattle.std.proofs.lemmas.Bool.{cases_Bool, cases_lt, cases_eq, le-ltb, lt-ltb, ltb-false, ne_eqb, eqb-true}
 use Rattle.std.proofs.lemmas.List.{append-nil}
-use Rattle.osc_coap.specs.Message.{NumberAndValue, IsOptionBehind, AreOptions}
-use Rattle.osc_coap.specs.Length.{extension_length, option_length, options_length}
-use Rattle.osc_options.specs.Split.{insert, merge, of_number, AreInOrder}
+use Rattle.osc_coap.specs.{NumberAndValue, IsOptionBehind, AreOptions, extension_length, option_length, options_length}
+use Rattle.osc_options.specs.{insert, merge, of_number, AreInOrder, behind_front}
 use Rattle.osc_options.specs.Inner.Merging.{is_inner_next}
-use Rattle.osc_options.specs.MergedOptions.{behind_front}
 
 -- ---- in order
 

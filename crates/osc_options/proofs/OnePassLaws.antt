@@ -6,9 +6,9 @@ use Rattle.std.specs.Option.{option_map}
 use Rattle.std.proofs.lemmas.Bool.{cases_Bool, cases_lt, ne_eqb}
 use Rattle.std.proofs.lemmas.Bool.Decides.{nat_tests}
 use Rattle.std.proofs.lemmas.List.{take_all, take-append-le, length-take}
-use Rattle.osc_model.specs.Path.{path_of}
-use Rattle.osc_coap.specs.Message.{NumberAndValue, AreOptions}
-use Rattle.osc_options.specs.Requests.{value, values}
+use Rattle.osc_model.specs.{path_of}
+use Rattle.osc_coap.specs.{NumberAndValue, AreOptions}
+use Rattle.osc_options.specs.{value, values}
 
 -- ---- one option more
 

@@ -1,12 +1,11 @@
 -- What an opened text is read as.
 use Rattle.std.proofs.Common.{◌≡◌, ℕ, List, Option, Some, None, Result, Err, refl, sym, ap, inl, inr, ◌∙◌}
 use Rattle.osc_model.specs.declared.request.Request.{Request}
-use Rattle.osc_coap.specs.Plaintext.{Plaintext, SpellsPlaintext}
-use Rattle.osc_coap.specs.Reading.{plaintext_at}
-use Rattle.osc_options.specs.PlaintextRequests.{IsMemoryAside, request_of_plaintext}
+use Rattle.osc_coap.specs.{SpellsPlaintext, plaintext_at}
+use Rattle.osc_coap.specs.Plaintext.{Plaintext}
+use Rattle.osc_options.specs.{IsMemoryAside, request_of_plaintext, or_code, read_request, request_or_code}
 use Rattle.osc_options.specs.declared.error.PlaintextError.{PlaintextError}
 use Rattle.osc_options.specs.declared.error.PlaintextError.TheVariants.{Format, Memory}
-use Rattle.osc_options.specs.Texts.{or_code, read_request, request_or_code}
 
 nothing : (p : Plaintext) → None ≡ Some p → ⊥
 nothing p e = cc

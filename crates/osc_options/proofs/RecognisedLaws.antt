@@ -3,11 +3,9 @@ use Rattle.std.proofs.Common.{◌≡◌, ℕ, ◌≤◌, true, ◌==◌, List, [
 use Rattle.std.specs.Prelude.{IfSome}
 use Rattle.std.proofs.lemmas.Bool.{cases_Bool}
 use Rattle.std.proofs.lemmas.Bool.Decides.{nat_tests}
-use Rattle.osc_coap.specs.Message.{NumberAndValue}
+use Rattle.osc_coap.specs.{NumberAndValue}
 use Rattle.osc_options.specs.declared.table.Rule.{Rule}
-use Rattle.osc_options.specs.Table.{rule_of}
-use Rattle.osc_options.specs.Recognised.{fits, is_recognised, recognised}
-use Rattle.osc_options.specs.Requests.{value}
+use Rattle.osc_options.specs.{rule_of, fits, is_recognised, recognised, value}
 
 fits_within : (before limit : ℕ) (option : NumberAndValue) (rule : Option Rule) → IfSome rule (λ r. r.longest ≤ limit) → fits before option rule ≡ true → length option.1 ≤ limit
 fits_within before limit option None short e = cc

@@ -4,15 +4,9 @@ use Rattle.std.specs.Prelude.{IfSome, option_map, unwrap_or}
 use Rattle.std.proofs.lemmas.Bool.{cases_lt, cases_eq, lt-ltb, le-ltb, ne_eqb}
 use Rattle.std.proofs.lemmas.Bool.Decides.{nat_tests}
 use Rattle.osc_model.specs.declared.reply.Reply.{Reply}
-use Rattle.osc_coap.specs.Code.{is_response_code}
-use Rattle.osc_coap.specs.Message.{NumberAndValue, Message, AreOptions}
-use Rattle.osc_coap.specs.Plaintext.{HasPlaintextSpelling}
-use Rattle.osc_options.specs.Split.{inner_options, merge, outer_options, plaintext_of, protected}
-use Rattle.osc_coap.specs.Building.{payload_of}
-use Rattle.osc_options.specs.Recognised.{recognised, unrecognised_critical}
-use Rattle.osc_options.specs.Requests.{uint, value}
-use Rattle.osc_options.specs.Replies.{uint_bytes, etag_option, format_option, reply_options, with_reply}
-use Rattle.osc_options.specs.PlaintextReplies.{reply_plaintext, etag_in, reply_in}
+use Rattle.osc_coap.specs.{is_response_code, NumberAndValue, AreOptions, HasPlaintextSpelling, payload_of}
+use Rattle.osc_coap.specs.Message.{Message}
+use Rattle.osc_options.specs.{inner_options, merge, outer_options, plaintext_of, protected, recognised, unrecognised_critical, uint, value, uint_bytes, etag_option, format_option, reply_options, with_reply, reply_plaintext, etag_in, reply_in}
 
 le_test : (m n : ℕ) → m ≤ n → nat_le m n ≡ true
 le_test m n le = grind (arith, nat_tests)

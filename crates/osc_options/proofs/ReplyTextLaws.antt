@@ -1,11 +1,8 @@
 -- The plaintext of a reply, written from left to right.
 use Rattle.std.proofs.Common.{◌≡◌, ℕ, List, [], ◌∷◌, ◌++◌, refl, sym, ap, ◌∙◌, append_assoc}
 use Rattle.osc_model.specs.declared.reply.Reply.{Reply}
-use Rattle.osc_coap.specs.Message.{NumberAndValue, option_spelling, options_spelling, payload_spelling}
-use Rattle.osc_coap.specs.Plaintext.{plaintext_spelling}
-use Rattle.osc_coap.specs.Building.{last_number, payload_of}
-use Rattle.osc_options.specs.Replies.{etag_option, format_option}
-use Rattle.osc_options.specs.Texts.{reply_text}
+use Rattle.osc_coap.specs.{NumberAndValue, option_spelling, options_spelling, payload_spelling, plaintext_spelling, last_number, payload_of}
+use Rattle.osc_options.specs.{etag_option, format_option, reply_text}
 
 -- options in two parts are spelled behind one another
 options_spelling-append : (before : ℕ) (front back : List NumberAndValue) → options_spelling before (front ++ back) ≡ options_spelling before front ++ options_spelling (last_number before front) back

@@ -4,18 +4,12 @@ use Rattle.std.specs.Prelude.{IfSome, option_map, unwrap_or, is_some}
 use Rattle.std.specs.List.{AllByRecursion, list_all}
 use Rattle.std.proofs.lemmas.Bool.{ne_eqb}
 use Rattle.std.proofs.lemmas.Bool.Decides.{nat_tests}
-use Rattle.osc_model.specs.Path.{is_segment, are_segments, path_text, path_of, IsPath}
+use Rattle.osc_model.specs.{is_segment, are_segments, path_text, path_of, IsPath}
 use Rattle.osc_model.specs.declared.request.Request.{Request}
-use Rattle.osc_coap.specs.Code.{is_request_code}
-use Rattle.osc_coap.specs.Message.{NumberAndValue, Message}
-use Rattle.osc_coap.specs.Building.{payload_of}
+use Rattle.osc_coap.specs.{is_request_code, NumberAndValue, payload_of}
+use Rattle.osc_coap.specs.Message.{Message}
 use Rattle.osc_options.specs.declared.table.Class.TheVariants.{E, U}
-use Rattle.osc_options.specs.Table.{is_critical, class_of}
-use Rattle.osc_options.specs.Recognised.{is_recognised, recognised, unrecognised_critical}
-use Rattle.osc_options.specs.Requests.{uint, value, values, request_of, each, segments_of, path_options, none_match_options, uint_options, request_options, with_request, IsWithinTable}
-use Rattle.osc_options.specs.Replies.{uint_bytes}
-use Rattle.osc_options.specs.PlaintextRequests.{unheeded, request_of_plaintext}
-use Rattle.osc_options.specs.Split.{same_class, inner_options, plaintext_of}
+use Rattle.osc_options.specs.{is_critical, class_of, is_recognised, recognised, unrecognised_critical, uint, value, values, request_of, each, segments_of, path_options, none_match_options, uint_options, request_options, with_request, IsWithinTable, uint_bytes, unheeded, request_of_plaintext, same_class, inner_options, plaintext_of}
 use Rattle.osc_options.proofs.ReplyAgainLaws.{uint_again, uint_short}
 
 le_test : (m n : ℕ) → m ≤ n → nat_le m n ≡ true

@@ -2,14 +2,12 @@
 use Rattle.std.proofs.Common.{◌≡◌, ℕ, ◌<◌, ◌≤◌, Bool, true, false, ◌⊎◌, ◌&&◌, not, ◌==◌, nat_lt, List, [], ◌∷◌, length, refl, sym, ap, subst, ◌∙◌, arith, inl, inr}
 use Rattle.std.specs.Prelude.{filter, IfSome}
 use Rattle.std.proofs.lemmas.Bool.{cases_Bool, lt-ltb}
-use Rattle.osc_coap.specs.Message.{NumberAndValue, Message, AreOptions, HasSpelling}
-use Rattle.osc_coap.specs.Plaintext.{Plaintext, HasPlaintextSpelling}
-use Rattle.osc_coap.specs.Building.{payload_of}
+use Rattle.osc_coap.specs.{NumberAndValue, AreOptions, HasSpelling, HasPlaintextSpelling, payload_of}
+use Rattle.osc_coap.specs.Message.{Message}
+use Rattle.osc_coap.specs.Plaintext.{Plaintext}
 use Rattle.osc_options.specs.declared.table.Class.TheVariants.{E, U}
-use Rattle.osc_options.specs.Table.{class_of}
-use Rattle.osc_options.specs.Split.{same_class, outer_options, inner_options, merge, plaintext_of, protected, unprotected, has_oscore}
+use Rattle.osc_options.specs.{class_of, same_class, outer_options, inner_options, merge, plaintext_of, protected, unprotected, has_oscore, AreInOrder}
 use Rattle.osc_options.specs.Inner.Merging.{is_outer, is_inner}
-use Rattle.osc_options.specs.Split.{AreInOrder}
 use Rattle.osc_options.proofs.MergeLaws.{merge-first, merge-outer, AreOptions-merge, AreInOrder-options, AreInOrder-merge}
 
 -- ---- one option at a time

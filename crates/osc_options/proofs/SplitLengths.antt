@@ -2,13 +2,11 @@
 use Rattle.std.proofs.Common.{ℕ, ◌≤◌, ◌+◌, Bool, not, ◌==◌, List, [], ◌∷◌, length, arith, inl, inr}
 use Rattle.std.specs.Prelude.{filter}
 use Rattle.std.proofs.lemmas.Bool.{cases_lt, lt-ltb, le-ltb}
-use Rattle.osc_coap.specs.Message.{NumberAndValue, Message, IsOptionBehind, AreOptions, HasSpelling, spelling}
-use Rattle.osc_coap.specs.Plaintext.{Plaintext, HasPlaintextSpelling, plaintext_spelling}
-use Rattle.osc_coap.specs.Length.{options_length, payload_length}
-use Rattle.osc_coap.specs.Building.{payload_of}
+use Rattle.osc_coap.specs.{NumberAndValue, IsOptionBehind, AreOptions, HasSpelling, spelling, HasPlaintextSpelling, plaintext_spelling, options_length, payload_length, payload_of}
+use Rattle.osc_coap.specs.Message.{Message}
+use Rattle.osc_coap.specs.Plaintext.{Plaintext}
 use Rattle.osc_options.specs.declared.table.Class.TheVariants.{U}
-use Rattle.osc_options.specs.Table.{class_of}
-use Rattle.osc_options.specs.Split.{same_class, of_class, outer_options, inner_options, plaintext_of, protected, unprotected}
+use Rattle.osc_options.specs.{class_of, same_class, of_class, outer_options, inner_options, plaintext_of, protected, unprotected}
 use Rattle.osc_options.proofs.AddLaws.{LengthLaw, PlaintextLaw}
 use Rattle.osc_options.proofs.MergeLaws.{options_length-merge}
 use Rattle.osc_options.proofs.SplitLaws.{FewerLaw, outer_are}

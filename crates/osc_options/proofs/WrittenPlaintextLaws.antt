@@ -1,13 +1,12 @@
 -- The options of a request appended to a plaintext, a number after the other and of each a value after the other.
 use Rattle.std.proofs.Common.{◌≡◌, ℕ, ◌<◌, ◌≤◌, ◌+◌, ◌-◌, Bool, true, false, List, [], ◌∷◌, ◌++◌, length, take, drop, get_or, Option, Some, None, sym, ap, subst, ◌∙◌, append_assoc, append-nil, length-drop, arith}
 use Rattle.std.proofs.lemmas.List.{at_drop_more, drop_all, take_all}
-use Rattle.osc_model.specs.Path.{IsPath, path_text, are_segments}
+use Rattle.osc_model.specs.{IsPath, path_text, are_segments}
 use Rattle.osc_model.specs.declared.request.Request.{Request}
-use Rattle.osc_coap.specs.Message.{NumberAndValue}
-use Rattle.osc_coap.specs.Plaintext.{Plaintext, plaintext_spelling}
-use Rattle.osc_coap.specs.Building.{last_number, with_inner_option}
+use Rattle.osc_coap.specs.{NumberAndValue, plaintext_spelling, last_number, with_inner_option}
+use Rattle.osc_coap.specs.Plaintext.{Plaintext}
 use Rattle.osc_options.specs.Inner.Merging.{with_inner_options}
-use Rattle.osc_options.specs.Requests.{each, segments_of, none_match_options, path_options, uint_options, request_options}
+use Rattle.osc_options.specs.{each, segments_of, none_match_options, path_options, uint_options, request_options}
 use Rattle.osc_options.proofs.AddLaws.{PlaintextLaw, with_inner_options-more, inner_options_front}
 
 -- ---- options of one number

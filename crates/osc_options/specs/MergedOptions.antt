@@ -1,6 +1,6 @@
 -- How options that are being merged are seen, and what they keep.
 use Rattle.std.specs.Prelude.{List, [], ◌∷◌, Option, Some, None, option_map}
-use Rattle.osc_coap.specs.Message.{NumberAndValue}
+use Rattle.osc_coap.specs.{NumberAndValue}
 use Rattle.osc_options.specs.declared.merging.Merged.TheInside.{Inside}
 use Rattle.osc_options.specs.Split.{merge, AreInOrder}
 

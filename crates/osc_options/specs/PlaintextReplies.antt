@@ -1,9 +1,8 @@
 -- The replies that go and come encrypted (RFC 7252 sections 5.4.1 and 5.9, RFC 8613 section 5.3).
 use Rattle.std.specs.Prelude.{ℕ, ◌==◌, if◌then◌else◌, List, [], length, Option, Some, None, option_map, unwrap_or, Result, Ok, Err}
 use Rattle.osc_model.specs.declared.reply.Reply.{Reply}
-use Rattle.osc_coap.specs.Code.{is_response_code}
+use Rattle.osc_coap.specs.{is_response_code, payload_of}
 use Rattle.osc_coap.specs.Plaintext.{Plaintext}
-use Rattle.osc_coap.specs.Building.{payload_of}
 use Rattle.osc_options.specs.declared.error.PlaintextError.{PlaintextError}
 use Rattle.osc_options.specs.declared.error.PlaintextError.TheVariants.{Format, BadOption}
 use Rattle.osc_options.specs.Recognised.{recognised, unrecognised_critical}

@@ -1,10 +1,8 @@
 -- The requests that go and come encrypted, of which all was said inside (RFC 7252 sections 5.4.1 and 5.8, RFC 8613 sections 4.1 and 5.3).
 use Rattle.std.specs.Prelude.{◌≡◌, ℕ, not, ◌&&◌, ◌||◌, ◌⊎◌, if◌then◌else◌, List, [], ◌∷◌, Option, Some, None, Result, Ok, Err, IsOk}
 use Rattle.osc_model.specs.declared.request.Request.{Request}
-use Rattle.osc_coap.specs.Message.{NumberAndValue}
-use Rattle.osc_coap.specs.Code.{is_request_code}
+use Rattle.osc_coap.specs.{NumberAndValue, is_request_code, payload_of}
 use Rattle.osc_coap.specs.Plaintext.{Plaintext}
-use Rattle.osc_coap.specs.Building.{payload_of}
 use Rattle.osc_options.specs.declared.error.PlaintextError.{PlaintextError}
 use Rattle.osc_options.specs.declared.error.PlaintextError.TheVariants.{Format, BadOption}
 use Rattle.osc_options.specs.declared.table.Class.TheVariants.{U}

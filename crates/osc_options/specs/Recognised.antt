@@ -1,6 +1,6 @@
 -- Which options of a message are recognised (RFC 7252 sections 5.4.1, 5.4.2, 5.4.3 and 5.4.5).
 use Rattle.std.specs.Prelude.{ℕ, Bool, false, not, ◌&&◌, ◌||◌, ◌==◌, nat_le, if◌then◌else◌, List, [], ◌∷◌, length, Option, Some, None}
-use Rattle.osc_coap.specs.Message.{NumberAndValue}
+use Rattle.osc_coap.specs.{NumberAndValue}
 use Rattle.osc_options.specs.declared.table.Rule.{Rule}
 use Rattle.osc_options.specs.Table.{is_critical, is_unsafe, rule_of}
 

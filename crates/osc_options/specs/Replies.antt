@@ -1,8 +1,8 @@
 -- The options of a reply (RFC 7252 sections 5.10.3 and 5.10.6).
 use Rattle.std.specs.Prelude.{ℕ, ◌/◌, ◌%◌, ◌==◌, nat_lt, if◌then◌else◌, List, [], ◌∷◌, ◌++◌, Option, Some, None}
 use Rattle.osc_model.specs.declared.reply.Reply.{Reply}
-use Rattle.osc_coap.specs.Message.{NumberAndValue, Message}
-use Rattle.osc_coap.specs.Building.{payload_of}
+use Rattle.osc_coap.specs.{NumberAndValue, payload_of}
+use Rattle.osc_coap.specs.Message.{Message}
 
 -- a number below 65536 without leading zero bytes (section 3.2)
 abbrev pub uint_bytes : ℕ → List ℕ

@@ -1,10 +1,10 @@
 -- The request that a message's code, options and payload are (RFC 7252 section 5.10).
 use Rattle.std.specs.Prelude.{ℕ, ◌+◌, ◌*◌, ◌<◌, ◌≤◌, ◌==◌, Bool, true, false, List, [], ◌∷◌, ◌++◌, drop, length, Option, Some, None, IfSome, is_some, map, filter, find, fold, option_map, unwrap_or}
 use Rattle.std.specs.List.{AllByRecursion, slice_split}
-use Rattle.osc_model.specs.Path.{path_of, IsPath}
+use Rattle.osc_model.specs.{path_of, IsPath}
 use Rattle.osc_model.specs.declared.request.Request.{Request}
-use Rattle.osc_coap.specs.Message.{NumberAndValue, Message}
-use Rattle.osc_coap.specs.Building.{payload_of}
+use Rattle.osc_coap.specs.{NumberAndValue, payload_of}
+use Rattle.osc_coap.specs.Message.{Message}
 use Rattle.osc_options.specs.Recognised.{recognised}
 use Rattle.osc_options.specs.Replies.{uint_bytes}
 

@@ -1,9 +1,9 @@
 -- How OSCORE splits a message in two, and makes one of the two again (RFC 8613 sections 4.1 and 5.3).
 use Rattle.std.specs.Prelude.{ℕ, ◌≤◌, Bool, true, false, not, ◌==◌, nat_lt, if◌then◌else◌, List, [], ◌∷◌, filter}
 use Rattle.std.specs.List.{list_any}
-use Rattle.osc_coap.specs.Message.{NumberAndValue, Message}
+use Rattle.osc_coap.specs.{NumberAndValue, payload_of}
+use Rattle.osc_coap.specs.Message.{Message}
 use Rattle.osc_coap.specs.Plaintext.{Plaintext}
-use Rattle.osc_coap.specs.Building.{payload_of}
 use Rattle.osc_options.specs.declared.table.Class.{Class}
 use Rattle.osc_options.specs.declared.table.Class.TheVariants.{E, U}
 use Rattle.osc_options.specs.Table.{class_of}

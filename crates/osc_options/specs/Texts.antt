@@ -1,11 +1,11 @@
 -- The plaintexts of requests and replies (RFC 8613 section 5.3).
 use Rattle.std.specs.Prelude.{◌≡◌, ℕ, ◌<◌, List, length, Option, Some, None, Result, Ok, Err, IfSome}
-use Rattle.osc_model.specs.Code.{code}
+use Rattle.osc_model.specs.{code}
 use Rattle.osc_model.specs.declared.code.Code.{Code}
 use Rattle.osc_model.specs.declared.request.Request.{Request}
 use Rattle.osc_model.specs.declared.reply.Reply.{Reply}
-use Rattle.osc_coap.specs.Plaintext.{Plaintext, SpellsPlaintext, plaintext_spelling}
-use Rattle.osc_coap.specs.Reading.{plaintext_at}
+use Rattle.osc_coap.specs.{SpellsPlaintext, plaintext_spelling, plaintext_at}
+use Rattle.osc_coap.specs.Plaintext.{Plaintext}
 use Rattle.osc_options.specs.PlaintextRequests.{request_of_plaintext}
 use Rattle.osc_options.specs.PlaintextReplies.{reply_plaintext, reply_in}
 use Rattle.osc_options.specs.declared.error.PlaintextError.{PlaintextError}

@@ -1,7 +1,7 @@
 //! The values that a request is made of, by option (RFC 7252 section 5.10).
 ghost use Rattle.std.specs.Prelude.{◌≡◌, [], ◌∷◌, ◌++◌, List, take, map, IfOk, OnOk};
 ghost use Rattle.std.specs.Option.{option_map, option_or};
-ghost use Rattle.osc_coap.specs.Message.{NumberAndValue};
+ghost use Rattle.osc_coap.specs.{NumberAndValue};
 ghost use Rattle.osc_options.specs.Requests.{value as value_in, values as values_in};
 ghost use Rattle.osc_options.specs.Inner.Fields.{AreFieldsOf};
 

@@ -4,11 +4,9 @@ ghost use Rattle.std.specs.Prelude.{◌≡◌, ◌<◌, ◌≤◌, ◌+◌, ◌+
 ghost use Rattle.osc_model.specs.declared.reply.Reply.{Reply};
 ghost use Rattle.osc_model.specs.declared.request.Request.{Request as AnyRequest};
 ghost use Rattle.osc_coap.specs.declared.kind.Kind.{Kind as AnyKind};
-ghost use Rattle.osc_coap.specs.Building.{bare};
-ghost use Rattle.osc_coap.specs.Code.{is_request_code};
-ghost use Rattle.osc_coap.specs.Message.{NumberAndValue, Message, AreOptions, HasSpelling, spelling};
-ghost use Rattle.osc_coap.specs.Plaintext.{Plaintext, HasPlaintextSpelling, plaintext_spelling};
-ghost use Rattle.osc_coap.specs.Length.{options_length};
+ghost use Rattle.osc_coap.specs.{bare, is_request_code, NumberAndValue, AreOptions, HasSpelling, spelling, HasPlaintextSpelling, plaintext_spelling, options_length};
+ghost use Rattle.osc_coap.specs.Message.{Message};
+ghost use Rattle.osc_coap.specs.Plaintext.{Plaintext};
 ghost use Rattle.osc_options.specs.Split.{AreInOrder, of_number, inner_options, outer_options, merge, plaintext_of, protected, unprotected, has_oscore};
 ghost use Rattle.osc_options.specs.Recognised.{unrecognised_critical};
 ghost use Rattle.osc_options.specs.Requests.{IsWithinTable, request_of, request_options, value as value_in, with_request};

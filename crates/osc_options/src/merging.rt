@@ -88,7 +88,7 @@ impl<'a> fmt::Debug for Merged<'a> {
 
 impl<'a> Model for Merged<'a> {
     ghost use Rattle.std.specs.Prelude.{List};
-    ghost use Rattle.osc_coap.specs.Message.{NumberAndValue};
+    ghost use Rattle.osc_coap.specs.{NumberAndValue};
 
     ghost Value = { List NumberAndValue };
 

@@ -3,7 +3,7 @@ ghost use Rattle.std.specs.Prelude.{◌≡◌, [], ◌∷◌, MatchOption};
 ghost use Rattle.std.specs.Iterator.{YieldsFirstBy, item_count};
 ghost use Rattle.osc_options.specs.Split as spec;
 ghost use Rattle.osc_options.specs.Inner.Merging as test;
-ghost use Rattle.osc_coap.specs.Message.{AreOptions};
+ghost use Rattle.osc_coap.specs.{AreOptions};
 
 use crate::numbers::OSCORE;
 use crate::table::{Class, class_of};
@@ -67,7 +67,7 @@ pub struct OuterOptions<'a> {
 
 impl<'a> Model for OuterOptions<'a> {
     ghost use Rattle.std.specs.Prelude.{List};
-    ghost use Rattle.osc_coap.specs.Message.{NumberAndValue};
+    ghost use Rattle.osc_coap.specs.{NumberAndValue};
     ghost use Rattle.osc_options.specs.Split as spec;
 
     ghost Value = { List NumberAndValue };
@@ -113,7 +113,7 @@ impl<'a> fmt::Debug for InnerOptions<'a> {
 
 impl<'a> Model for InnerOptions<'a> {
     ghost use Rattle.std.specs.Prelude.{List};
-    ghost use Rattle.osc_coap.specs.Message.{NumberAndValue};
+    ghost use Rattle.osc_coap.specs.{NumberAndValue};
     ghost use Rattle.osc_options.specs.Split as spec;
 
     ghost Value = { List NumberAndValue };

@@ -1,9 +1,6 @@
 //! Messages as they go into OSCORE's protection, and as they come of it (RFC 8613 sections 4.1 and 5.3).
 ghost use Rattle.std.specs.Prelude.{◌≡◌, ◌<◌, ◌≤◌, ◌↔◌, None, length, IsOk, IfOk, OnOk};
-ghost use Rattle.osc_coap.specs.Message.{spelling};
-ghost use Rattle.osc_coap.specs.Plaintext.{plaintext_spelling};
-ghost use Rattle.osc_coap.specs.Building.{last_number};
-ghost use Rattle.osc_coap.specs.Length.{datagram_limit};
+ghost use Rattle.osc_coap.specs.{spelling, plaintext_spelling, last_number, datagram_limit};
 ghost use Rattle.osc_options.specs.Split as spec;
 ghost use Rattle.osc_options.specs.Inner.Merging.{message_with, with_options, with_inner_options};
 ghost use Rattle.osc_options.specs.Split.{AreInOrder};

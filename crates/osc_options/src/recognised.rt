@@ -99,7 +99,7 @@ pub(crate) struct RecognisedOptions<'a> {
 
 impl<'a> Model for RecognisedOptions<'a> {
     ghost use Rattle.std.specs.Prelude.{List};
-    ghost use Rattle.osc_coap.specs.Message.{NumberAndValue};
+    ghost use Rattle.osc_coap.specs.{NumberAndValue};
     ghost use Rattle.osc_options.specs.Recognised as spec;
 
     ghost Value = { List NumberAndValue };

@@ -1,10 +1,8 @@
 //! A message that carries a reply, and the reply that a plaintext is (RFC 7252 section 5.10, RFC 8613
 //! section 5.3).
 ghost use Rattle.std.specs.Prelude.{◌≡◌, ◌<◌, ◌≤◌, ◌↔◌, Err, length, IsOk, IfOk};
-ghost use Rattle.osc_coap.specs.Message.{spelling};
-ghost use Rattle.osc_coap.specs.Length.{datagram_limit};
-ghost use Rattle.osc_coap.specs.Plaintext.{Plaintext, SpellsPlaintext};
-ghost use Rattle.osc_coap.specs.Building.{bare};
+ghost use Rattle.osc_coap.specs.{spelling, datagram_limit, SpellsPlaintext, bare};
+ghost use Rattle.osc_coap.specs.Plaintext.{Plaintext};
 ghost use Rattle.osc_options.specs.Requests.{value as value_in};
 ghost use Rattle.osc_options.specs.Replies.{uint_bytes as bytes_of, with_reply, with_error};
 ghost use Rattle.osc_options.specs.PlaintextRequests.{IsMemoryAside};

@@ -1,9 +1,7 @@
 //! What is encrypted of a reply, written where it is kept (RFC 7252 section 5.10, RFC 8613 section 5.3).
 ghost use Rattle.std.specs.Prelude.{◌≡◌, ◌<◌, ◌≤◌, ◌+◌, ◌-◌, [], ◌++◌, length};
 ghost use Rattle.std.specs.Vec.{vec_len, vec_capacity};
-ghost use Rattle.osc_coap.specs.Building.{last_number, payload_of};
-ghost use Rattle.osc_coap.specs.Length.{options_length, payload_length};
-ghost use Rattle.osc_coap.specs.Message.{option_spelling, options_spelling, payload_spelling};
+ghost use Rattle.osc_coap.specs.{last_number, payload_of, options_length, payload_length, option_spelling, options_spelling, payload_spelling};
 ghost use Rattle.osc_options.specs.Replies.{etag_option, format_option, uint_bytes as bytes_of};
 ghost use Rattle.osc_options.specs.Texts.{reply_text};
 

@@ -1,8 +1,8 @@
 //! The request that a message or a plaintext is (RFC 7252 section 5.10, RFC 8613 section 5.3).
 ghost use Rattle.std.specs.Prelude.{◌≡◌, ◌≤◌, List, length, Err, IsOk, IfOk, IfSome};
 ghost use Rattle.std.specs.Option.{option_map, option_copied};
-ghost use Rattle.osc_coap.specs.Message.{NumberAndValue};
-ghost use Rattle.osc_coap.specs.Plaintext.{Plaintext, SpellsPlaintext};
+ghost use Rattle.osc_coap.specs.{NumberAndValue, SpellsPlaintext};
+ghost use Rattle.osc_coap.specs.Plaintext.{Plaintext};
 ghost use Rattle.osc_options.specs.Table.{rule_of};
 ghost use Rattle.osc_options.specs.Recognised.{recognised};
 ghost use Rattle.osc_options.specs.Requests.{request_in as asked_by, request_of as asked_of_message, uint as number_of, value as value_in};

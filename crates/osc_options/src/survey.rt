@@ -3,7 +3,7 @@
 ghost use Rattle.std.specs.Prelude.{◌≡◌, ◌≤◌, ◌==◌, ◌||◌, ◌∷◌, ℕ, List, length, IfSome, is_some};
 ghost use Rattle.std.specs.List.{list_any};
 ghost use Rattle.std.specs.Option.{option_map, option_or};
-ghost use Rattle.osc_coap.specs.Message.{NumberAndValue};
+ghost use Rattle.osc_coap.specs.{NumberAndValue};
 ghost use Rattle.osc_options.specs.Recognised as spec;
 ghost use Rattle.osc_options.specs.Recognised.{recognised};
 ghost use Rattle.osc_options.specs.Requests.{value as value_in};

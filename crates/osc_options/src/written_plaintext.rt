@@ -1,8 +1,6 @@
 //! What is encrypted of a request, written from the request (RFC 7252 section 5.10, RFC 8613 section 5.3).
 ghost use Rattle.std.specs.Prelude.{◌≡◌, ◌≤◌, ◌↔◌, None, length, IsOk, IfOk, OnOk};
-ghost use Rattle.osc_coap.specs.Plaintext.{plaintext_spelling};
-ghost use Rattle.osc_coap.specs.Length.{datagram_limit};
-ghost use Rattle.osc_coap.specs.Building.{last_number};
+ghost use Rattle.osc_coap.specs.{plaintext_spelling, datagram_limit, last_number};
 ghost use Rattle.osc_options.specs.Inner.Merging.{with_inner_options};
 ghost use Rattle.osc_options.specs.Requests.{each, segments_of, none_match_options, path_options, uint_options, request_options};
 ghost use Rattle.osc_options.specs.PlaintextRequests.{request_plaintext as plaintext_of_request};

@@ -1,8 +1,6 @@
 //! A message that carries a request (RFC 7252 section 5.10).
 ghost use Rattle.std.specs.Prelude.{◌≡◌, ◌<◌, ◌≤◌, ◌↔◌, length, IsOk, IfOk};
-ghost use Rattle.osc_coap.specs.Message.{spelling};
-ghost use Rattle.osc_coap.specs.Length.{datagram_limit};
-ghost use Rattle.osc_coap.specs.Building.{bare};
+ghost use Rattle.osc_coap.specs.{spelling, datagram_limit, bare};
 ghost use Rattle.osc_options.specs.Requests.{with_request};
 
 use crate::laws::a_written_request;

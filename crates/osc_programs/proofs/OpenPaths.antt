@@ -4,7 +4,8 @@ use Rattle.std.proofs.Math.Seq.{take-suc}
 use Rattle.std.proofs.lemmas.List.{map-append}
 use Rattle.std.specs.Cmp.{IsTotalOrder}
 use Rattle.std.specs.FinSet as set
-use Rattle.osc_model.specs.Scope.{Scope, Permission, exactly, permission_cmp}
+use Rattle.osc_model.specs.{Permission, exactly, permission_cmp}
+use Rattle.osc_model.specs.Scope.{Scope}
 use Rattle.osc_model.specs.declared.code.Method.TheVariants.{Get}
 
 abbrev get_of : List ℕ → Permission

@@ -2,7 +2,7 @@
 use Rattle.std.proofs.Common.{◌≡◌, ℕ, true, false, List, Option, Some, None, refl}
 use Rattle.std.specs.Option.{IfSome, is_some}
 use Rattle.osc_words.specs.declared.client_words.ClientWords.{ClientWords}
-use Rattle.osc_programs.specs.PayloadFile.{IsWithPayload, with_payload}
+use Rattle.osc_programs.specs.{IsWithPayload, with_payload}
 
 pub needs_none : (words : ClientWords) (named file : Option (List ℕ)) → is_some named ≡ false → IsWithPayload words named file words
 needs_none words None file none = refl

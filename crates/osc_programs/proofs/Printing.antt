@@ -1,6 +1,6 @@
 -- The pieces of a line, one behind the other.
 use Rattle.std.proofs.Common.{◌≡◌, ℕ, List, [], ◌∷◌, ◌++◌, append_assoc, codes}
-use Rattle.osc_simulation.specs.Text.{line}
+use Rattle.osc_simulation.specs.{line}
 
 pub who_pieces : (ms dotted dotted-is port : List ℕ) → dotted ≡ dotted-is
     → ms ++ (codes " " ++ (dotted ++ (codes ":" ++ (port ++ codes " ")))) ≡ ms ++ codes " " ++ dotted-is ++ codes ":" ++ port ++ codes " "

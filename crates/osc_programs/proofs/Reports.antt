@@ -7,7 +7,7 @@ use Rattle.osc_model.specs.declared.node.Moment.{Moment}
 use Rattle.osc_model.specs.declared.step.Datagram.{Datagram}
 use Rattle.osc_model.specs.declared.step.Step.{Step}
 use Rattle.osc_programs.specs.declared.refusals.Refusals.{Refusals}
-use Rattle.osc_programs.specs.Log.{Report, sent, untold, lost, report_text, line_text, step_text, untold_text, lost_text, told_of, refusals_behind, told_by, refusals_after, reports_of, told_with, Told, Tells}
+use Rattle.osc_programs.specs.{Report, sent, untold, lost, report_text, line_text, step_text, untold_text, lost_text, told_of, refusals_behind, told_by, refusals_after, reports_of, told_with, Told, Tells}
 use Rattle.osc_programs.proofs.Appended.{appends_more, appends_none}
 
 -- ---- some, and more behind them

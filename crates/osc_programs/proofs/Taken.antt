@@ -4,15 +4,13 @@ use Rattle.osc_model.specs.declared.node.Moment.{Moment}
 use Rattle.osc_model.specs.declared.request.Request.{Request}
 use Rattle.osc_model.specs.declared.step.Datagram.{Datagram}
 use Rattle.osc_model.specs.declared.step.Step.{Step}
-use Rattle.osc_programs.specs.Ended.{IsFault, NoSettings, EndsNode, EndsTurns, EndsTold, EndsClient, CannotTalk, CannotAsk}
-use Rattle.osc_run.specs.Nodes.{Cause}
-use Rattle.osc_turn.specs.ClockAndRandom.{IsSeeded, ClockAndRandomState}
-use Rattle.osc_programs.specs.Turning.{GoesOn, Running, Runs, Shown, Turns, and_then}
+use Rattle.osc_programs.specs.{IsFault, NoSettings, EndsNode, EndsTurns, EndsTold, EndsClient, CannotTalk, CannotAsk, Running, Runs, Shown, Turns, and_then}
+use Rattle.osc_run.specs.{Cause}
+use Rattle.osc_turn.specs.{IsSeeded, ClockAndRandomState, CameIn, IsRefusedIn, Received, grown}
+use Rattle.osc_programs.specs.Turning.{GoesOn}
 use Rattle.osc_programs.specs.Turning as turning
 use Rattle.osc_programs.specs.declared.ended.Ended.{Ended}
 use Rattle.osc_programs.specs.declared.ended.Ended.TheVariants.{Done, BadCommandLine, BadLine, BadSettings, OutOfMemory, Failed, PortFailed, NotDone}
-use Rattle.osc_turn.specs.Pace.{CameIn, IsRefusedIn}
-use Rattle.osc_turn.specs.Ports.{Received, grown}
 use Rattle.osc_turn.specs.declared.error.TurnError.{TurnError}
 pub use Rattle.osc_programs.proofs.Reports.{tells_more, tells_none}
 

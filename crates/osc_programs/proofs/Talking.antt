@@ -4,14 +4,12 @@ use Rattle.std.specs.Option.{IfSome}
 use Rattle.osc_model.specs.declared.step.ClientResult.{ClientResult}
 use Rattle.osc_model.specs.declared.step.Datagram.{Datagram}
 use Rattle.osc_model.specs.declared.step.Step.{Step}
-use Rattle.osc_client.specs.Sending.{acts_at}
+use Rattle.osc_client.specs.{acts_at, IsStep}
 use Rattle.osc_client.specs.State.{State as Client}
-use Rattle.osc_client.specs.Steps.{IsStep}
 use Rattle.osc_model.specs.declared.request.Request.{Request}
 use Rattle.osc_model.specs.declared.step.ClientResult.TheVariants.{Made, Answer, Unverified, TimedOut, Refused}
-use Rattle.osc_simulation.specs.Simulation.{is_sealing}
-use Rattle.osc_programs.specs.Conversation.{GoesOn, GoesOnBy, Requests, Upshot, Waits, after_sending, at_once, told, still, turns}
-use Rattle.osc_programs.specs.Turning.{Running, TakesTurn}
+use Rattle.osc_simulation.specs.{is_sealing}
+use Rattle.osc_programs.specs.{GoesOn, GoesOnBy, Requests, Upshot, Waits, after_sending, at_once, told, still, turns, Running, TakesTurn}
 use Rattle.osc_programs.specs.declared.asking.Outcome.{Outcome}
 use Rattle.osc_programs.specs.declared.asking.Outcome.TheVariants.{Told, Open}
 

@@ -3,8 +3,7 @@ use Rattle.std.proofs.Common.{◌≡◌, ◌≢◌, ◌∙◌, sym, subst, ℕ, 
 use Rattle.toml.specs.Data.{Members}
 use Rattle.osc_settings.specs.declared.error.SettingsError.{SettingsError}
 use Rattle.osc_settings.specs.declared.error.SettingsError.TheVariants.{Memory}
-use Rattle.osc_programs.specs.Log.{Told, Writes}
-use Rattle.osc_programs.specs.Unread.{IsUnreadText, IsWhy, TellsWhy}
+use Rattle.osc_programs.specs.{Told, Writes, IsUnreadText, IsWhy, TellsWhy}
 use Rattle.osc_programs.specs.declared.ended.Ended.{Ended}
 use Rattle.osc_programs.specs.declared.ended.Ended.TheVariants.{BadSettings, OutOfMemory}
 

@@ -2,14 +2,14 @@
 use Rattle.std.specs.Prelude.{ℕ, List, [], ◌++◌, length, map, Option, Some, None, codes, decimal}
 use Rattle.std.specs.List.{flat_map}
 use Rattle.std.specs.Net.Text.{ipv4_text}
-use Rattle.osc_model.specs.Algorithm.{algorithm_number}
+use Rattle.osc_model.specs.{algorithm_number}
 use Rattle.osc_model.specs.declared.node.Peer.{Peer}
 use Rattle.osc_settings.specs.declared.client.ClientSettings.{ClientSettings}
 use Rattle.osc_settings.specs.declared.proxy.ProxySettings.{ProxySettings}
 use Rattle.osc_settings.specs.declared.proxy.TargetSetting.{TargetSetting}
 use Rattle.osc_settings.specs.declared.resource.ResourceSetting.{ResourceSetting}
 use Rattle.osc_settings.specs.declared.server.ServerSettings.{ServerSettings}
-use Rattle.osc_simulation.specs.Text.{line}
+use Rattle.osc_simulation.specs.{line}
 use Rattle.osc_programs.specs.Log.{shown_byte}
 
 -- A.B.C.D:PORT

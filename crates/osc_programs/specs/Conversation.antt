@@ -7,17 +7,12 @@ use Rattle.osc_model.specs.declared.step.ClientResult.{ClientResult}
 use Rattle.osc_model.specs.declared.step.ClientResult.TheVariants.{Made, Answer}
 use Rattle.osc_model.specs.declared.step.Datagram.{Datagram}
 use Rattle.osc_model.specs.declared.step.Step.{Step}
-use Rattle.osc_message.specs.Endpoint.{fresh}
-use Rattle.osc_client.specs.Hearing.{Begins, Requests as Asks}
-use Rattle.osc_client.specs.Sending.{acts_at}
+use Rattle.osc_message.specs.{fresh}
+use Rattle.osc_client.specs.{Begins, Requests as Asks, acts_at, IsStep, HostAndPort}
 use Rattle.osc_client.specs.State.{State as Client}
-use Rattle.osc_client.specs.Steps.{IsStep}
-use Rattle.osc_client.specs.Route.{HostAndPort}
 use Rattle.osc_settings.specs.declared.client.ClientSettings.{ClientSettings}
-use Rattle.osc_simulation.specs.Records.{learnt_text}
-use Rattle.osc_simulation.specs.Simulation.{is_sealing, tag_of}
-use Rattle.osc_simulation.specs.Text.{line}
-use Rattle.osc_turn.specs.ClockAndRandom.{Gives, IsSeeded, ClockAndRandomState}
+use Rattle.osc_simulation.specs.{learnt_text, is_sealing, tag_of, line}
+use Rattle.osc_turn.specs.{Gives, IsSeeded, ClockAndRandomState}
 use Rattle.osc_programs.specs.Turning.{Running, TakesTurn}
 use Rattle.osc_programs.specs.declared.asking.Outcome.{Outcome}
 use Rattle.osc_programs.specs.declared.asking.Outcome.TheVariants.{Told, Open}

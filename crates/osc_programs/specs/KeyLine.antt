@@ -1,7 +1,7 @@
 -- The line that `osc key` prints.
 use Rattle.std.specs.Prelude.{List, ℕ}
 use Rattle.hex.specs.Hex.{encode_lower}
-use Rattle.osc_simulation.specs.Text.{line}
+use Rattle.osc_simulation.specs.{line}
 
 -- bytes in hexadecimal, and a line feed
 abbrev pub key_text : List ℕ → List ℕ

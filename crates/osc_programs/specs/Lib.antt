@@ -9,3 +9,11 @@ pub mod Conversation
 pub mod Checked
 pub mod KeyLine
 pub mod PayloadFile
+pub use Checked.{grant_line, resource_line, shown_line, target_line}
+pub use Conversation.{GoesOn, GoesOnBy, Requests, Upshot, Waits, after_sending, at_once, still, told, turns}
+pub use Ended.{CannotAsk, CannotLab, CannotTalk, EndsClient, EndsLab, EndsNode, EndsSim, EndsTold, EndsTurns, IsFault, NoSettings}
+pub use Log.{Report, Tells, Told, Writes, line_text, lost, lost_text, refusals_after, refusals_behind, report_text, reports_of, sent, shown_byte, step_text, told_by, told_of, told_with, untold, untold_text, with_line}
+pub use PayloadFile.{IsWithPayload, with_payload}
+pub use Serving.{target_of, tree_of, with_resource}
+pub use Turning.{Running, Runs, Shown, TakesTurn, Turns, and_then}
+pub use Unread.{IsUnreadText, IsWhy, TellsWhy, unread_text, unsaid_text}

@@ -4,7 +4,7 @@ use Rattle.std.specs.List.{flat_map}
 use Rattle.std.specs.Io.KnownBytes.{Appends}
 use Rattle.std.specs.Net.Text.{ipv4_text}
 use Rattle.osc_model.specs.Refusals as refusal
-use Rattle.osc_model.specs.Code.{method_of}
+use Rattle.osc_model.specs.{method_of}
 use Rattle.osc_model.specs.StepNotes.{StepNotes}
 use Rattle.osc_model.specs.declared.code.Code.{Code}
 use Rattle.osc_model.specs.declared.code.Method.{Method}
@@ -15,9 +15,9 @@ use Rattle.osc_model.specs.declared.step.Datagram.{Datagram}
 use Rattle.osc_model.specs.declared.step.Entry.{Entry}
 use Rattle.osc_model.specs.declared.step.RefusedRequest.{RefusedRequest}
 use Rattle.osc_model.specs.declared.step.Step.{Step}
-use Rattle.osc_options.specs.Texts.{read_request}
-use Rattle.osc_scope.specs.Text.{name_of}
-use Rattle.osc_simulation.specs.Text.{code_text, line}
+use Rattle.osc_options.specs.{read_request}
+use Rattle.osc_scope.specs.{name_of}
+use Rattle.osc_simulation.specs.{code_text, line}
 use Rattle.osc_programs.specs.declared.refusals.Refusals.{Refusals}
 
 -- ---- why a request was refused

@@ -2,23 +2,21 @@
 use Rattle.std.specs.Prelude.{◌≡◌, ℕ, Bool, List, [], fold, map}
 use Rattle.std.specs.FinMap as map
 use Rattle.std.specs.FinSet as set
-use Rattle.osc_model.specs.Scope.{exactly}
+use Rattle.osc_model.specs.{exactly}
 use Rattle.osc_model.specs.Tree.{Tree}
 use Rattle.osc_model.specs.declared.code.Method.TheVariants.{Get}
 use Rattle.osc_model.specs.declared.node.Moment.{Moment}
-use Rattle.osc_message.specs.Endpoint.{fresh}
-use Rattle.osc_proxy.specs.Exchanges.{none_open}
+use Rattle.osc_message.specs.{fresh}
+use Rattle.osc_proxy.specs.{none_open, IsStep as IsStepOfProxy, acts as proxy_acts_at}
 use Rattle.osc_proxy.specs.State.{State as Proxy}
-use Rattle.osc_proxy.specs.Steps.{IsStep as IsStepOfProxy}
-use Rattle.osc_proxy.specs.Ticks.{acts as proxy_acts_at}
 use Rattle.osc_proxy.specs.declared.targets.Target.{Target}
 use Rattle.osc_server.specs.State.{State as Server}
-use Rattle.osc_server.specs.Steps.{IsStep as IsStepOfServer, acts as server_acts}
+use Rattle.osc_server.specs.{IsStep as IsStepOfServer, acts as server_acts}
 use Rattle.osc_settings.specs.declared.proxy.ProxySettings.{ProxySettings}
 use Rattle.osc_settings.specs.declared.proxy.TargetSetting.{TargetSetting}
 use Rattle.osc_settings.specs.declared.resource.ResourceSetting.{ResourceSetting}
 use Rattle.osc_settings.specs.declared.server.ServerSettings.{ServerSettings}
-use Rattle.osc_simulation.specs.Simulation.{is_sealing}
+use Rattle.osc_simulation.specs.{is_sealing}
 use Rattle.osc_programs.specs.Turning.{Runs}
 
 -- ---- the nodes at first

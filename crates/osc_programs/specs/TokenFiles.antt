@@ -1,8 +1,7 @@
 -- The words of `osc token`, with what its files hold. What is known of a file is its bytes, where it could be opened and they are known.
 use Rattle.std.specs.Prelude.{◌≡◌, ◌⊎◌, ℕ, List, Option, Some, None, IfSome, codes}
-use Rattle.osc_script.specs.Values.{SpellsHexWithin}
-use Rattle.osc_words.specs.Filled.{with_secret}
-use Rattle.osc_words.specs.Sources.{Holds, file_option_of}
+use Rattle.osc_script.specs.{SpellsHexWithin}
+use Rattle.osc_words.specs.{with_secret, Holds, file_option_of}
 use Rattle.osc_words.specs.declared.hidden_option.HiddenOption.{HiddenOption}
 use Rattle.osc_words.specs.declared.hidden_option.HiddenOption.TheVariants as hidden
 use Rattle.osc_words.specs.declared.named_option.NamedOption.TheVariants.{Token}

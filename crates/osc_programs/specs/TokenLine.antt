@@ -1,12 +1,12 @@
 -- The line that `osc token` prints.
 use Rattle.std.specs.Prelude.{◌≡◌, ℕ, List, []}
 use Rattle.hex.specs.Hex.{encode_lower}
-use Rattle.osc_cbor.specs.Spelling.{spelling}
-use Rattle.osc_ccm.specs.Ccm.{IsSealing}
-use Rattle.osc_cose.specs.Encrypt0.{enc_structure, object_item}
-use Rattle.osc_token.specs.Token.{algorithm_header, claims_item, token_object}
+use Rattle.osc_cbor.specs.{spelling}
+use Rattle.osc_ccm.specs.{IsSealing}
+use Rattle.osc_cose.specs.{enc_structure, object_item}
+use Rattle.osc_token.specs.{algorithm_header, claims_item, token_object}
 use Rattle.osc_token.specs.declared.claims.Claims.{Claims}
-use Rattle.osc_simulation.specs.Text.{line}
+use Rattle.osc_simulation.specs.{line}
 
 -- The bytes are a token of these claims: the object whose ciphertext is the sealing of the claims' spelling under this key
 -- and IV, by AES-CCM with a tag of 8 bytes.

@@ -4,10 +4,8 @@ use Rattle.osc_model.specs.declared.node.Draw.{Draw}
 use Rattle.osc_model.specs.declared.node.Moment.{Moment}
 use Rattle.osc_model.specs.declared.step.Datagram.{Datagram}
 use Rattle.osc_model.specs.declared.step.Step.{Step}
-use Rattle.osc_run.specs.Nodes.{Cause}
-use Rattle.osc_turn.specs.Pace.{busy_after, must_tick}
-use Rattle.osc_turn.specs.Ports.{Received, cause_of}
-use Rattle.osc_turn.specs.ClockAndRandom.{Gives, IsSeeded, ClockAndRandomState}
+use Rattle.osc_run.specs.{Cause}
+use Rattle.osc_turn.specs.{busy_after, must_tick, Received, cause_of, Gives, IsSeeded, ClockAndRandomState}
 use Rattle.osc_programs.specs.Log.{IsStepText, lost_text}
 
 -- ---- turns

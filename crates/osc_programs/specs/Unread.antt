@@ -3,13 +3,12 @@
 use Rattle.std.specs.Prelude.{◌≡◌, ◌≢◌, ◌⊎◌, ℕ, List, ◌++◌, map, Option, IfSome, codes, decimal}
 use Rattle.std.specs.Str.{IsUtf8}
 use Rattle.toml.specs.Data.{Members}
-use Rattle.osc_settings.specs.Faults.{Lacks}
-use Rattle.osc_settings.specs.Keys.{form_of, name_of}
+use Rattle.osc_settings.specs.{Lacks, form_of, name_of}
 use Rattle.osc_settings.specs.declared.error.KeyFault.{KeyFault}
 use Rattle.osc_settings.specs.declared.error.KeyFault.TheVariants.{Unknown, Missing, Wrong}
 use Rattle.osc_settings.specs.declared.error.SettingsError.{SettingsError}
 use Rattle.osc_settings.specs.declared.error.SettingsError.TheVariants.{NotToml, Key, Target, Memory}
-use Rattle.osc_simulation.specs.Text.{line}
+use Rattle.osc_simulation.specs.{line}
 use Rattle.osc_programs.specs.Log.{Told, Writes, shown_byte}
 
 -- ---- the line

@@ -2,9 +2,8 @@
 ghost use Rattle.std.specs.Prelude.{◌≡◌, ◌≢◌, ◌⊎◌, ◌<◌, ◌≤◌, ℕ, List, [], IfOk, IfSome, None, Ok, Err, length, string_bytes};
 ghost use Rattle.std.specs.Io.KnownBytes.{Appends};
 ghost use Rattle.rand_core.specs.Stream.{fill_bytes};
-ghost use Rattle.osc_cbor.specs.Spelling.{spelling};
-ghost use Rattle.osc_token.specs.Minted.{most_claims};
-ghost use Rattle.osc_token.specs.Token.{claims_item};
+ghost use Rattle.osc_cbor.specs.{spelling};
+ghost use Rattle.osc_token.specs.{most_claims, claims_item};
 ghost use Rattle.osc_programs.specs.Ended as ends;
 ghost use Rattle.osc_programs.specs.TokenLine as spec;
 

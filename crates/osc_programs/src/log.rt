@@ -1,9 +1,9 @@
 //! The lines by which a node tells what its steps did, or why it has no settings.
 ghost use Rattle.std.specs.Prelude.{◌≡◌, ◌⊎◌, ◌==◌, ◌+◌, ◌-◌, ◌^◌, ◌++◌, count_by, IfOk, List, max, min, None, Ok, OnOk, Some, ℕ, map, option_map, string_bytes};
 ghost use Rattle.std.specs.Io.KnownBytes.{Appends};
-ghost use Rattle.osc_model.specs.Code.{method_of};
-ghost use Rattle.osc_scope.specs.Text.{name_of};
-ghost use Rattle.osc_options.specs.Texts.{read_request};
+ghost use Rattle.osc_model.specs.{method_of};
+ghost use Rattle.osc_scope.specs.{name_of};
+ghost use Rattle.osc_options.specs.{read_request};
 ghost use Rattle.osc_programs.specs.Log as spec;
 ghost use Rattle.osc_programs.specs.Unread as unread;
 

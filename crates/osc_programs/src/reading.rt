@@ -3,9 +3,7 @@ ghost use Rattle.std.specs.Prelude.{◌≡◌, ◌⊎◌, List, ℕ, IfErr, IfOk
 ghost use Rattle.osc_programs.specs.Ended as ends;
 ghost use Rattle.osc_programs.specs.Log.{Writes};
 ghost use Rattle.osc_programs.specs.Unread as spec;
-ghost use Rattle.osc_settings.specs.Document.{StandsFor};
-ghost use Rattle.osc_settings.specs.Faults.{IsClientFault, IsFaultOfProxy, IsKeyFault, IsServerFault};
-ghost use Rattle.osc_settings.specs.Settings.{AreClientSettings, AreProxySettings, AreServerSettings};
+ghost use Rattle.osc_settings.specs.{StandsFor, IsClientFault, IsFaultOfProxy, IsKeyFault, IsServerFault, AreClientSettings, AreProxySettings, AreServerSettings};
 
 use crate::ended::{Ended, ended_by_io};
 use crate::log::Log;

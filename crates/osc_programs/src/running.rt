@@ -2,18 +2,15 @@
 ghost use Rattle.std.specs.FinMap as map;
 ghost use Rattle.std.specs.FinSet as set;
 ghost use Rattle.std.specs.Prelude.{◌≡◌, ◌<◌, ◌≤◌, ℕ, List, IfErr, IfOk, IfSome, OnOk, length, map, option_map};
-ghost use Rattle.osc_model.specs.Tree.{longest_payload, most_resources};
-ghost use Rattle.osc_model.specs.Scope.{exactly};
+ghost use Rattle.osc_model.specs.{longest_payload, most_resources, exactly};
 ghost use Rattle.osc_model.specs.declared.code.Method.TheVariants as AnyMethod;
-ghost use Rattle.osc_turn.specs.Ports.{grown};
+ghost use Rattle.osc_turn.specs.{grown};
 ghost use Rattle.osc_programs.specs.Ended as ends;
 ghost use Rattle.osc_programs.specs.Log.{Tells};
 ghost use Rattle.osc_programs.specs.Serving as spec;
 ghost use Rattle.osc_programs.specs.Turning as turning;
 ghost use Rattle.osc_programs.specs.Unread.{TellsWhy};
-ghost use Rattle.osc_settings.specs.Document.{StandsFor};
-ghost use Rattle.osc_settings.specs.Faults.{IsFaultOfProxy, IsKeyFault, IsServerFault};
-ghost use Rattle.osc_settings.specs.Settings.{AreProxySettings, AreServerSettings};
+ghost use Rattle.osc_settings.specs.{StandsFor, IsFaultOfProxy, IsKeyFault, IsServerFault, AreProxySettings, AreServerSettings};
 ghost use Rattle.osc_settings.specs.declared.proxy.ProxySettings.{ProxySettings as ForwardedBy};
 ghost use Rattle.osc_settings.specs.declared.server.ServerSettings.{ServerSettings as ServedBy};
 

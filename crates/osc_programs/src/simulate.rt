@@ -2,9 +2,8 @@
 ghost use Rattle.std.specs.Prelude.{◌≡◌, ◌≢◌, ◌⊎◌, ◌++◌, ℕ, List, IfSome};
 ghost use Rattle.std.specs.Io.KnownBytes.{Appends};
 ghost use Rattle.osc_programs.specs.Ended as ends;
-ghost use Rattle.osc_script.specs.Script.{IsFirstBad};
-ghost use Rattle.osc_simulation.specs.Simulation.{CutShort, Simulates};
-ghost use Rattle.osc_simulation.specs.Trace.{bad_line_text};
+ghost use Rattle.osc_script.specs.{IsFirstBad};
+ghost use Rattle.osc_simulation.specs.{CutShort, Simulates, bad_line_text};
 
 use crate::ended::Ended;
 use crate::issue::written;

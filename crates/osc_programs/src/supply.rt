@@ -10,7 +10,9 @@ use std::random::RandomSource;
 use std::time::Clock;
 
 /// Over the clock of this runtime, with a generator whose seed comes from the system.
-pub fn supply_of<R: Clock + RandomSource>(runtime: &R) -> Result<ClockAndRandom<SystemWatch<'_, R>>, Ended>
+pub fn supply_of<R: Clock + RandomSource>(
+    runtime: &R,
+) -> Result<ClockAndRandom<SystemWatch<'_, R>>, Ended>
     ensures seeded { IfOk result (λ supply. spec.IsSeeded supply) }
     ensures fault { IfErr result ends.IsFault }
 {
@@ -21,7 +23,9 @@ pub fn supply_of<R: Clock + RandomSource>(runtime: &R) -> Result<ClockAndRandom<
 }
 
 /// The moment and the random bytes of one event.
-pub fn moment_and_draw<W: Watch + Drop>(supply: &mut ClockAndRandom<W>) -> Result<(Moment, Draw), Ended>
+pub fn moment_and_draw<W: Watch + Drop>(
+    supply: &mut ClockAndRandom<W>,
+) -> Result<(Moment, Draw), Ended>
     ensures gives { IfOk result (λ given. spec.Gives supply.old given.0 given.1 supply.new) }
     ensures fault { IfErr result ends.IsFault }
 {

@@ -1,8 +1,8 @@
 //! What the key and the secret of a token are, where they stand in files.
 ghost use Rattle.std.specs.Prelude.{◌≡◌, ◌⊎◌, IfErr, IfOk, IfSome, MatchResult, option_and_then};
 ghost use Rattle.osc_programs.specs.TokenFiles as spec;
-ghost use Rattle.osc_script.specs.Values.{SpellsHexWithin};
-ghost use Rattle.osc_words.specs.Sources.{file_option_of};
+ghost use Rattle.osc_script.specs.{SpellsHexWithin};
+ghost use Rattle.osc_words.specs.{file_option_of};
 
 use crate::ended::Ended;
 use crate::reading::bytes_of;

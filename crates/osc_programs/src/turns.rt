@@ -1,7 +1,7 @@
 //! Turns of a node at a port, at the moments of a clock and with the bytes of a generator.
 ghost use Rattle.std.specs.Prelude.{◌≡◌, ◌≢◌, ◌⊎◌, ◌<◌, ℕ, List, None, IfErr, IfOk, OnErr, OnOk};
 ghost use Rattle.osc_model.specs.declared.step.Datagram.{Datagram as AnyDatagram};
-ghost use Rattle.osc_turn.specs.Ports.{grown};
+ghost use Rattle.osc_turn.specs.{grown};
 ghost use Rattle.osc_programs.specs.Ended as ends;
 ghost use Rattle.osc_programs.specs.Log.{Tells};
 ghost use Rattle.osc_programs.specs.Turning as spec;
@@ -11,7 +11,7 @@ use crate::log::Log;
 use crate::supply::moment_and_draw;
 use osc_ccm::Suite;
 use osc_run::Node;
-use osc_turn::{Pace, Port, ClockAndRandom, TurnError, Turned, Watch, paced_turn};
+use osc_turn::{ClockAndRandom, Pace, Port, TurnError, Turned, Watch, paced_turn};
 use std::alloc::Global;
 
 /// The node takes so many turns, unless one fails, and the log tells of each. A datagram that can't be sent is lost, as on the way; so

@@ -2,7 +2,7 @@
 ghost use Rattle.std.specs.Prelude.{◌≡◌, ◌++◌, IfOk, codes, decimal, map, string_bytes};
 ghost use Rattle.osc_programs.specs.Log.{shown_byte};
 ghost use Rattle.osc_programs.specs.Unread as spec;
-ghost use Rattle.osc_settings.specs.Keys.{form_of, name_of};
+ghost use Rattle.osc_settings.specs.{form_of, name_of};
 ghost use Rattle.osc_settings.specs.declared.error.KeyFault.TheVariants as AnyFault;
 ghost use Rattle.osc_settings.specs.declared.error.SettingsError.TheVariants as AnyError;
 

@@ -1,17 +1,14 @@
 -- The associated data, part by part.
 use Rattle.std.proofs.Common.{◌≡◌, ℕ, ◌+◌, ◌*◌, ◌<◌, ◌≤◌, List, [], ◌∷◌, ◌++◌, length, refl, arith}
 use Rattle.std.proofs.lemmas.List.{append-nil, append_assoc, length-append}
-use Rattle.osc_model.specs.Algorithm.{algorithm_number}
+use Rattle.osc_model.specs.{algorithm_number}
 use Rattle.osc_model.specs.declared.algorithm.Algorithm.{Algorithm}
 use Rattle.osc_model.specs.declared.algorithm.Algorithm.TheVariants.{EightByteTag, SixteenByteTag}
 use Rattle.osc_model.specs.declared.context.ContextName.{ContextName}
-use Rattle.osc_cbor.specs.Data.{byte_string, unsigned}
-use Rattle.osc_cbor.specs.Head.{head}
-use Rattle.osc_cbor.specs.Spelling.{spelling}
-use Rattle.osc_cose.specs.Encrypt0.{enc_structure}
-use Rattle.osc_context.specs.Algorithm.{algorithm_of}
-use Rattle.osc_context.specs.Nonce.{partial_iv}
-use Rattle.osc_protect.specs.Aad.{external_aad, aad_of}
+use Rattle.osc_cbor.specs.{byte_string, unsigned, head, spelling}
+use Rattle.osc_cose.specs.{enc_structure}
+use Rattle.osc_context.specs.{algorithm_of, partial_iv}
+use Rattle.osc_protect.specs.{external_aad, aad_of}
 
 -- a short string's head is one byte
 pub short_head : (major n : ℕ) → n < 24 → head major n ≡ (32 * major + n) ∷ []

@@ -3,15 +3,12 @@ use Rattle.std.proofs.Common.{◌≡◌, ℕ, ◌+◌, ◌*◌, ◌<◌, ◌≤�
 use Rattle.std.specs.Prelude.{codes}
 use Rattle.std.proofs.lemmas.Bool.{lt-ltb}
 use Rattle.std.proofs.lemmas.List.{append_cancel_left, append_cancel_right}
-use Rattle.osc_model.specs.Algorithm.{algorithm_number}
+use Rattle.osc_model.specs.{algorithm_number}
 use Rattle.osc_model.specs.declared.context.ContextName.{ContextName}
-use Rattle.osc_cbor.specs.Data.{byte_string}
-use Rattle.osc_cbor.specs.Head.{head}
-use Rattle.osc_cbor.specs.Spelling.{spelling}
-use Rattle.osc_cose.specs.Encrypt0.{enc_structure}
-use Rattle.osc_context.specs.Algorithm.{algorithm_of}
-use Rattle.osc_context.specs.Nonce.{partial_iv}
-use Rattle.osc_protect.specs.Aad.{external_aad, aad_of}
+use Rattle.osc_cbor.specs.{byte_string, head, spelling}
+use Rattle.osc_cose.specs.{enc_structure}
+use Rattle.osc_context.specs.{algorithm_of, partial_iv}
+use Rattle.osc_protect.specs.{external_aad, aad_of}
 use Rattle.osc_protect.proofs.AadLemmas.{aad_of_is, algorithm_short, short_string_length}
 use Rattle.osc_protect.proofs.ValuePartialIv.{partial_iv-short, one_number}
 

@@ -5,16 +5,12 @@ use Rattle.osc_model.specs.declared.algorithm.Algorithm.{Algorithm}
 use Rattle.osc_model.specs.declared.context.ContextName.{ContextName}
 use Rattle.osc_model.specs.declared.context.Side.TheVariants.{Client, Server}
 use Rattle.osc_coap.specs.Message.{Message}
-use Rattle.osc_coap.specs.Plaintext.{Plaintext, plaintext_spelling}
-use Rattle.osc_coap.specs.Building.{payload_of}
-use Rattle.osc_options.specs.Requests.{value}
-use Rattle.osc_options.specs.Split.{plaintext_of, protected}
-use Rattle.osc_context.specs.Algorithm.{algorithm_of}
-use Rattle.osc_context.specs.Derivation.{key_of}
-use Rattle.osc_context.specs.Nonce.{greatest_number}
-use Rattle.osc_protect.specs.Aad.{aad_of}
-use Rattle.osc_ccm.specs.Ciphers.{Sealings, Tags, SealsOneText, IsLongerBy}
-use Rattle.osc_protect.specs.Protection.{HasShortContext, plain_bytes, request_nonce, response_nonce, request_value, response_value, IsProtectedRequest, IsProtectedResponse, SealedRequest, IsRequest, IsFor, SealedResponse, IsResponse}
+use Rattle.osc_coap.specs.{plaintext_spelling, payload_of}
+use Rattle.osc_coap.specs.Plaintext.{Plaintext}
+use Rattle.osc_options.specs.{value, plaintext_of, protected}
+use Rattle.osc_context.specs.{algorithm_of, key_of, greatest_number}
+use Rattle.osc_protect.specs.{aad_of, HasShortContext, plain_bytes, request_nonce, response_nonce, request_value, response_value, IsProtectedRequest, IsProtectedResponse, SealedRequest, IsRequest, IsFor, SealedResponse, IsResponse}
+use Rattle.osc_ccm.specs.{Sealings, Tags, SealsOneText, IsLongerBy}
 
 -- ---- the payload
 

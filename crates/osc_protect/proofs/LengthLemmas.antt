@@ -1,10 +1,9 @@
 -- How long protected messages are: only the length of the payload counts.
 use Rattle.std.proofs.Common.{◌≡◌, ℕ, ◌+◌, ◌≤◌, List, [], ◌∷◌, length, None, refl, ap, ◌∙◌, sym, arith, replicate}
 use Rattle.std.proofs.lemmas.List.{length-replicate}
-use Rattle.osc_coap.specs.Message.{Message, spelling}
-use Rattle.osc_coap.specs.Length.{payload_length}
-use Rattle.osc_coap.specs.Building.{payload_of, with_payload}
-use Rattle.osc_options.specs.Split.{protected}
+use Rattle.osc_coap.specs.{spelling, payload_length, payload_of, with_payload}
+use Rattle.osc_coap.specs.Message.{Message}
+use Rattle.osc_options.specs.{protected}
 
 -- by how much a payload makes a message longer
 abbrev pub Grows : Type 0

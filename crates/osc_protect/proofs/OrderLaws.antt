@@ -1,8 +1,8 @@
 -- The numbers of a message's options don't fall (RFC 7252 section 3.1).
 use Rattle.std.proofs.Common.{◌≡◌, ℕ, ◌<◌, List, [], ◌∷◌, None, refl, arith}
 use Rattle.std.proofs.lemmas.Bool.{ne_eqb}
-use Rattle.osc_coap.specs.Message.{NumberAndValue, AreOptions}
-use Rattle.osc_options.specs.Requests.{value}
+use Rattle.osc_coap.specs.{NumberAndValue, AreOptions}
+use Rattle.osc_options.specs.{value}
 
 -- none of a smaller number stands behind an option
 no_value : (number before : ℕ) (options : List NumberAndValue) → AreOptions before options → number < before → value number options ≡ None

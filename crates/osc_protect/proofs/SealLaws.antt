@@ -4,18 +4,13 @@ use Rattle.std.specs.Result.{IfOk}
 use Rattle.osc_model.specs.declared.context.ContextName.{ContextName}
 use Rattle.osc_model.specs.declared.reply.Reply.{Reply}
 use Rattle.osc_model.specs.declared.request.Request.{Request}
-use Rattle.osc_coap.specs.Building.{bare}
-use Rattle.osc_coap.specs.Message.{NumberAndValue, Message, AreOptions, spelling}
-use Rattle.osc_coap.specs.Plaintext.{plaintext_spelling}
-use Rattle.osc_options.specs.PlaintextReplies.{reply_plaintext}
-use Rattle.osc_options.specs.PlaintextRequests.{request_plaintext}
-use Rattle.osc_options.specs.Replies.{with_reply}
-use Rattle.osc_options.specs.Split.{AreInOrder, plaintext_of, protected, unprotected}
-use Rattle.osc_options.specs.Texts.{reply_text}
-use Rattle.osc_context.specs.Algorithm.{algorithm_of}
-use Rattle.osc_ccm.specs.Ciphers.{Sealings, Tags}
+use Rattle.osc_coap.specs.{bare, NumberAndValue, AreOptions, spelling, plaintext_spelling}
+use Rattle.osc_coap.specs.Message.{Message}
+use Rattle.osc_options.specs.{reply_plaintext, request_plaintext, with_reply, AreInOrder, plaintext_of, protected, unprotected, reply_text}
+use Rattle.osc_context.specs.{algorithm_of}
+use Rattle.osc_ccm.specs.{Sealings, Tags}
 use Rattle.osc_protect.specs.Inner.Outside.{IsSealedOutside, outer_response}
-use Rattle.osc_protect.specs.Protection.{IsProtectedRequest, IsProtectedResponse, IsRequestOf, length_of_request, plain_bytes, reply_with_header, request_length, request_value, response_length, response_with}
+use Rattle.osc_protect.specs.{IsProtectedRequest, IsProtectedResponse, IsRequestOf, length_of_request, plain_bytes, reply_with_header, request_length, request_value, response_length, response_with}
 use Rattle.osc_protect.specs.declared.header.Header.{Header}
 
 pub if_ok : {T E : Type 0} (r : Result T E) (P Q : T → Type 0) → ((x : T) → P x → Q x) → IfOk r P → IfOk r Q

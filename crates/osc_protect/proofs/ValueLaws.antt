@@ -4,8 +4,8 @@ use Rattle.std.specs.Prelude.{IfSome, is_some, unwrap_or, ◌==◌}
 use Rattle.std.proofs.lemmas.Bool.{cases_Bool, cases_lt, eqb-true, eqb-false, le-ltb, ltb-false, ne_eqb}
 use Rattle.std.proofs.lemmas.List.{take_at, drop_at, take-append-drop, length-append, length-take, length-take-le, get_or-take, get_or-drop, get_or_past}
 use Rattle.std.proofs.lemmas.Option.{some_pair_parts}
-use Rattle.osc_context.specs.Nonce.{greatest_number, partial_iv}
-use Rattle.osc_protect.specs.Value.{Compressed, partial_iv_bytes, kid_context_bytes, flag_bits, value_spelling, HasValueSpelling, SpellsValue}
+use Rattle.osc_context.specs.{greatest_number, partial_iv}
+use Rattle.osc_protect.specs.{Compressed, partial_iv_bytes, kid_context_bytes, flag_bits, value_spelling, HasValueSpelling, SpellsValue}
 use Rattle.osc_protect.specs.Inner.ValueReading.{◌>>=◌, number_in, has_leading_zero, partial_iv_at, kid_context_at, kid_at, parts_at, value_at}
 use Rattle.osc_protect.proofs.ValuePartialIv.{AreBytes, IsShortest, partial_iv-some, partial_iv-short, has_leading_zero-partial_iv, number_in-partial_iv, partial_iv-number_in, number_in-fits}
 

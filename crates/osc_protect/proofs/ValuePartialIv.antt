@@ -1,7 +1,7 @@
 -- A Partial IV is read as its number, and is the one of the number that it is read as.
 use Rattle.std.proofs.Common.{◌≡◌, ℕ, ◌+◌, ◌*◌, ◌/◌, ◌%◌, ◌^◌, ◌<◌, ◌≤◌, true, false, cond, eqb, List, [], ◌∷◌, length, get_or, refl, sym, ap, ◌∙◌, arith}
 use Rattle.std.proofs.lemmas.Bool.{eqb-true}
-use Rattle.osc_context.specs.Nonce.{greatest_number, five_bytes, without_zeros, partial_iv}
+use Rattle.osc_context.specs.{greatest_number, five_bytes, without_zeros, partial_iv}
 use Rattle.osc_protect.specs.Inner.ValueReading.{number_in, has_leading_zero}
 
 -- each element is a byte

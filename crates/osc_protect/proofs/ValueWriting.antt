@@ -3,9 +3,8 @@ use Rattle.std.proofs.Common.{◌≡◌, ℕ, ◌+◌, ◌<◌, List, [], ◌∷
 use Rattle.std.specs.Prelude.{unwrap_or}
 use Rattle.std.proofs.lemmas.Bool.{ne_eqb}
 use Rattle.std.proofs.lemmas.List.{append-nil}
-use Rattle.osc_context.specs.Nonce.{partial_iv}
-use Rattle.osc_protect.specs.Value.{Compressed, partial_iv_bytes, kid_context_bytes, flag_bits, value_spelling}
-use Rattle.osc_protect.specs.Protection.{response_value}
+use Rattle.osc_context.specs.{partial_iv}
+use Rattle.osc_protect.specs.{Compressed, partial_iv_bytes, kid_context_bytes, flag_bits, value_spelling, response_value}
 use Rattle.osc_protect.proofs.ValuePartialIv.{partial_iv-some}
 
 value_spelling-some : (c : Compressed) → 0 < flag_bits c → value_spelling c ≡ flag_bits c ∷ partial_iv_bytes c.partial_iv ++ kid_context_bytes c.kid_context ++ unwrap_or c.kid []

@@ -1,12 +1,10 @@
 -- The associated data of a request and of its response (RFC 8613 section 5.4).
 use Rattle.std.specs.Prelude.{ℕ, List, []}
-use Rattle.osc_model.specs.Algorithm.{algorithm_number}
+use Rattle.osc_model.specs.{algorithm_number}
 use Rattle.osc_model.specs.declared.context.ContextName.{ContextName}
-use Rattle.osc_cbor.specs.Data.{unsigned, byte_string, array, no_items, item}
-use Rattle.osc_cbor.specs.Spelling.{spelling}
-use Rattle.osc_cose.specs.Encrypt0.{enc_structure}
-use Rattle.osc_context.specs.Algorithm.{algorithm_of}
-use Rattle.osc_context.specs.Nonce.{partial_iv}
+use Rattle.osc_cbor.specs.{unsigned, byte_string, array, no_items, item, spelling}
+use Rattle.osc_cose.specs.{enc_structure}
+use Rattle.osc_context.specs.{algorithm_of, partial_iv}
 
 -- external_aad = [oscore_version, [alg_aead], request_kid, request_piv, options]: version 1, the client's ID and the Partial
 -- IV of the request, and no class I options

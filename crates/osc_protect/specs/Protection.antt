@@ -5,20 +5,15 @@ use Rattle.osc_model.specs.declared.context.ContextName.{ContextName}
 use Rattle.osc_model.specs.declared.context.Side.{Side}
 use Rattle.osc_model.specs.declared.context.Side.TheVariants.{Client, Server}
 use Rattle.osc_model.specs.declared.step.Note.{Note}
-use Rattle.osc_coap.specs.Message.{Message, spelling}
-use Rattle.osc_coap.specs.Plaintext.{plaintext_spelling}
-use Rattle.osc_coap.specs.Building.{bare}
+use Rattle.osc_coap.specs.{spelling, plaintext_spelling, bare}
+use Rattle.osc_coap.specs.Message.{Message}
 use Rattle.osc_model.specs.declared.reply.Reply.{Reply}
-use Rattle.osc_options.specs.Replies.{with_reply}
-use Rattle.osc_options.specs.Requests.{value}
-use Rattle.osc_options.specs.Split.{plaintext_of, protected}
-use Rattle.osc_context.specs.Algorithm.{algorithm_of}
-use Rattle.osc_context.specs.Derivation.{key_of}
-use Rattle.osc_context.specs.Nonce.{nonce_of}
+use Rattle.osc_options.specs.{with_reply, value, plaintext_of, protected}
+use Rattle.osc_context.specs.{algorithm_of, key_of, nonce_of}
 use Rattle.osc_protect.specs.Value.{value_spelling, SpellsValue}
 use Rattle.osc_protect.specs.Aad.{aad_of}
 use Rattle.osc_protect.specs.declared.header.Header.{Header}
-use Rattle.osc_ccm.specs.Ciphers.{Sealing, Sealings, Tags}
+use Rattle.osc_ccm.specs.{Sealing, Sealings, Tags}
 
 -- an id context is short enough for the option's value
 abbrev pub HasShortContext : ContextName → Type 0

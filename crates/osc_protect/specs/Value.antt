@@ -1,6 +1,6 @@
 -- The value of the OSCORE option, and the one spelling of it (RFC 8613 section 6.1).
 use Rattle.std.specs.Prelude.{◌≡◌, ℕ, ◌+◌, ◌<◌, ◌≤◌, ◌==◌, if◌then◌else◌, List, [], ◌∷◌, ◌++◌, length, Option, Some, None, IfSome, is_some, unwrap_or}
-use Rattle.osc_context.specs.Nonce.{greatest_number, partial_iv}
+use Rattle.osc_context.specs.{greatest_number, partial_iv}
 
 -- the header parameters that it holds; the Partial IV as its number
 pub record Compressed : Type 0 where

@@ -2,11 +2,9 @@
 
 ghost use Rattle.std.specs.Prelude.{◌≡◌, ◌+◌, ◌≤◌, ◌<◌, ◌++◌, length};
 ghost use Rattle.arrayvec.specs.ArrayVec.{array_vec_len};
-ghost use Rattle.osc_model.specs.Algorithm.{algorithm_number};
-ghost use Rattle.osc_cbor.specs.Data.{byte_string, unsigned};
-ghost use Rattle.osc_cbor.specs.Spelling.{spelling};
-ghost use Rattle.osc_context.specs.Algorithm.{algorithm_of as algorithm};
-ghost use Rattle.osc_context.specs.Nonce.{longest_id, greatest_number};
+ghost use Rattle.osc_model.specs.{algorithm_number};
+ghost use Rattle.osc_cbor.specs.{byte_string, unsigned, spelling};
+ghost use Rattle.osc_context.specs.{algorithm_of as algorithm, longest_id, greatest_number};
 ghost use Rattle.osc_protect.specs.Aad.{external_aad as external, aad_of};
 
 use arrayvec::ArrayVec;

@@ -1,7 +1,7 @@
 //! What stands before the options of a message that answers, and the protected response that goes with it.
 
 ghost use Rattle.std.specs.Prelude.{◌≡◌, [], ◌↔◌, ◌+◌, ◌≤◌, length, replicate, IsSome, IfSome};
-ghost use Rattle.osc_coap.specs.Message.{spelling};
+ghost use Rattle.osc_coap.specs.{spelling};
 ghost use Rattle.osc_protect.specs.Inner.Outside.{outer_response};
 ghost use Rattle.osc_protect.specs.Protection.{longest_message};
 

@@ -2,15 +2,13 @@
 
 ghost use Rattle.std.specs.Prelude.{◌≡◌, ◌<◌, ◌≤◌, ℕ, List, Option, None, IfSome, length, false};
 ghost use Rattle.osc_model.specs.declared.context.ContextName.{ContextName as AnyName};
-ghost use Rattle.osc_coap.specs.Message.{Message, HasSpelling, spelling};
-ghost use Rattle.osc_coap.specs.Plaintext.{SpellsPlaintext};
-ghost use Rattle.osc_options.specs.Split.{AreInOrder, plaintext_of, unprotected, has_oscore};
+ghost use Rattle.osc_coap.specs.{HasSpelling, spelling, SpellsPlaintext};
+ghost use Rattle.osc_coap.specs.Message.{Message};
+ghost use Rattle.osc_options.specs.{AreInOrder, plaintext_of, unprotected, has_oscore};
 ghost use Rattle.osc_model.specs.declared.context.Side.TheVariants.{Client, Server};
-ghost use Rattle.osc_context.specs.Algorithm.{algorithm_of};
-ghost use Rattle.osc_context.specs.Derivation.{key_of};
-ghost use Rattle.osc_context.specs.Nonce.{longest_id, greatest_number};
+ghost use Rattle.osc_context.specs.{algorithm_of, key_of, longest_id, greatest_number};
 ghost use Rattle.osc_protect.specs.Aad.{aad_of};
-ghost use Rattle.osc_ccm.specs.Ciphers.{Tags};
+ghost use Rattle.osc_ccm.specs.{Tags};
 ghost use Rattle.osc_protect.specs.Value.{Compressed, SpellsValue};
 ghost use Rattle.osc_protect.specs.Protection.{HasShortContext, plain_bytes, request_nonce, request_value, response_nonce, response_value, request_length, response_length, IsProtectedRequest, IsProtectedResponse, SealedRequest, IsRequest, SealedResponse, IsResponse, IsFor};
 

@@ -1,8 +1,7 @@
 //! The opening of a payload: no memory is taken before it is known to be genuine.
 
 ghost use Rattle.std.specs.Prelude.{◌≡◌, ◌↔◌, ◌≤◌, ◌<◌, ◌⊎◌, ℕ, List, length, take, IsErr, IsNone, IfOk, IfSome, IfNone};
-ghost use Rattle.osc_context.specs.Algorithm.{algorithm_of};
-ghost use Rattle.osc_context.specs.Nonce.{longest_id, greatest_number};
+ghost use Rattle.osc_context.specs.{algorithm_of, longest_id, greatest_number};
 ghost use Rattle.osc_protect.specs.Aad.{aad_of};
 ghost use Rattle.osc_protect.specs.Protection.{longest_message, note_of, IsGenuine};
 

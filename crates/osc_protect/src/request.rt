@@ -1,13 +1,10 @@
 //! Protected requests (RFC 8613 sections 8.1 and 8.2).
 
 ghost use Rattle.std.specs.Prelude.{◌≡◌, ◌≤◌, ◌<◌, ◌⊎◌, ◌↔◌, ◌+◌, ℕ, List, [], length, replicate, IsOk, IsErr, IsSome, IfOk, IfErr, IfSome};
-ghost use Rattle.osc_coap.specs.Message.{spelling};
-ghost use Rattle.osc_options.specs.PlaintextRequests.{request_plaintext as request_plaintext_of};
-ghost use Rattle.osc_options.specs.Split.{protected, unprotected};
+ghost use Rattle.osc_coap.specs.{spelling};
+ghost use Rattle.osc_options.specs.{request_plaintext as request_plaintext_of, protected, unprotected};
 ghost use Rattle.osc_model.specs.declared.context.Side.TheVariants.{Client, Server};
-ghost use Rattle.osc_context.specs.Algorithm.{algorithm_of};
-ghost use Rattle.osc_context.specs.Derivation.{key_of, taken_of, sender_of, recipient_of};
-ghost use Rattle.osc_context.specs.Nonce.{longest_id, greatest_number};
+ghost use Rattle.osc_context.specs.{algorithm_of, key_of, taken_of, sender_of, recipient_of, longest_id, greatest_number};
 ghost use Rattle.osc_protect.specs.Aad.{aad_of};
 ghost use Rattle.osc_protect.specs.Protection.{HasShortContext, HasRoomFor, longest_message, plain_bytes, request_nonce, note_of, IsRequestOf, IsProtectedRequest, IsGenuine, length_of_request, request_length, IsFor};
 

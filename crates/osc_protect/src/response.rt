@@ -1,12 +1,10 @@
 //! Protected responses (RFC 8613 sections 8.3 and 8.4).
 
 ghost use Rattle.std.specs.Prelude.{◌≡◌, ◌≤◌, ◌<◌, ◌⊎◌, ◌↔◌, ◌+◌, ℕ, List, Some, None, length, replicate, IfSome, IsOk, IsErr, IfOk, IfErr};
-ghost use Rattle.osc_coap.specs.Message.{spelling};
+ghost use Rattle.osc_coap.specs.{spelling};
 ghost use Rattle.osc_model.specs.declared.context.Side.TheVariants.{Client, Server};
-ghost use Rattle.osc_context.specs.Algorithm.{algorithm_of};
-ghost use Rattle.osc_context.specs.Derivation.{key_of, accepted_of, taken_of, sender_of, recipient_of};
-ghost use Rattle.osc_context.specs.Nonce.{longest_id, greatest_number};
-ghost use Rattle.osc_options.specs.Texts.{reply_text};
+ghost use Rattle.osc_context.specs.{algorithm_of, key_of, accepted_of, taken_of, sender_of, recipient_of, longest_id, greatest_number};
+ghost use Rattle.osc_options.specs.{reply_text};
 ghost use Rattle.osc_protect.specs.Aad.{aad_of};
 ghost use Rattle.osc_protect.specs.Inner.Outside.{IsSealedOutside, outer_response};
 ghost use Rattle.osc_protect.specs.Protection.{HasRoomFor, longest_message, plain_bytes, request_nonce, response_nonce, note_of, IsGenuine, IsProtectedResponse, reply_with_header, response_length};

@@ -1,9 +1,8 @@
 //! The memory of one seal, taken beforehand.
 
 ghost use Rattle.std.specs.Prelude.{◌≡◌, ◌≤◌, length, IfOk};
-ghost use Rattle.osc_context.specs.Algorithm.{algorithm_of};
-ghost use Rattle.osc_context.specs.Nonce.{longest_id, greatest_number};
-ghost use Rattle.osc_options.specs.Texts.{reply_text};
+ghost use Rattle.osc_context.specs.{algorithm_of, longest_id, greatest_number};
+ghost use Rattle.osc_options.specs.{reply_text};
 ghost use Rattle.osc_protect.specs.Aad.{aad_of};
 ghost use Rattle.osc_protect.specs.Protection.{note_of};
 

@@ -1,8 +1,8 @@
 //! What protected messages say before they are opened (RFC 8613 sections 8.2 and 8.4).
 
 ghost use Rattle.std.specs.Prelude.{◌≡◌, ◌↔◌, ◌≤◌, Ok, Some, IfOk, IfSome, IsTrue, option_copied};
-ghost use Rattle.osc_context.specs.Nonce.{greatest_number};
-ghost use Rattle.osc_options.specs.Requests.{value as value_in};
+ghost use Rattle.osc_context.specs.{greatest_number};
+ghost use Rattle.osc_options.specs.{value as value_in};
 ghost use Rattle.osc_protect.specs.Protection.{SealedRequest, IsRequest, IsFor, SealedResponse, IsResponse};
 
 use crate::error::Malformed;
@@ -24,7 +24,7 @@ pub struct SealedRequestRef<'a> {
 
 impl<'a> Model for SealedRequestRef<'a> {
     ghost use Rattle.std.specs.Prelude.{◌≤◌, option_copied};
-    ghost use Rattle.osc_context.specs.Nonce.{greatest_number};
+    ghost use Rattle.osc_context.specs.{greatest_number};
     ghost use Rattle.osc_protect.specs.Protection.{SealedRequest};
 
     ghost Value = { SealedRequest };
@@ -44,7 +44,7 @@ pub struct SealedResponseRef<'a> {
 
 impl<'a> Model for SealedResponseRef<'a> {
     ghost use Rattle.std.specs.Prelude.{◌≤◌, IfSome};
-    ghost use Rattle.osc_context.specs.Nonce.{greatest_number};
+    ghost use Rattle.osc_context.specs.{greatest_number};
     ghost use Rattle.osc_protect.specs.Protection.{SealedResponse};
 
     ghost Value = { SealedResponse };

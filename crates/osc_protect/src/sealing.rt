@@ -1,12 +1,9 @@
 //! What requests and responses share: the message that is sent in place of one, and its seal.
 
 ghost use Rattle.std.specs.Prelude.{◌≡◌, ◌↔◌, ◌+◌, ◌≤◌, ◌<◌, ℕ, List, [], None, length, replicate, IsSome, IfSome};
-ghost use Rattle.osc_coap.specs.Message.{spelling};
-ghost use Rattle.osc_coap.specs.Building.{payload_of, with_payload};
-ghost use Rattle.osc_coap.specs.Length.{payload_length};
-ghost use Rattle.osc_options.specs.Split.{protected, plaintext_of as plaintext_in};
-ghost use Rattle.osc_context.specs.Algorithm.{algorithm_of};
-ghost use Rattle.osc_context.specs.Nonce.{longest_id};
+ghost use Rattle.osc_coap.specs.{spelling, payload_of, with_payload, payload_length};
+ghost use Rattle.osc_options.specs.{protected, plaintext_of as plaintext_in};
+ghost use Rattle.osc_context.specs.{algorithm_of, longest_id};
 ghost use Rattle.osc_protect.specs.Aad.{aad_of};
 ghost use Rattle.osc_protect.specs.Protection.{plain_bytes, longest_message};
 

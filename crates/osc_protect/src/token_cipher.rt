@@ -3,7 +3,7 @@
 ghost use Rattle.std.specs.Prelude.{◌≡◌, ℕ, List};
 ghost use Rattle.std.proofs.Common.{lit≤};
 ghost use Rattle.osc_model.specs.declared.algorithm.Algorithm.TheVariants.{EightByteTag};
-ghost use Rattle.osc_ccm.specs.Ciphers.{longer_by_same};
+ghost use Rattle.osc_ccm.specs.{longer_by_same};
 
 use osc_ccm::{Aead, Ciphers, OpenError, SealError};
 use osc_model::Algorithm;

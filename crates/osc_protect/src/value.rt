@@ -3,7 +3,7 @@
 ghost use Rattle.std.specs.Prelude.{◌≡◌, ◌+◌, ◌≤◌, ◌++◌, length, Some, IfSome, option_copied};
 ghost use Rattle.std.specs.Option.{option_map};
 ghost use Rattle.arrayvec.specs.ArrayVec.{array_vec_len};
-ghost use Rattle.osc_context.specs.Nonce.{longest_id, greatest_number};
+ghost use Rattle.osc_context.specs.{longest_id, greatest_number};
 ghost use Rattle.osc_protect.specs.Value.{Compressed, SpellsValue};
 ghost use Rattle.osc_protect.specs.Protection.{HasShortContext, request_value, response_value};
 ghost use Rattle.osc_protect.specs.Inner.ValueReading as spec;

@@ -2,9 +2,8 @@
 use Rattle.std.proofs.Common.{◌≡◌, ℕ, ◌≤◌, ◌+◌, List, [], ◌∷◌, ◌++◌, length, Result, Ok, Err, refl, ap, append_assoc, arith}
 use Rattle.std.specs.Result.{IsErr, IsOk}
 use Rattle.std.proofs.lemmas.Bool.{both_ways}
-use Rattle.osc_coap.specs.Message.{NumberAndValue, Message, spelling}
-use Rattle.osc_coap.specs.Length.{options_length, spelled_length}
-use Rattle.osc_coap.specs.Building.{last_number, with_option}
+use Rattle.osc_coap.specs.{NumberAndValue, spelling, options_length, spelled_length, last_number, with_option}
+use Rattle.osc_coap.specs.Message.{Message}
 use Rattle.osc_options.specs.Inner.Merging.{with_options}
 
 -- the last number is that of the option behind the others

@@ -1,14 +1,11 @@
 -- The code of a message is the second of its bytes: what a proxy makes of a response, and an answer of its own, is no request.
 use Rattle.std.proofs.Common.{◌≡◌, ℕ, Bool, true, false, refl, ap, ◌∙◌, slice_index_or}
 use Rattle.std.specs.Prelude.{if◌then◌else◌}
-use Rattle.osc_coap.specs.Code.{is_request_code}
-use Rattle.osc_coap.specs.Message.{Message, spelling}
-use Rattle.osc_proxy.specs.Ends.{is_request}
-use Rattle.osc_proxy.specs.Table.{answer_to, failure}
-use Rattle.osc_model.specs.Code.{code}
-use Rattle.osc_proxy.specs.Forwarding.{answer}
-use Rattle.osc_proxy.specs.Own.{kind_of}
-use Rattle.osc_options.specs.Recognised.{has_unrecognised_unsafe}
+use Rattle.osc_coap.specs.{is_request_code, spelling}
+use Rattle.osc_coap.specs.Message.{Message}
+use Rattle.osc_proxy.specs.{is_request, answer_to, failure, answer, kind_of}
+use Rattle.osc_model.specs.{code}
+use Rattle.osc_options.specs.{has_unrecognised_unsafe}
 use Rattle.osc_proxy.specs.declared.exchanges.Exchange.{Exchange}
 
 code_of : (message : Message) → slice_index_or (spelling message) 1 0 ≡ message.code

@@ -3,17 +3,15 @@ use Rattle.std.proofs.Common.{◌≤◌, ℕ, Bool, true, false, List, [], lengt
 use Rattle.std.proofs.lemmas.List.{length-append}
 use Rattle.std.specs.Prelude.{if◌then◌else◌}
 use Rattle.osc_model.specs.declared.node.Peer.{Peer}
-use Rattle.osc_coap.specs.Message.{Message, spelling}
+use Rattle.osc_coap.specs.{spelling}
+use Rattle.osc_coap.specs.Message.{Message}
 use Rattle.osc_model.specs.declared.node.Draw.{Draw}
 use Rattle.osc_model.specs.declared.node.Moment.{Moment}
 use Rattle.osc_model.specs.declared.step.Datagram.{Datagram}
-use Rattle.osc_message.specs.Endpoint.{EndpointState}
+use Rattle.osc_message.specs.{EndpointState}
 use Rattle.osc_message.specs.declared.name.MessageName.{MessageName}
-use Rattle.osc_proxy.specs.Exchanges.{count}
-use Rattle.osc_proxy.specs.Own.{goes_now, sends_own}
+use Rattle.osc_proxy.specs.{count, goes_now, sends_own, back_sends, has_way_back, AllEnd, timed_out, timeout, without_its}
 use Rattle.osc_proxy.specs.State.{State}
-use Rattle.osc_proxy.specs.Table.{back_sends, has_way_back}
-use Rattle.osc_proxy.specs.Ticks.{AllEnd, timed_out, timeout, without_its}
 use Rattle.osc_proxy.specs.Ticks.AllEnd.{none_is, one_is}
 use Rattle.osc_proxy.specs.declared.exchanges.Exchange.{Exchange}
 

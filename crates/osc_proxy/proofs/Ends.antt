@@ -6,25 +6,21 @@ use Rattle.std.proofs.lemmas.Bool.{leb-false, not-true, or_parts}
 use Rattle.std.proofs.lemmas.List.{length-append}
 use Rattle.std.proofs.lemmas.List.Filters.{length-filter_both}
 use Rattle.std.proofs.lemmas.List.Elements.{All-append, All-cons, All-contains_itself, All-filter, All-head, All-nil, All-same, All-tail, All-weaker, filter_passes}
-use Rattle.osc_coap.specs.Message.{Message, spelling}
+use Rattle.osc_coap.specs.{spelling}
+use Rattle.osc_coap.specs.Message.{Message}
 use Rattle.osc_model.specs.declared.node.Draw.{Draw}
 use Rattle.osc_model.specs.declared.node.Moment.{Moment}
 use Rattle.osc_model.specs.declared.node.Peer.{Peer}
 use Rattle.osc_model.specs.declared.step.Datagram.{Datagram}
 use Rattle.osc_model.specs.declared.step.Step.{Step}
-use Rattle.osc_message.specs.Confirmables.{Open}
-use Rattle.osc_message.specs.Endpoint.{EndpointState, after_tick}
-use Rattle.osc_message.specs.Sending.{GoesOut}
-use Rattle.osc_message.specs.Ticks.{datagram_of, due_of, dues, tick_gives_up, tick_sends}
+use Rattle.osc_message.specs.{Open, EndpointState, after_tick, GoesOut, datagram_of, due_of, dues, tick_gives_up, tick_sends}
 use Rattle.osc_message.specs.declared.due.Due.{Due}
 use Rattle.osc_message.specs.declared.due.Due.TheVariants.{Keep, Send, GiveUp}
 use Rattle.osc_message.specs.declared.name.MessageName.{MessageName}
-use Rattle.osc_proxy.specs.Ends.{EachHasItsExchange, is_its, is_of_over, is_request, without_over}
-use Rattle.osc_proxy.specs.Exchanges.{Table, count, entries, get, is_overdue, lifetime}
-use Rattle.osc_proxy.specs.Own.{goes_now, sends_own}
+use Rattle.osc_proxy.specs.{EachHasItsExchange, is_its, is_of_over, is_request, without_over, count, entries, get, is_overdue, lifetime, goes_now, sends_own, back_sends, has_way_back, AllEnd, AreOfExchanges, IsOfExchange, is_given_up, is_over, timed_out, timeout, without_its, without_over_in}
+use Rattle.osc_proxy.specs.Exchanges.{Table}
 use Rattle.osc_proxy.specs.State.{State}
-use Rattle.osc_proxy.specs.Table.{back_sends, has_way_back}
-use Rattle.osc_proxy.specs.Ticks.{AllEnd, AreOfExchanges, IsOfExchange, Ticks, is_given_up, is_over, timed_out, timeout, without_its, without_over_in}
+use Rattle.osc_proxy.specs.Ticks.{Ticks}
 use Rattle.osc_proxy.specs.Ticks.AllEnd.{none_is, one_is}
 use Rattle.osc_proxy.specs.declared.exchanges.Exchange.{Exchange}
 use Rattle.osc_proxy.proofs.Codes.{no_request}

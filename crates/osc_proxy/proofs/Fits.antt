@@ -2,15 +2,15 @@
 use Rattle.std.proofs.Common.{◌≡◌, ℕ, Bool, true, false, List, [], ◌∷◌, ◌++◌, subst, sym, Some, None}
 use Rattle.std.specs.Prelude.{if◌then◌else◌}
 use Rattle.std.proofs.lemmas.List.Elements.{All-append, All-cons, All-nil}
-use Rattle.osc_model.specs.Step.{sends}
+use Rattle.osc_model.specs.{sends}
 use Rattle.osc_model.specs.declared.node.Peer.{Peer}
 use Rattle.osc_model.specs.declared.step.Datagram.{Datagram}
 use Rattle.osc_model.specs.declared.step.Step.{Step}
-use Rattle.osc_coap.specs.Message.{Message, spelling}
-use Rattle.osc_message.specs.Endpoint.{EndpointState}
-use Rattle.osc_message.specs.Sending.{AreSendable, FitsDatagram, acknowledgement, datagram, empty_acknowledgement, is_confirmable, sent_to}
+use Rattle.osc_coap.specs.{spelling}
+use Rattle.osc_coap.specs.Message.{Message}
+use Rattle.osc_message.specs.{EndpointState, AreSendable, FitsDatagram, acknowledgement, datagram, empty_acknowledgement, is_confirmable, sent_to}
 use Rattle.osc_proxy.specs.Inner.Going.{back_sends_by}
-use Rattle.osc_proxy.specs.Own.{goes_now, has_room, sends_own}
+use Rattle.osc_proxy.specs.{goes_now, has_room, sends_own}
 
 none_sendable : AreSendable []
 none_sendable = All-nil (λ sent. FitsDatagram sent.bytes)

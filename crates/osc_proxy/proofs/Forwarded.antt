@@ -2,15 +2,10 @@
 use Rattle.std.proofs.Common.{◌≡◌, ◌≤◌, ◌+◌, inl, inr, ℕ, Bool, true, false, not, nat_eq, List, [], ◌∷◌, length, refl, ap, sym, ◌∙◌, arith, subst, Option, Some, None}
 use Rattle.std.specs.Prelude.{cond, filter, codes}
 use Rattle.std.proofs.lemmas.Bool.{cases_Bool, eqb-true}
-use Rattle.osc_coap.specs.Length.{options_length, payload_length, spelled_length}
-use Rattle.osc_coap.specs.Message.{AreOptions, HasSpelling, Message, NumberAndValue, spelling}
-use Rattle.osc_options.specs.Numbers.{proxy_scheme, proxy_uri, uri_host, uri_port}
-use Rattle.osc_options.specs.Recognised.{recognised}
-use Rattle.osc_options.specs.Requests.{value}
-use Rattle.osc_options.specs.Split.{AreInOrder, of_number}
-use Rattle.osc_proxy.specs.Forwarding.{forwarded, forwarded_options, has_proxy_uri, is_taken_out}
-use Rattle.osc_proxy.specs.ProxyUri.{HostAndPort}
-use Rattle.osc_proxy.specs.Route.{Names, NamesBy, by_scheme, port_in}
+use Rattle.osc_coap.specs.{options_length, payload_length, spelled_length, AreOptions, HasSpelling, NumberAndValue, spelling}
+use Rattle.osc_coap.specs.Message.{Message}
+use Rattle.osc_options.specs.{proxy_scheme, proxy_uri, uri_host, uri_port, recognised, value, AreInOrder, of_number}
+use Rattle.osc_proxy.specs.{forwarded, forwarded_options, has_proxy_uri, is_taken_out, HostAndPort, Names, NamesBy, by_scheme, port_in}
 
 -- ---- a filter behind a filter
 

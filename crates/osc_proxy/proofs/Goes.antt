@@ -3,11 +3,11 @@ use Rattle.std.proofs.Common.{◌≡◌, ℕ, Bool, true, false, List, refl, ap,
 use Rattle.osc_model.specs.declared.node.Draw.{Draw}
 use Rattle.osc_model.specs.declared.node.Moment.{Moment}
 use Rattle.osc_model.specs.declared.node.Peer.{Peer}
-use Rattle.osc_coap.specs.Message.{Message, spelling}
-use Rattle.osc_message.specs.Endpoint.{EndpointState}
+use Rattle.osc_coap.specs.{spelling}
+use Rattle.osc_coap.specs.Message.{Message}
+use Rattle.osc_message.specs.{EndpointState}
 use Rattle.osc_proxy.specs.Inner.Going.{IsOwn, back_kept_by, back_sends_by}
-use Rattle.osc_proxy.specs.Own.{goes_now, sends_own, with_own}
-use Rattle.osc_proxy.specs.Table.{back_kept, back_sends}
+use Rattle.osc_proxy.specs.{goes_now, sends_own, with_own, back_kept, back_sends}
 use Rattle.osc_proxy.specs.declared.exchanges.Exchange.{Exchange}
 use Rattle.osc_proxy.specs.declared.sending.Own.{Own}
 

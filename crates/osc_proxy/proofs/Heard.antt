@@ -4,23 +4,17 @@ use Rattle.std.specs.Prelude.{codes}
 use Rattle.std.proofs.lemmas.Bool.{and_parts, le-ltb, leb-true, lt-leb, lt-ltb, ltb-true, ne_eqb, or_from}
 use Rattle.osc_model.specs.declared.node.Moment.{Moment}
 use Rattle.osc_model.specs.declared.node.Peer.{Peer}
-use Rattle.osc_coap.specs.Code.{is_request_code, is_response_code}
-use Rattle.osc_coap.specs.Message.{Message, spelling}
+use Rattle.osc_coap.specs.{is_request_code, is_response_code, spelling}
+use Rattle.osc_coap.specs.Message.{Message}
 use Rattle.osc_coap.specs.declared.kind.Kind.TheVariants.{Confirmable, Acknowledgement}
-use Rattle.osc_options.specs.Numbers.{proxy_scheme, proxy_uri}
-use Rattle.osc_options.specs.Recognised.{has_unrecognised_unsafe, recognised}
-use Rattle.osc_options.specs.Requests.{value}
-use Rattle.osc_dedup.specs.Table.{Entry, looked}
-use Rattle.osc_message.specs.Heard.{heard, is_reserved}
-use Rattle.osc_message.specs.Received.{Receives}
+use Rattle.osc_options.specs.{proxy_scheme, proxy_uri, has_unrecognised_unsafe, recognised, value}
+use Rattle.osc_dedup.specs.{Entry, looked}
+use Rattle.osc_message.specs.{heard, is_reserved, Receives}
 use Rattle.osc_message.specs.declared.heard.Heard.TheVariants as heard_as
 use Rattle.osc_message.specs.declared.received.Received.{Received}
 use Rattle.osc_message.specs.declared.received.Received.TheVariants as received_as
-use Rattle.osc_proxy.specs.Case.{case_of}
-use Rattle.osc_proxy.specs.Exchanges.{Table, answers, first_key}
-use Rattle.osc_proxy.specs.ProxyUri.{HostAndPort}
-use Rattle.osc_proxy.specs.Targets.{peer_of}
-use Rattle.osc_proxy.specs.ThereAndBack.{IsCarried}
+use Rattle.osc_proxy.specs.{case_of, answers, first_key, HostAndPort, peer_of, IsCarried}
+use Rattle.osc_proxy.specs.Exchanges.{Table}
 use Rattle.osc_proxy.specs.declared.case.Case.TheVariants.{Forwarded, Counted}
 use Rattle.osc_proxy.specs.declared.targets.Target.{Target}
 

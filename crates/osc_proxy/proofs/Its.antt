@@ -11,17 +11,13 @@ use Rattle.osc_coap.specs.declared.kind.Kind.TheVariants.{Confirmable, NonConfir
 use Rattle.osc_model.specs.declared.node.Draw.{Draw}
 use Rattle.osc_model.specs.declared.node.Moment.{Moment}
 use Rattle.osc_model.specs.declared.node.Peer.{Peer}
-use Rattle.osc_message.specs.Confirmables.{Open, acknowledged, has_open, is_named as names_message, same_peer, sent_at}
-use Rattle.osc_message.specs.Endpoint.{EndpointState, acknowledged_by, own_id}
-use Rattle.osc_message.specs.Ticks.{after, due_of, dues, ticked}
-use Rattle.osc_message.specs.Timeout.{timeout_of}
+use Rattle.osc_message.specs.{Open, acknowledged, has_open, is_named as names_message, same_peer, sent_at, EndpointState, acknowledged_by, own_id, after, due_of, dues, ticked, timeout_of}
 use Rattle.osc_message.specs.declared.due.Due.{Due}
 use Rattle.osc_message.specs.declared.due.Due.TheVariants.{Keep, Send, GiveUp}
 use Rattle.osc_proxy.specs.Inner.Bounds.{names_one}
-use Rattle.osc_proxy.specs.Ends.{EachHasItsExchange, has_exchange, is_its, is_request}
-use Rattle.osc_proxy.specs.Exchanges.{Changes, Table, get}
+use Rattle.osc_proxy.specs.{EachHasItsExchange, has_exchange, is_its, is_request, Changes, get, has_room, with_own}
+use Rattle.osc_proxy.specs.Exchanges.{Table}
 use Rattle.osc_proxy.specs.Inner.Going.{back_kept_by}
-use Rattle.osc_proxy.specs.Own.{has_room, with_own}
 use Rattle.osc_proxy.specs.declared.exchanges.Exchange.{Exchange}
 use Rattle.osc_proxy.proofs.Keys.{some_found, there_any}
 

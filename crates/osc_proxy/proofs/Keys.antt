@@ -8,11 +8,10 @@ use Rattle.std.proofs.lemmas.Option.{same_Some}
 use Rattle.slab.specs.Slab.{entries_from}
 use Rattle.osc_model.specs.declared.node.Peer.{Peer}
 use Rattle.osc_coap.specs.Message.{Message as CoapMessage}
-use Rattle.osc_message.specs.Sending.{is_confirmable}
-use Rattle.osc_proxy.specs.Exchanges.{Table, count, entries, first_key, get}
-use Rattle.osc_proxy.specs.Own.{has_room}
+use Rattle.osc_message.specs.{is_confirmable}
+use Rattle.osc_proxy.specs.{count, entries, first_key, get, has_room, key_for}
+use Rattle.osc_proxy.specs.Exchanges.{Table}
 use Rattle.osc_proxy.specs.State.{State}
-use Rattle.osc_proxy.specs.Table.{key_for}
 use Rattle.osc_proxy.specs.declared.exchanges.Exchange.{Exchange}
 
 abbrev key_of : Option (ℕ × Exchange) → Option ℕ

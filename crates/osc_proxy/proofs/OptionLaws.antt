@@ -1,9 +1,10 @@
 -- Options that stay are options, and in order.
 use Rattle.std.proofs.Common.{◌≡◌, ℕ, true, List, [], ◌∷◌, refl, ap, ◌∙◌}
 use Rattle.osc_coap.specs.declared.kind.Kind.{Kind}
-use Rattle.osc_coap.specs.Message.{NumberAndValue, Message, AreOptions}
-use Rattle.osc_options.specs.Split.{AreInOrder}
-use Rattle.osc_proxy.specs.Forwarding.{answer}
+use Rattle.osc_coap.specs.{NumberAndValue, AreOptions}
+use Rattle.osc_coap.specs.Message.{Message}
+use Rattle.osc_options.specs.{AreInOrder}
+use Rattle.osc_proxy.specs.{answer}
 use Rattle.osc_proxy.specs.Inner.Rewriting.{rewritten, stays, staying}
 use Rattle.osc_proxy.specs.declared.forwarding.Rewriting.{Rewriting}
 use Rattle.osc_proxy.specs.declared.forwarding.Rewriting.TheVariants.{Whole}

@@ -3,10 +3,8 @@ use Rattle.std.proofs.Common.{◌≡◌, ℕ, Bool, true, false, not, ◌||◌, 
 use Rattle.std.specs.Prelude.{cond, filter}
 use Rattle.std.proofs.lemmas.List.Elements.{filter_agree}
 use Rattle.osc_model.specs.declared.node.Moment.{Moment}
-use Rattle.osc_message.specs.Confirmables.{Open}
-use Rattle.osc_message.specs.Endpoint.{EndpointState}
-use Rattle.osc_proxy.specs.Ends.{is_its, is_of_over, without}
-use Rattle.osc_proxy.specs.Exchanges.{is_overdue}
+use Rattle.osc_message.specs.{Open, EndpointState}
+use Rattle.osc_proxy.specs.{is_its, is_of_over, without, is_overdue}
 use Rattle.osc_proxy.specs.declared.exchanges.Exchange.{Exchange}
 
 all_stay : {X : Type 0} (xs : List X) → filter (λ _. true) xs ≡ xs

@@ -2,31 +2,26 @@
 use Rattle.std.proofs.Common.{◌≡◌, ◌≤◌, ◌++◌, ℕ, Bool, true, false, List, length, ap, Option, Some, None, arith}
 use Rattle.std.proofs.lemmas.List.{length-append}
 use Rattle.std.specs.Prelude.{nat_le}
-use Rattle.osc_model.specs.Arrival.{Arrival, read_as}
-use Rattle.osc_model.specs.Step.{sends}
-use Rattle.osc_model.specs.StepNotes.{quiet}
+use Rattle.osc_model.specs.{read_as, sends, quiet}
+use Rattle.osc_model.specs.Arrival.{Arrival}
 use Rattle.osc_model.specs.declared.bytes.Bytes.{Bytes}
 use Rattle.osc_model.specs.declared.code.Code.{Code}
 use Rattle.osc_model.specs.declared.node.Peer.{Peer}
 use Rattle.osc_model.specs.declared.step.Datagram.{Datagram}
 use Rattle.osc_model.specs.declared.step.RefusedRequest.{RefusedRequest}
 use Rattle.osc_model.specs.declared.step.Step.{Step}
-use Rattle.osc_coap.specs.Length.{datagram_limit}
-use Rattle.osc_coap.specs.Message.{Message, spelling}
+use Rattle.osc_coap.specs.{datagram_limit, spelling}
+use Rattle.osc_coap.specs.Message.{Message}
 use Rattle.osc_coap.specs.declared.kind.Kind.{Kind}
 use Rattle.osc_coap.specs.declared.kind.Kind.TheVariants.{Confirmable, NonConfirmable, Acknowledgement, Reset as ResetKind}
-use Rattle.osc_dedup.specs.Table.{Entry}
-use Rattle.osc_message.specs.Heard.{AnswersAlone, IsAlone, ignores, noted_reply, rejects, repeats}
+use Rattle.osc_dedup.specs.{Entry}
+use Rattle.osc_message.specs.{AnswersAlone, IsAlone, ignores, noted_reply, rejects, repeats, acknowledgement, again, is_confirmable, rejection, sent_to}
 use Rattle.osc_message.specs.declared.heard.Heard.{Heard}
 use Rattle.osc_message.specs.declared.heard.Heard.TheVariants as heard
 use Rattle.osc_model.specs.declared.node.Moment.{Moment}
-use Rattle.osc_message.specs.Sending.{acknowledgement, again, is_confirmable, rejection, sent_to}
-use Rattle.osc_proxy.specs.Case.{ended_by}
-use Rattle.osc_proxy.specs.Exchanges.{first_key, is_named}
-use Rattle.osc_proxy.specs.Own.{goes_now, sends_own}
+use Rattle.osc_proxy.specs.{ended_by, first_key, is_named, goes_now, sends_own, Answers, AnswersNew, FitsBy, ForwardsBy, IsForwarded, IsRefused, Settles, answer_for, back_sends, counted, forwarded_by, key_for, named, bad_gateway, taken_up}
 use Rattle.osc_proxy.specs.State.{State}
 use Rattle.osc_proxy.specs.Passage.{Passage}
-use Rattle.osc_proxy.specs.Table.{Answers, AnswersNew, FitsBy, ForwardsBy, IsForwarded, IsRefused, Settles, answer_for, back_sends, counted, forwarded_by, key_for, named, bad_gateway, taken_up}
 use Rattle.osc_proxy.specs.declared.case.Case.{Case}
 use Rattle.osc_proxy.specs.declared.case.Case.TheVariants.{Refused, Forwarded, Counted, Unused}
 use Rattle.osc_proxy.proofs.Ending.{one_back}

@@ -6,37 +6,22 @@ use Rattle.std.proofs.lemmas.List.Elements.{All-head}
 use Rattle.std.proofs.lemmas.Option.{same_Some}
 use Rattle.std.proofs.lemmas.Slice.Eq.{bytes_eq-Decides}
 use Rattle.osc_model.specs.Arrival.{Arrival}
-use Rattle.osc_model.specs.Draw.{token_drawn}
-use Rattle.osc_model.specs.Step.{sends}
+use Rattle.osc_model.specs.{token_drawn, sends}
 use Rattle.osc_model.specs.declared.node.Draw.{Draw}
 use Rattle.osc_model.specs.declared.node.Moment.{Moment}
 use Rattle.osc_model.specs.declared.node.Peer.{Peer}
 use Rattle.osc_model.specs.declared.step.Datagram.{Datagram}
 use Rattle.osc_model.specs.declared.step.Step.{Step}
-use Rattle.osc_coap.specs.Length.{datagram_limit}
-use Rattle.osc_coap.specs.Message.{HasSpelling, Message, spelling}
+use Rattle.osc_coap.specs.{datagram_limit, HasSpelling, spelling}
+use Rattle.osc_coap.specs.Message.{Message}
 use Rattle.osc_coap.specs.declared.kind.Kind.TheVariants.{Confirmable, Acknowledgement}
-use Rattle.osc_options.specs.Numbers.{uri_port}
-use Rattle.osc_options.specs.Recognised.{recognised}
-use Rattle.osc_options.specs.Requests.{value}
-use Rattle.osc_message.specs.Confirmables.{acknowledged, has_open, takes, with_open}
-use Rattle.osc_message.specs.Endpoint.{EndpointState, own_id}
-use Rattle.osc_message.specs.Heard.{heard}
-use Rattle.osc_message.specs.Sending.{AreSendable, FitsDatagram, acknowledgement, datagram, empty_acknowledgement, is_confirmable, sent_to}
-use Rattle.osc_message.specs.Timeout.{timeout_of}
+use Rattle.osc_options.specs.{uri_port, recognised, value}
+use Rattle.osc_message.specs.{acknowledged, has_open, takes, with_open, EndpointState, own_id, heard, AreSendable, FitsDatagram, acknowledgement, datagram, empty_acknowledgement, is_confirmable, sent_to, timeout_of}
 use Rattle.osc_message.specs.declared.heard.Heard.TheVariants as heard_as
 use Rattle.osc_message.specs.declared.received.Received.TheVariants as received_as
-use Rattle.osc_proxy.specs.Case.{case_of}
-use Rattle.osc_proxy.specs.Exchanges.{HasOwnTokens, answers, count, first_key, free_key, get}
-use Rattle.osc_proxy.specs.Forwarding.{answer, forwarded, forwarded_token}
-use Rattle.osc_proxy.specs.Hearing.{Hears}
-use Rattle.osc_proxy.specs.Own.{goes_now, sends_own, with_own}
-use Rattle.osc_proxy.specs.ProxyUri.{HostAndPort}
+use Rattle.osc_proxy.specs.{case_of, HasOwnTokens, answers, count, first_key, free_key, get, answer, forwarded, forwarded_token, Hears, goes_now, sends_own, with_own, HostAndPort, Names, port_in, Answers, AnswersMessage, AnswersNew, Counts, FitsBy, ForwardsBy, IsForwarded, answer_for, back_kept, back_sends, counted, exchange_of, forwarded_by, kept_on, key_for, next_own, taken_up, CanSendTo, IsAnswerTo, IsAtRest, IsBroughtBack, IsCarried, IsLawfulProxy, IsPassedOn, TakesUp, acknowledged_at, answer_by, answer_id, answered_at, datagram_of, heard_with}
 use Rattle.osc_proxy.specs.Passage.{Passage}
-use Rattle.osc_proxy.specs.Route.{Names, port_in}
 use Rattle.osc_proxy.specs.State.{State}
-use Rattle.osc_proxy.specs.Table.{Answers, AnswersMessage, AnswersNew, Counts, FitsBy, ForwardsBy, IsForwarded, answer_for, back_kept, back_sends, counted, exchange_of, forwarded_by, kept_on, key_for, next_own, taken_up}
-use Rattle.osc_proxy.specs.ThereAndBack.{CanSendTo, IsAnswerTo, IsAtRest, IsBroughtBack, IsCarried, IsLawfulProxy, IsPassedOn, TakesUp, acknowledged_at, answer_by, answer_id, answered_at, datagram_of, heard_with}
 use Rattle.osc_proxy.specs.declared.case.Case.TheVariants.{Forwarded, Counted}
 use Rattle.osc_proxy.specs.declared.exchanges.Exchange.{Exchange}
 use Rattle.osc_proxy.proofs.Its.{peer_same}

@@ -5,14 +5,14 @@ use Rattle.std.specs.List.{All}
 use Rattle.std.proofs.lemmas.Bool.{and_right, cases_Bool, ne_eqb}
 use Rattle.std.proofs.lemmas.List.Elements.{All-append, All-cons, All-drop, All-filter, All-head, All-nil, All-tail}
 use Rattle.osc_coap.specs.Message.{Message}
-use Rattle.osc_dedup.specs.Table.{Entry, alive, is_alive, is_of, looked, staying}
-use Rattle.osc_message.specs.Sending.{empty_acknowledgement}
+use Rattle.osc_dedup.specs.{Entry, alive, is_alive, is_of, looked, staying}
+use Rattle.osc_message.specs.{empty_acknowledgement}
 use Rattle.osc_model.specs.Arrival.{Arrival}
 use Rattle.osc_model.specs.declared.node.Moment.{Moment}
 use Rattle.osc_model.specs.declared.node.Peer.{Peer}
-use Rattle.osc_coap.specs.Message.{spelling}
+use Rattle.osc_coap.specs.{spelling}
 use Rattle.osc_proxy.specs.State.{State}
-use Rattle.osc_proxy.specs.ThereAndBack.{heard_with}
+use Rattle.osc_proxy.specs.{heard_with}
 
 -- ---- none is found among those that are kept
 

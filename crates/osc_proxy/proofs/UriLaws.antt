@@ -7,11 +7,9 @@ use Rattle.std.proofs.lemmas.Bool.{cases_Bool}
 use Rattle.std.proofs.lemmas.Bool.Decides.{nat_tests}
 use Rattle.std.proofs.lemmas.List.{take-append-drop}
 use Rattle.std.proofs.lemmas.Slice.Eq.{bytes_eq-Decides}
-use Rattle.osc_proxy.specs.ProxyUri.{HostAndPort, IsHost, IsPort, IsProxyUri, Reads, is_host_byte, is_digit, decimal, port_named, port_spelling, path_spelling}
-use Rattle.osc_coap.specs.Message.{NumberAndValue}
-use Rattle.osc_options.specs.Recognised.{recognised}
-use Rattle.osc_options.specs.Requests.{value}
-use Rattle.osc_proxy.specs.Route.{Names, NamesBy, by_scheme}
+use Rattle.osc_proxy.specs.{HostAndPort, IsHost, IsPort, IsProxyUri, Reads, is_host_byte, is_digit, decimal, port_named, port_spelling, path_spelling, Names, NamesBy, by_scheme}
+use Rattle.osc_coap.specs.{NumberAndValue}
+use Rattle.osc_options.specs.{recognised, value}
 use Rattle.osc_proxy.specs.Inner.Reading.{is_end, port_of, port_at, port_behind, with_port, authority, host_and_port}
 
 -- ---- the digits of a port

@@ -1,12 +1,12 @@
 -- Which case a new message is to a proxy: the first test that holds, read from the top.
 use Rattle.std.specs.Prelude.{◌≡◌, ℕ, true, if◌then◌else◌, List, Option, Some, None}
-use Rattle.osc_model.specs.Code.{code}
+use Rattle.osc_model.specs.{code}
 use Rattle.osc_model.specs.declared.node.Peer.{Peer}
-use Rattle.osc_coap.specs.Code.{is_request_code, is_response_code}
+use Rattle.osc_coap.specs.{is_request_code, is_response_code}
 use Rattle.osc_coap.specs.Message.{Message as CoapMessage}
 use Rattle.osc_coap.specs.declared.kind.Kind.{Kind}
 use Rattle.osc_coap.specs.declared.kind.Kind.TheVariants.{Reset as ResetKind}
-use Rattle.osc_message.specs.Sending.{is_confirmable}
+use Rattle.osc_message.specs.{is_confirmable}
 use Rattle.osc_proxy.specs.Exchanges.{Table, answers, first_key}
 use Rattle.osc_proxy.specs.ProxyUri.{HostAndPort}
 use Rattle.osc_proxy.specs.Route.{route}

@@ -1,10 +1,10 @@
 -- The requests that are open at the message layer of a proxy belong to exchanges that are open: once one is closed, its request isn't sent any more.
 use Rattle.std.specs.Prelude.{◌≡◌, ℕ, Bool, true, ◌&&◌, not, List, filter, slice_index_or}
 use Rattle.std.specs.List.{All, list_any}
-use Rattle.osc_coap.specs.Code.{is_request_code}
+use Rattle.osc_coap.specs.{is_request_code}
 use Rattle.osc_model.specs.declared.bytes.Bytes.{Bytes}
 use Rattle.osc_model.specs.declared.node.Moment.{Moment}
-use Rattle.osc_message.specs.Confirmables.{Open}
+use Rattle.osc_message.specs.{Open}
 use Rattle.osc_proxy.specs.Exchanges.{Table, entries, is_named, is_overdue}
 use Rattle.osc_proxy.specs.declared.exchanges.Exchange.{Exchange}
 

@@ -4,8 +4,7 @@ use Rattle.slab.specs.Slab.{entries_from}
 use Rattle.osc_model.specs.declared.node.Moment.{Moment}
 use Rattle.osc_model.specs.declared.node.Peer.{Peer}
 use Rattle.osc_coap.specs.Message.{Message as CoapMessage}
-use Rattle.osc_message.specs.Confirmables.{same_peer}
-use Rattle.osc_message.specs.Sending.{is_acknowledgement}
+use Rattle.osc_message.specs.{same_peer, is_acknowledgement}
 use Rattle.osc_proxy.specs.declared.exchanges.Exchange.{Exchange}
 
 -- what stands under each key, from 0 on, and the key of the next exchange that is opened

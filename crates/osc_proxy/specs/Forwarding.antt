@@ -1,11 +1,12 @@
 -- What a proxy forwards, and what it sends back (RFC 7252 sections 5.7.1 and 5.7.2).
 use Rattle.std.specs.Prelude.{ℕ, Bool, ◌&&◌, ◌||◌, not, ◌==◌, List, ◌∷◌, drop, filter}
 use Rattle.std.specs.List.{list_any}
-use Rattle.osc_model.specs.Draw.{token_drawn}
+use Rattle.osc_model.specs.{token_drawn}
 use Rattle.osc_model.specs.declared.node.Draw.{Draw}
-use Rattle.osc_coap.specs.Message.{NumberAndValue, Message}
+use Rattle.osc_coap.specs.{NumberAndValue}
+use Rattle.osc_coap.specs.Message.{Message}
 use Rattle.osc_coap.specs.declared.kind.Kind.{Kind}
-use Rattle.osc_options.specs.Numbers.{proxy_scheme, proxy_uri, uri_host, uri_path, uri_port, uri_query}
+use Rattle.osc_options.specs.{proxy_scheme, proxy_uri, uri_host, uri_path, uri_port, uri_query}
 
 -- The options that are for the proxy are taken out: Uri-Port, Proxy-Uri, Proxy-Scheme, and beside a Proxy-Uri, which names the whole
 -- URI, Uri-Host, Uri-Path and Uri-Query too.

@@ -1,12 +1,10 @@
 -- What a proxy does with a datagram: one definition for whoever stands above it.
 use Rattle.std.specs.Prelude.{◌≡◌, ℕ, List, Option}
 use Rattle.osc_model.specs.Arrival.{Arrival}
-use Rattle.osc_model.specs.StepNotes.{quiet}
+use Rattle.osc_model.specs.{quiet}
 use Rattle.osc_model.specs.declared.step.RefusedRequest.{RefusedRequest}
 use Rattle.osc_model.specs.declared.step.Step.{Step}
-use Rattle.osc_message.specs.Heard.{heard}
-use Rattle.osc_message.specs.Received.{Receives}
-use Rattle.osc_message.specs.Sending.{AreSendable}
+use Rattle.osc_message.specs.{heard, Receives, AreSendable}
 use Rattle.osc_message.specs.declared.received.Received.{Received}
 use Rattle.osc_proxy.specs.State.{State}
 use Rattle.osc_proxy.specs.Table.{Answers, IsAnswered}

@@ -6,9 +6,7 @@ use Rattle.osc_model.specs.declared.node.Peer.{Peer}
 use Rattle.osc_model.specs.declared.step.Datagram.{Datagram}
 use Rattle.osc_coap.specs.declared.kind.Kind.{Kind}
 use Rattle.osc_coap.specs.declared.kind.Kind.TheVariants.{Confirmable, NonConfirmable}
-use Rattle.osc_message.specs.Confirmables.{has_open, takes, with_open}
-use Rattle.osc_message.specs.Endpoint.{EndpointState, own_id, id_taken}
-use Rattle.osc_message.specs.Timeout.{timeout_of}
+use Rattle.osc_message.specs.{has_open, takes, with_open, EndpointState, own_id, id_taken, timeout_of}
 
 -- a request and its answer travel alike on both sides: confirmable, or not
 abbrev pub kind_of : Bool → Kind

@@ -1,6 +1,6 @@
 -- What a proxy keeps.
 use Rattle.std.specs.Prelude.{List}
-use Rattle.osc_message.specs.Endpoint.{EndpointState, fresh}
+use Rattle.osc_message.specs.{EndpointState, fresh}
 use Rattle.osc_proxy.specs.Exchanges.{Table, none_open}
 use Rattle.osc_proxy.specs.declared.targets.Target.{Target}
 

@@ -1,8 +1,7 @@
 -- What a proxy does for each cause of a step: what the table of its cases gives. It seals and opens nothing.
 use Rattle.std.specs.Prelude.{ℕ, ◌+◌, length}
 use Rattle.osc_model.specs.declared.step.Step.{Step}
-use Rattle.osc_run.specs.Nodes.{Cause, Came, Due}
-use Rattle.osc_run.specs.ProxyKinds.{ProxyStep}
+use Rattle.osc_run.specs.{Cause, Came, Due, ProxyStep}
 use Rattle.osc_proxy.specs.Exchanges.{count}
 use Rattle.osc_proxy.specs.Hearing.{Hears}
 use Rattle.osc_proxy.specs.State.{State}

@@ -1,21 +1,18 @@
 -- What a proxy sends for each thing that it hears, and what it keeps after it (RFC 7252 sections 5.7.1 and 5.7.2).
 use Rattle.std.specs.Prelude.{◌≡◌, ◌≢◌, ℕ, ◌+◌, nat_le, Bool, true, false, if◌then◌else◌, List, [], ◌∷◌, ◌++◌, length, Option, Some, None, option_map}
-use Rattle.osc_model.specs.Arrival.{Arrival, read_as}
-use Rattle.osc_model.specs.Code.{code}
-use Rattle.osc_model.specs.Step.{refuses, sends}
+use Rattle.osc_model.specs.{read_as, code, refuses, sends}
+use Rattle.osc_model.specs.Arrival.{Arrival}
 use Rattle.osc_model.specs.declared.code.Code.{Code}
 use Rattle.osc_model.specs.declared.node.Draw.{Draw}
 use Rattle.osc_model.specs.declared.node.Moment.{Moment}
 use Rattle.osc_model.specs.declared.node.Peer.{Peer}
 use Rattle.osc_model.specs.declared.step.Datagram.{Datagram}
 use Rattle.osc_model.specs.declared.step.Step.{Step}
-use Rattle.osc_coap.specs.Building.{bare}
-use Rattle.osc_coap.specs.Length.{datagram_limit}
-use Rattle.osc_coap.specs.Message.{HasSpelling, Message, spelling}
+use Rattle.osc_coap.specs.{bare, datagram_limit, HasSpelling, spelling}
+use Rattle.osc_coap.specs.Message.{Message}
 use Rattle.osc_coap.specs.declared.kind.Kind.{Kind}
 use Rattle.osc_coap.specs.declared.kind.Kind.TheVariants.{Reset as ResetKind}
-use Rattle.osc_message.specs.Endpoint.{EndpointState, own_id, settled}
-use Rattle.osc_message.specs.Sending.{acknowledgement, is_confirmable, rejection, replied, reply_start, datagram, sent_to}
+use Rattle.osc_message.specs.{EndpointState, own_id, settled, acknowledgement, is_confirmable, rejection, replied, reply_start, datagram, sent_to}
 use Rattle.osc_message.specs.declared.handling.Handling.TheVariants as handling
 use Rattle.osc_message.specs.declared.heard.Heard.{Heard}
 use Rattle.osc_message.specs.declared.heard.Heard.TheVariants as heard
@@ -27,7 +24,7 @@ use Rattle.osc_proxy.specs.Passage.{Passage}
 use Rattle.osc_proxy.specs.ProxyUri.{HostAndPort}
 use Rattle.osc_proxy.specs.Route.{Names}
 use Rattle.osc_proxy.specs.State.{State}
-use Rattle.osc_options.specs.Recognised.{has_unrecognised_unsafe}
+use Rattle.osc_options.specs.{has_unrecognised_unsafe}
 use Rattle.osc_proxy.specs.declared.case.Case.{Case}
 use Rattle.osc_proxy.specs.declared.case.Case.TheVariants.{Refused, Forwarded, Counted, Unused}
 use Rattle.osc_proxy.specs.declared.exchanges.Exchange.{Exchange}

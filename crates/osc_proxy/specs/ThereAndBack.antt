@@ -1,23 +1,17 @@
 -- A request that goes through the proxy, and its answer: how the proxy stands before, and what comes of it (RFC 7252 section 5.7.2).
 use Rattle.std.specs.Prelude.{◌≡◌, ℕ, ◌+◌, ◌%◌, ◌≤◌, true, false, List, [], ◌∷◌, length, Some, None, codes}
-use Rattle.osc_model.specs.Arrival.{Arrival, read_as}
-use Rattle.osc_model.specs.Step.{sends}
+use Rattle.osc_model.specs.{read_as, sends}
+use Rattle.osc_model.specs.Arrival.{Arrival}
 use Rattle.osc_model.specs.declared.node.Draw.{Draw}
 use Rattle.osc_model.specs.declared.node.Moment.{Moment}
 use Rattle.osc_model.specs.declared.node.Peer.{Peer}
 use Rattle.osc_model.specs.declared.step.Step.{Step}
-use Rattle.osc_coap.specs.Code.{is_request_code, is_response_code}
-use Rattle.osc_coap.specs.Length.{datagram_limit}
-use Rattle.osc_coap.specs.Message.{HasSpelling, Message, spelling}
+use Rattle.osc_coap.specs.{is_request_code, is_response_code, datagram_limit, HasSpelling, spelling}
+use Rattle.osc_coap.specs.Message.{Message}
 use Rattle.osc_coap.specs.declared.kind.Kind.TheVariants.{Confirmable, Acknowledgement}
-use Rattle.osc_options.specs.Numbers.{proxy_scheme, proxy_uri, uri_host, uri_port}
-use Rattle.osc_options.specs.Recognised.{has_unrecognised_unsafe, recognised}
-use Rattle.osc_options.specs.Requests.{value}
-use Rattle.osc_dedup.specs.Table.{Entry, looked}
-use Rattle.osc_message.specs.Confirmables.{acknowledged, has_open, takes, with_open}
-use Rattle.osc_message.specs.Endpoint.{noted}
-use Rattle.osc_message.specs.Sending.{datagram, empty_acknowledgement}
-use Rattle.osc_message.specs.Timeout.{timeout_of}
+use Rattle.osc_options.specs.{proxy_scheme, proxy_uri, uri_host, uri_port, has_unrecognised_unsafe, recognised, value}
+use Rattle.osc_dedup.specs.{Entry, looked}
+use Rattle.osc_message.specs.{acknowledged, has_open, takes, with_open, noted, datagram, empty_acknowledgement, timeout_of}
 use Rattle.osc_proxy.specs.Exchanges.{Changes, HasOwnTokens, count, free_key, get}
 use Rattle.osc_proxy.specs.Forwarding.{answer}
 use Rattle.osc_proxy.specs.Hearing.{Hears}

@@ -1,18 +1,14 @@
 -- What comes due at a proxy (RFC 7252 sections 4.2, 4.8.2 and 5.7.1).
 use Rattle.std.specs.Prelude.{◌≡◌, ℕ, Bool, true, false, ◌||◌, List, [], ◌++◌, Some, None}
 use Rattle.std.specs.List.{All, Contains, list_any}
-use Rattle.osc_model.specs.Code.{code}
-use Rattle.osc_model.specs.Step.{sends}
-use Rattle.osc_model.specs.StepNotes.{quiet}
+use Rattle.osc_model.specs.{code, sends, quiet}
 use Rattle.osc_model.specs.declared.node.Draw.{Draw}
 use Rattle.osc_model.specs.declared.node.Moment.{Moment}
 use Rattle.osc_model.specs.declared.step.Datagram.{Datagram}
 use Rattle.osc_model.specs.declared.step.Step.{Step}
-use Rattle.osc_coap.specs.Message.{HasSpelling, Message}
-use Rattle.osc_message.specs.Endpoint.{EndpointState, after_tick, own_id}
-use Rattle.osc_message.specs.Confirmables.{Open}
-use Rattle.osc_message.specs.Sending.{AreSendable, GoesOut}
-use Rattle.osc_message.specs.Ticks.{acts as messages_act, tick_gives_up, tick_sends}
+use Rattle.osc_coap.specs.{HasSpelling}
+use Rattle.osc_coap.specs.Message.{Message}
+use Rattle.osc_message.specs.{EndpointState, after_tick, own_id, Open, AreSendable, GoesOut, acts as messages_act, tick_gives_up, tick_sends}
 use Rattle.osc_message.specs.declared.name.MessageName.{MessageName}
 use Rattle.osc_proxy.specs.Ends.{is_its, is_request, without, without_over}
 use Rattle.osc_proxy.specs.Exchanges.{Table, entries, first_key, get, is_named, is_overdue}

@@ -1,7 +1,6 @@
 //! The answers that go back to a proxy's clients (RFC 7252 section 5.7.1).
 ghost use Rattle.std.specs.Prelude.{◌≡◌, ◌≤◌, ◌<◌, length, true};
-ghost use Rattle.osc_coap.specs.Length.{datagram_limit};
-ghost use Rattle.osc_coap.specs.Message.{HasSpelling, spelling};
+ghost use Rattle.osc_coap.specs.{datagram_limit, HasSpelling, spelling};
 ghost use Rattle.osc_proxy.specs.Exchanges.{answers};
 ghost use Rattle.osc_proxy.specs.Forwarding.{answer};
 ghost use Rattle.osc_proxy.specs.Inner.Going.{IsOwn};

@@ -1,8 +1,7 @@
 //! Which case a new message is to a proxy, and which exchange an empty one ends.
 ghost use Rattle.std.specs.Prelude.{◌≡◌, ◌<◌, ◌≤◌, Option, length, true, false, IfSome};
-ghost use Rattle.osc_coap.specs.Code.{is_request_code as is_request_code_of};
-ghost use Rattle.osc_coap.specs.Length.{datagram_limit};
-ghost use Rattle.osc_coap.specs.Message.{Message as AnyMessage, spelling};
+ghost use Rattle.osc_coap.specs.{is_request_code as is_request_code_of, datagram_limit, spelling};
+ghost use Rattle.osc_coap.specs.Message.{Message as AnyMessage};
 ghost use Rattle.osc_model.specs.declared.node.Peer.{Peer as AnyPeer};
 ghost use Rattle.osc_proxy.specs.Inner.Bounds.{AsksFor, IsNamed, names_one};
 ghost use Rattle.osc_proxy.specs.Case as spec;

@@ -1,8 +1,7 @@
 //! When the next tick has to come.
 ghost use Rattle.std.specs.Prelude.{◌≡◌, ◌≢◌, ◌||◌, [], IsSome};
 ghost use Rattle.osc_model.specs.declared.node.Moment.{Moment as AnyMoment};
-ghost use Rattle.osc_message.specs.Bounds.{is_reached};
-ghost use Rattle.osc_message.specs.Ticks.{acts as messages_act};
+ghost use Rattle.osc_message.specs.{is_reached, acts as messages_act};
 
 use crate::Endpoint;
 

@@ -1,7 +1,7 @@
 //! The exchanges that a proxy has open (RFC 7252 section 5.7.2).
 ghost use Rattle.std.specs.Prelude.{◌≡◌, ◌+◌, ◌≤◌, ◌<◌, ◌∷◌, ℕ, List, length, None, Some, IfOk, OnSome, IfNone, IsSome, option_copied, nat_le};
 ghost use Rattle.osc_model.specs.declared.node.Moment.{Moment as AnyMoment};
-ghost use Rattle.osc_message.specs.Bounds.{is_reached};
+ghost use Rattle.osc_message.specs.{is_reached};
 ghost use Rattle.osc_proxy.specs.Ends.{without_over};
 ghost use Rattle.osc_proxy.specs.Exchanges as spec;
 ghost use Rattle.osc_proxy.specs.Ticks.{any_overdue, is_given_up as is_given_up_of, is_over as is_over_by, without_its};

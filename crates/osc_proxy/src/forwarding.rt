@@ -1,10 +1,8 @@
 //! What a proxy forwards, and what it sends back (RFC 7252 sections 5.7.1 and 5.7.2).
 ghost use Rattle.std.specs.Prelude.{◌≡◌, ◌<◌, ◌≤◌, ◌↔◌, None, length, IsOk, IfOk, OnOk};
-ghost use Rattle.osc_coap.specs.Building.{last_number};
-ghost use Rattle.osc_coap.specs.Length.{datagram_limit};
-ghost use Rattle.osc_coap.specs.Message.{spelling};
+ghost use Rattle.osc_coap.specs.{last_number, datagram_limit, spelling};
 ghost use Rattle.osc_options.specs.Inner.Merging.{with_options};
-ghost use Rattle.osc_options.specs.Split.{AreInOrder};
+ghost use Rattle.osc_options.specs.{AreInOrder};
 ghost use Rattle.osc_proxy.specs.Forwarding as spec;
 ghost use Rattle.osc_proxy.specs.Inner.Rewriting.{rewritten, stays, staying};
 

@@ -1,15 +1,9 @@
 //! The proxy.
 ghost use Rattle.std.specs.Prelude.{◌≡◌, ◌≢◌, ℕ, ◌≤◌, ◌<◌, ◌+◌, ◌↔◌, List, [], length, true, false, None, Option, Some, IfOk, OnErr, OnOk, IfSome, IfNone, IsSome};
-ghost use Rattle.osc_coap.specs.Code.{is_request_code};
-ghost use Rattle.osc_coap.specs.Length.{datagram_limit};
-ghost use Rattle.osc_coap.specs.Message.{HasSpelling, spelling};
-ghost use Rattle.osc_model.specs.Step.{sends};
+ghost use Rattle.osc_coap.specs.{is_request_code, datagram_limit, HasSpelling, spelling};
+ghost use Rattle.osc_model.specs.{sends};
 ghost use Rattle.osc_model.specs.declared.node.Moment.{Moment as AnyMoment};
-ghost use Rattle.osc_message.specs.Bounds.{is_reached};
-ghost use Rattle.osc_message.specs.Endpoint.{fresh, settled};
-ghost use Rattle.osc_message.specs.Heard.{AnswersAlone, IsSendableHeard, heard as heard_as};
-ghost use Rattle.osc_message.specs.Received.{Receives};
-ghost use Rattle.osc_message.specs.Sending.{AreSendable, is_confirmable as is_confirmable_of, rejection};
+ghost use Rattle.osc_message.specs.{is_reached, fresh, settled, AnswersAlone, IsSendableHeard, heard as heard_as, Receives, AreSendable, is_confirmable as is_confirmable_of, rejection};
 ghost use Rattle.osc_message.specs.declared.received.Received.{Received as AnyReceived};
 ghost use Rattle.osc_message.specs.declared.handling.Handling.TheVariants as handling;
 ghost use Rattle.osc_message.specs.declared.heard.Heard.TheVariants as heard;

@@ -1,8 +1,7 @@
 //! Where a request goes (RFC 7252 sections 5.7.2 and 5.10.2).
 ghost use Rattle.std.specs.Prelude.{◌≡◌, ◌≤◌, ◌||◌, true, false, List, length, Option, is_some, option_map, IfSome, IfNone};
-ghost use Rattle.osc_coap.specs.Message.{NumberAndValue};
-ghost use Rattle.osc_options.specs.Numbers.{uri_host, uri_port};
-ghost use Rattle.osc_options.specs.Requests.{value as value_in};
+ghost use Rattle.osc_coap.specs.{NumberAndValue};
+ghost use Rattle.osc_options.specs.{uri_host, uri_port, value as value_in};
 ghost use Rattle.osc_proxy.specs.ProxyUri.{HostAndPort};
 ghost use Rattle.osc_proxy.specs.Route as spec;
 

@@ -1,8 +1,8 @@
 //! What a proxy sends.
 ghost use Rattle.std.specs.Prelude.{◌≡◌, ◌<◌, ◌++◌, true, IfOk};
 ghost use Rattle.std.specs.Option.{option_to_list};
-ghost use Rattle.osc_coap.specs.Message.{HasSpelling, spelling};
-ghost use Rattle.osc_message.specs.Sending.{FitsDatagram};
+ghost use Rattle.osc_coap.specs.{HasSpelling, spelling};
+ghost use Rattle.osc_message.specs.{FitsDatagram};
 ghost use Rattle.osc_proxy.specs.Own.{goes_now, has_room, sends_own, with_own};
 ghost use Rattle.osc_proxy.specs.Inner.Going.{Acknowledges, IsOwn, back_kept_by, back_sends_by};
 

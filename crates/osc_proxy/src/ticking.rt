@@ -2,8 +2,8 @@
 ghost use Rattle.std.specs.Prelude.{◌≡◌, ◌≤◌, ◌<◌, ◌+◌, ◌++◌, [], true, List, length, if◌then◌else◌, vec_len, vec_capacity};
 ghost use Rattle.std.specs.Option.{option_to_list};
 ghost use Rattle.osc_model.specs.declared.step.Datagram.{Datagram as AnyDatagram};
-ghost use Rattle.osc_coap.specs.Message.{HasSpelling, spelling};
-ghost use Rattle.osc_message.specs.Sending.{AreSendable, FitsDatagram};
+ghost use Rattle.osc_coap.specs.{HasSpelling, spelling};
+ghost use Rattle.osc_message.specs.{AreSendable, FitsDatagram};
 ghost use Rattle.osc_proxy.specs.Inner.Bounds.{IsOpen};
 ghost use Rattle.osc_proxy.specs.Exchanges.{count};
 ghost use Rattle.osc_proxy.specs.Table.{Closes, back_kept, back_sends};

@@ -11,36 +11,25 @@ use Rattle.osc_model.specs.declared.node.Moment.{Moment}
 use Rattle.osc_model.specs.declared.node.Peer.{Peer}
 use Rattle.osc_model.specs.declared.reply.Reply.{Reply}
 use Rattle.osc_model.specs.declared.step.Step.{Step}
-use Rattle.osc_coap.specs.Message.{Message, NumberAndValue}
-use Rattle.osc_coap.specs.Plaintext.{Plaintext, SpellsPlaintext, HasPlaintextSpelling, plaintext_spelling}
+use Rattle.osc_coap.specs.{NumberAndValue, SpellsPlaintext, HasPlaintextSpelling, plaintext_spelling}
+use Rattle.osc_coap.specs.Message.{Message}
+use Rattle.osc_coap.specs.Plaintext.{Plaintext}
 use Rattle.osc_coap.specs.declared.kind.Kind.TheVariants.{Acknowledgement, Confirmable}
-use Rattle.osc_options.specs.PlaintextReplies.{reply_in, reply_plaintext}
-use Rattle.osc_options.specs.Requests.{value}
-use Rattle.osc_options.specs.Split.{has_oscore, outer_options, plaintext_of, protected, merge}
-use Rattle.osc_dedup.specs.Table.{Entry, looked}
-use Rattle.osc_message.specs.Confirmables.{same_peer}
-use Rattle.osc_message.specs.Heard.{heard}
-use Rattle.osc_message.specs.Received.{Receives}
-use Rattle.osc_message.specs.Sending.{acknowledgement, sent_to}
+use Rattle.osc_options.specs.{reply_in, reply_plaintext, value, has_oscore, outer_options, plaintext_of, protected, merge, IsReplyIn, IsWithinRanges, reply_text}
+use Rattle.osc_dedup.specs.{Entry, looked}
+use Rattle.osc_message.specs.{same_peer, heard, Receives, acknowledgement, sent_to}
 use Rattle.osc_message.specs.declared.heard.Heard.{Heard}
 use Rattle.osc_message.specs.declared.heard.Heard.TheVariants as heard_as
 use Rattle.osc_message.specs.declared.received.Received.{Received}
 use Rattle.osc_message.specs.declared.received.Received.TheVariants as received
-use Rattle.osc_context.specs.Algorithm.{algorithm_of}
-use Rattle.osc_context.specs.Derivation.{key_of}
-use Rattle.osc_context.specs.Nonce.{greatest_number}
-use Rattle.osc_protect.specs.Aad.{aad_of}
-use Rattle.osc_ccm.specs.Ciphers.{Sealings}
-use Rattle.osc_protect.specs.Protection.{IsProtectedResponse, IsResponse, SealedResponse, plain_bytes, response_nonce, response_value}
-use Rattle.osc_protect.specs.Value.{Compressed, SpellsValue}
-use Rattle.osc_authz.specs.Begun.{ClientContextState}
-use Rattle.osc_run.specs.ClientKinds.{response_note}
-use Rattle.osc_options.specs.Texts.{IsReplyIn, IsWithinRanges, reply_text}
-use Rattle.osc_client.specs.Answering.{AskComes, Comes, IsSealedFor, context_after, notes_of, waits_after}
+use Rattle.osc_context.specs.{algorithm_of, key_of, greatest_number}
+use Rattle.osc_protect.specs.{aad_of, IsProtectedResponse, IsResponse, SealedResponse, plain_bytes, response_nonce, response_value, Compressed, SpellsValue}
+use Rattle.osc_ccm.specs.{Sealings}
+use Rattle.osc_authz.specs.{ClientContextState}
+use Rattle.osc_run.specs.{response_note}
+use Rattle.osc_client.specs.{AskComes, Comes, IsSealedFor, context_after, notes_of, waits_after, case_of as client_case, Answers as ClientAnswers, AnswersNew as ClientAnswersNew, Counts, Hears as ClientHears}
 use Rattle.osc_client.specs.Answering as comes
-use Rattle.osc_client.specs.Case.{case_of as client_case}
 use Rattle.osc_client.specs.State.{State as Client}
-use Rattle.osc_client.specs.Table.{Answers as ClientAnswers, AnswersNew as ClientAnswersNew, Counts}
 use Rattle.osc_client.specs.declared.answering.Outcome.{Outcome}
 use Rattle.osc_client.specs.declared.answering.Outcome.TheVariants.{Answers}
 use Rattle.osc_client.specs.declared.case.Case.{Case}
@@ -49,10 +38,8 @@ use Rattle.osc_client.specs.declared.waiting.Awaited.{Awaited}
 use Rattle.osc_client.specs.declared.waiting.Awaited.TheVariants.{Ask}
 use Rattle.osc_client.specs.declared.waiting.OpenAsk.{OpenAsk}
 use Rattle.osc_client.specs.declared.waiting.Waiting.{Waiting}
-use Rattle.osc_rounds.specs.Asked.{AnsweredRequest, AwaitsReply, CarriesReply, ComesBack, IsAnsweredWith, in_acknowledgement, in_confirmable}
-use Rattle.osc_rounds.specs.Coming.{in_bytes}
-use Rattle.osc_proxy.specs.ThereAndBack.{IsCarried}
-use Rattle.osc_client.specs.Hearing.{Hears as ClientHears}
+use Rattle.osc_rounds.specs.{AnsweredRequest, AwaitsReply, CarriesReply, ComesBack, IsAnsweredWith, in_acknowledgement, in_confirmable, in_bytes}
+use Rattle.osc_proxy.specs.{IsCarried}
 use Rattle.osc_rounds.proofs.Asking.{received_as, one_option, in_place, payload_is}
 
 module _ (is_sealing : Sealings) where

@@ -1,23 +1,18 @@
 -- An empty acknowledgement that comes to a client.
 use Rattle.std.proofs.Common.{◌≡◌, ap, subst, ℕ, ◌^◌, ◌<◌, ◌≤◌, List, [], length}
-use Rattle.osc_model.specs.Arrival.{Arrival, read_as}
-use Rattle.osc_model.specs.Step.{sends}
+use Rattle.osc_model.specs.{read_as, sends}
+use Rattle.osc_model.specs.Arrival.{Arrival}
 use Rattle.osc_model.specs.declared.step.Step.{Step}
-use Rattle.osc_coap.specs.Length.{datagram_limit}
-use Rattle.osc_coap.specs.Message.{HasSpelling, spelling}
+use Rattle.osc_coap.specs.{datagram_limit, HasSpelling, spelling}
 use Rattle.osc_coap.specs.declared.kind.Kind.TheVariants.{Acknowledgement}
-use Rattle.osc_message.specs.Confirmables.{acknowledged}
-use Rattle.osc_message.specs.Heard.{heard}
-use Rattle.osc_message.specs.Received.{Receives}
-use Rattle.osc_message.specs.Sending.{empty_acknowledgement}
+use Rattle.osc_message.specs.{acknowledged, heard, Receives, empty_acknowledgement}
 use Rattle.osc_message.specs.declared.heard.Heard.{Heard}
 use Rattle.osc_message.specs.declared.heard.Heard.TheVariants.{Empty}
 use Rattle.osc_message.specs.declared.received.Received.{Received}
 use Rattle.osc_message.specs.declared.received.Received.TheVariants as received
-use Rattle.osc_ccm.specs.Ciphers.{Sealings}
-use Rattle.osc_client.specs.Hearing.{Hears as ClientHears}
+use Rattle.osc_ccm.specs.{Sealings}
+use Rattle.osc_client.specs.{Hears as ClientHears, Answers as ClientAnswers}
 use Rattle.osc_client.specs.State.{State as Client}
-use Rattle.osc_client.specs.Table.{Answers as ClientAnswers}
 use Rattle.osc_rounds.proofs.Asking.{received_as}
 
 module _ (is_sealing : Sealings)

@@ -7,79 +7,56 @@ use Rattle.std.proofs.lemmas.List.{length-take}
 use Rattle.std.proofs.lemmas.Str.{IsUtf8-from_ascii, is_utf8-from_IsUtf8}
 use Rattle.std.proofs.lemmas.Str.Ascii.{IsAscii-nil}
 use Rattle.std.proofs.lemmas.Option.{same_Some}
-use Rattle.osc_model.specs.Arrival.{Arrival, read_as}
-use Rattle.osc_model.specs.Code.{code}
-use Rattle.osc_model.specs.Draw.{nonce_drawn}
-use Rattle.osc_model.specs.Grant.{HasBegun, IsNotOver}
+use Rattle.osc_model.specs.{read_as, code, nonce_drawn, HasBegun, IsNotOver, quiet}
+use Rattle.osc_model.specs.Arrival.{Arrival}
 use Rattle.osc_model.specs.Scope.{Scope}
-use Rattle.osc_model.specs.StepNotes.{quiet}
 use Rattle.osc_model.specs.declared.algorithm.Algorithm.TheVariants.{EightByteTag}
 use Rattle.osc_model.specs.declared.node.Draw.{Draw}
 use Rattle.osc_model.specs.declared.node.Moment.{Moment}
 use Rattle.osc_model.specs.declared.node.Peer.{Peer}
 use Rattle.osc_model.specs.declared.step.ClientResult.TheVariants as result
 use Rattle.osc_model.specs.declared.step.Step.{Step}
-use Rattle.osc_cbor.specs.Spelling.{spelling as item_spelling}
-use Rattle.osc_coap.specs.Building.{payload_of}
-use Rattle.osc_coap.specs.Length.{spelled_length}
-use Rattle.osc_coap.specs.Message.{HasSpelling, Message, NumberAndValue, spelling}
+use Rattle.osc_cbor.specs.{spelling as item_spelling}
+use Rattle.osc_coap.specs.{payload_of, spelled_length, HasSpelling, NumberAndValue, spelling}
+use Rattle.osc_coap.specs.Message.{Message}
 use Rattle.osc_coap.specs.declared.kind.Kind.{Kind}
 use Rattle.osc_coap.specs.declared.kind.Kind.TheVariants.{Acknowledgement, Confirmable}
-use Rattle.osc_options.specs.Split.{has_oscore}
-use Rattle.osc_dedup.specs.Table.{Entry as Noted, looked}
-use Rattle.osc_message.specs.Confirmables.{same_peer}
-use Rattle.osc_message.specs.Endpoint.{EndpointState}
-use Rattle.osc_message.specs.Heard.{heard}
-use Rattle.osc_message.specs.Received.{Receives}
-use Rattle.osc_message.specs.Sending.{acknowledgement, datagram, sent_to}
+use Rattle.osc_options.specs.{has_oscore}
+use Rattle.osc_dedup.specs.{Entry as Noted, looked}
+use Rattle.osc_message.specs.{same_peer, EndpointState, heard, Receives, acknowledgement, datagram, sent_to}
 use Rattle.osc_message.specs.declared.heard.Heard.{Heard}
 use Rattle.osc_message.specs.declared.heard.Heard.TheVariants as heard_as
 use Rattle.osc_message.specs.declared.received.Received.{Received}
 use Rattle.osc_message.specs.declared.received.Received.TheVariants as received
-use Rattle.osc_ccm.specs.Ciphers.{Sealings}
-use Rattle.osc_protect.specs.Protection.{HasShortContext}
-use Rattle.osc_scope.specs.Entries.{Entry, scope_of}
-use Rattle.osc_token.specs.Minted.{HasLawfulParts}
+use Rattle.osc_ccm.specs.{Sealings}
+use Rattle.osc_protect.specs.{HasShortContext}
+use Rattle.osc_scope.specs.{Entry, scope_of}
+use Rattle.osc_token.specs.{HasLawfulParts}
 use Rattle.osc_token.specs.declared.claims.Claims.{Claims}
-use Rattle.osc_authz.specs.Begun.{Begun, ClientContextState}
-use Rattle.osc_authz.specs.Client.{Finishes}
-use Rattle.osc_authz.specs.Desk.{DeskState}
-use Rattle.osc_authz.specs.Exchange.{answer_item, post_item}
+use Rattle.osc_authz.specs.{ClientContextState, Finishes, DeskState, answer_item, post_item, In, Posts, IsLawfulContext, contexts, IsWelcome}
+use Rattle.osc_authz.specs.Begun.{Begun}
 use Rattle.osc_authz.specs.SecurityContext.{SecurityContext}
 use Rattle.osc_authz.specs.HoldsToken.{HoldsToken}
-use Rattle.osc_authz.specs.Members.{In}
-use Rattle.osc_authz.specs.Post.{Posts}
-use Rattle.osc_authz.specs.Table.{IsLawfulContext, contexts}
-use Rattle.osc_authz.specs.Welcome.{IsWelcome}
 use Rattle.osc_authz.specs.declared.error.FinishError.{FinishError}
 use Rattle.osc_authz.specs.declared.error.PostError.{PostError}
 use Rattle.osc_authz.specs.declared.granted.ClientDesk.{ClientDesk}
 use Rattle.osc_authz.specs.declared.post.Post.{Post}
 use Rattle.osc_authz.specs.declared.post.PostAnswer.{PostAnswer}
-use Rattle.osc_server.specs.Case.{case_of as server_case}
-use Rattle.osc_server.specs.Hearing.{Hears as ServerHears}
+use Rattle.osc_server.specs.{case_of as server_case, Hears as ServerHears, Answers as ServerAnswers, AnswersNew as ServerAnswersNew, AnswersPost, post_reply, reply_to}
 use Rattle.osc_server.specs.State.{State as Server}
-use Rattle.osc_server.specs.Table.{Answers as ServerAnswers, AnswersNew as ServerAnswersNew, AnswersPost, post_reply, reply_to}
 use Rattle.osc_server.specs.declared.case.Case.{Case as ServerCase}
 use Rattle.osc_server.specs.declared.case.Case.TheVariants.{Posted}
-use Rattle.osc_client.specs.Answering.{Comes, ExchangeComes, context_after, ended_by, notes_of, waits_after}
+use Rattle.osc_client.specs.{Comes, ExchangeComes, context_after, ended_by, notes_of, waits_after, case_of as client_case, Hears as ClientHears, post_with, Answers as ClientAnswers, AnswersNew as ClientAnswersNew, Counts, IsHost}
 use Rattle.osc_client.specs.Answering as comes
-use Rattle.osc_client.specs.Case.{case_of as client_case}
-use Rattle.osc_client.specs.Hearing.{Hears as ClientHears}
-use Rattle.osc_client.specs.Sending.{post_with}
 use Rattle.osc_client.specs.State.{State as Client}
-use Rattle.osc_client.specs.Table.{Answers as ClientAnswers, AnswersNew as ClientAnswersNew, Counts}
-use Rattle.osc_client.specs.Route.{IsHost}
 use Rattle.osc_client.specs.declared.answering.Outcome.{Outcome}
 use Rattle.osc_client.specs.declared.case.Case.{Case as ClientCase}
 use Rattle.osc_client.specs.declared.case.Case.TheVariants.{Counted}
 use Rattle.osc_client.specs.declared.waiting.Awaited.{Awaited}
 use Rattle.osc_client.specs.declared.waiting.Awaited.TheVariants.{Exchange}
 use Rattle.osc_client.specs.declared.waiting.Waiting.{Waiting}
-use Rattle.osc_rounds.specs.Agreement.{AwaitsAgreement, AwaitsPost, BegunExchange, IsAgreedTo, agreement, body_of, posted}
-use Rattle.osc_rounds.specs.Coming.{in_bytes}
-use Rattle.osc_rounds.specs.ExchangeRound.{IsHeld}
-use Rattle.osc_proxy.specs.ThereAndBack.{IsCarried}
+use Rattle.osc_rounds.specs.{AwaitsAgreement, AwaitsPost, BegunExchange, IsAgreedTo, agreement, body_of, posted, in_bytes, IsHeld}
+use Rattle.osc_proxy.specs.{IsCarried}
 use Rattle.osc_rounds.proofs.Accepting.{same_bytes, same_number}
 use Rattle.osc_rounds.proofs.Asking.{received_as}
 use Rattle.osc_rounds.proofs.Sendable.{payload_most, some_payload}

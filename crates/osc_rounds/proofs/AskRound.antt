@@ -6,11 +6,10 @@ use Rattle.std.specs.Option.{ForSome}
 use Rattle.std.proofs.lemmas.List.Elements.{recursion_from_All}
 use Rattle.std.proofs.lemmas.List.{length-take}
 use Rattle.std.proofs.lemmas.Option.{same_Some}
-use Rattle.osc_model.specs.Apply.{apply_read}
+use Rattle.osc_model.specs.{apply_read, token_drawn, IsWithinLimits}
 use Rattle.osc_model.specs.Arrival.{Arrival}
-use Rattle.osc_model.specs.Draw.{token_drawn}
 use Rattle.osc_model.specs.Scope.{Scope}
-use Rattle.osc_model.specs.Tree.{Tree, IsWithinLimits}
+use Rattle.osc_model.specs.Tree.{Tree}
 use Rattle.osc_model.specs.declared.algorithm.Algorithm.{Algorithm}
 use Rattle.osc_model.specs.declared.context.ContextName.{ContextName}
 use Rattle.osc_model.specs.declared.node.Draw.{Draw}
@@ -20,45 +19,28 @@ use Rattle.osc_model.specs.declared.reply.Reply.{Reply}
 use Rattle.osc_model.specs.declared.request.Request.{Request}
 use Rattle.osc_model.specs.declared.step.Datagram.{Datagram}
 use Rattle.osc_model.specs.declared.step.Step.{Step}
-use Rattle.osc_ccm.specs.Limits.{most_tag}
-use Rattle.osc_coap.specs.Length.{spelled_length}
-use Rattle.osc_coap.specs.Message.{Message, spelling}
+use Rattle.osc_ccm.specs.{most_tag, Sealings, Tags, IsLongerBy}
+use Rattle.osc_coap.specs.{spelled_length, spelling}
+use Rattle.osc_coap.specs.Message.{Message}
 use Rattle.osc_coap.specs.declared.kind.Kind.{Kind}
 use Rattle.osc_coap.specs.declared.kind.Kind.TheVariants.{Acknowledgement, Confirmable}
-use Rattle.osc_dedup.specs.Table.{looked}
-use Rattle.osc_options.specs.PlaintextReplies.{reply_plaintext}
-use Rattle.osc_options.specs.Replies.{etag_option, format_option, with_reply}
-use Rattle.osc_options.specs.Requests.{request_options}
-use Rattle.osc_options.specs.Split.{outer_options, plaintext_of}
-use Rattle.osc_message.specs.Confirmables.{same_peer}
-use Rattle.osc_message.specs.Endpoint.{EndpointState, own_id}
-use Rattle.osc_message.specs.Sending.{acknowledgement, empty_acknowledgement, is_confirmable, reply_start, sent_to}
-use Rattle.osc_context.specs.Nonce.{longest_id}
-use Rattle.osc_ccm.specs.Ciphers.{Sealings, Tags, IsLongerBy}
-use Rattle.osc_protect.specs.Protection.{HasShortContext, IsProtectedRequest, longest_message, plain_bytes, request_length, request_value}
-use Rattle.osc_authz.specs.Begun.{ClientContextState}
-use Rattle.osc_authz.specs.Contexts.{IsLive}
+use Rattle.osc_dedup.specs.{looked}
+use Rattle.osc_options.specs.{reply_plaintext, etag_option, format_option, with_reply, request_options, outer_options, plaintext_of, read_request}
+use Rattle.osc_message.specs.{same_peer, EndpointState, own_id, acknowledgement, empty_acknowledgement, is_confirmable, reply_start, sent_to}
+use Rattle.osc_context.specs.{longest_id}
+use Rattle.osc_protect.specs.{HasShortContext, IsProtectedRequest, longest_message, plain_bytes, request_length, request_value}
+use Rattle.osc_authz.specs.{ClientContextState, IsLive, In, IsLawfulContext, IsTable, contexts, meant}
 use Rattle.osc_authz.specs.SecurityContext.{SecurityContext}
-use Rattle.osc_authz.specs.Members.{In}
-use Rattle.osc_authz.specs.Table.{IsLawfulContext, IsTable, contexts, meant}
 use Rattle.osc_authz.specs.declared.token_entry.TokenEntry.{TokenEntry}
-use Rattle.osc_run.specs.ClientKinds.{request_note}
-use Rattle.osc_run.specs.ServerKinds.{Replies as AppliesTo}
-use Rattle.osc_options.specs.Texts.{read_request}
+use Rattle.osc_run.specs.{request_note, Replies as AppliesTo}
 use Rattle.osc_server.specs.State.{State as Server}
-use Rattle.osc_server.specs.Hearing.{Hears as ServerHears}
-use Rattle.osc_server.specs.Table.{answered, reply_to}
-use Rattle.osc_client.specs.Lawful.{IsLawfulClient}
-use Rattle.osc_client.specs.Sending.{Asked, plain_of, plain_request, waits}
+use Rattle.osc_server.specs.{Hears as ServerHears, answered, reply_to}
+use Rattle.osc_client.specs.{IsLawfulClient, Asked, plain_of, plain_request, waits, HostAndPort, through}
 use Rattle.osc_client.specs.State.{State as Client}
-use Rattle.osc_client.specs.Route.{HostAndPort, through}
 use Rattle.osc_client.specs.declared.waiting.Awaited.TheVariants.{Ask}
 use Rattle.osc_client.specs.declared.waiting.Waiting.{Waiting}
-use Rattle.osc_rounds.specs.AskRound.{IsAskedAndAnswered, IsLawfulServer, IsServedAndAnswered, StraightRequest, asked_text}
-use Rattle.osc_rounds.specs.Asked.{AwaitsReply, AwaitsRequest, CarriesReply, ComesBack, IsAnsweredWith, IsForServer, IsServed, OpenedRequest, in_acknowledgement, nothing}
-use Rattle.osc_rounds.specs.Coming.{in_bytes}
-use Rattle.osc_rounds.specs.Ready.{IsStraight, MayAsk}
-use Rattle.osc_proxy.specs.ThereAndBack.{IsCarried}
+use Rattle.osc_rounds.specs.{IsAskedAndAnswered, IsLawfulServer, IsServedAndAnswered, StraightRequest, asked_text, AwaitsReply, AwaitsRequest, CarriesReply, ComesBack, IsAnsweredWith, IsForServer, IsServed, OpenedRequest, in_acknowledgement, nothing, in_bytes, IsStraight, MayAsk}
+use Rattle.osc_proxy.specs.{IsCarried}
 use Rattle.osc_rounds.proofs.Accepting.{ReplyLaws, reply_accepted}
 use Rattle.osc_rounds.proofs.Asking.{RequestLaws, request_served}
 use Rattle.osc_rounds.proofs.Sent.{IsSent, id_few, its_context}

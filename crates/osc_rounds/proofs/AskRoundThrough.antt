@@ -1,34 +1,26 @@
 -- A request that goes through a forward proxy, and its answer, delivery by delivery.
 use Rattle.std.proofs.Common.{◌≡◌, sym, subst, ℕ, ◌<◌, ◌^◌, List, [], length, None, arith}
-use Rattle.osc_model.specs.Arrival.{Arrival, read_as}
-use Rattle.osc_model.specs.Step.{sends}
+use Rattle.osc_model.specs.{read_as, sends}
+use Rattle.osc_model.specs.Arrival.{Arrival}
 use Rattle.osc_model.specs.declared.node.Draw.{Draw}
 use Rattle.osc_model.specs.declared.node.Moment.{Moment}
 use Rattle.osc_model.specs.declared.node.Peer.{Peer}
 use Rattle.osc_model.specs.declared.request.Request.{Request}
 use Rattle.osc_model.specs.declared.step.Step.{Step}
-use Rattle.osc_coap.specs.Message.{Message, spelling}
-use Rattle.osc_dedup.specs.Table.{Entry, looked}
-use Rattle.osc_message.specs.Confirmables.{acknowledged}
-use Rattle.osc_message.specs.Endpoint.{EndpointState}
-use Rattle.osc_message.specs.Sending.{empty_acknowledgement}
-use Rattle.osc_ccm.specs.Ciphers.{Sealings}
+use Rattle.osc_coap.specs.{spelling}
+use Rattle.osc_coap.specs.Message.{Message}
+use Rattle.osc_dedup.specs.{Entry, looked}
+use Rattle.osc_message.specs.{acknowledged, EndpointState, empty_acknowledgement}
+use Rattle.osc_ccm.specs.{Sealings}
 use Rattle.osc_authz.specs.SecurityContext.{SecurityContext}
-use Rattle.osc_server.specs.Hearing.{Hears as ServerHears}
+use Rattle.osc_server.specs.{Hears as ServerHears}
 use Rattle.osc_server.specs.State.{State as Server}
-use Rattle.osc_client.specs.Hearing.{Hears as ClientHears}
-use Rattle.osc_client.specs.Sending.{Asked}
+use Rattle.osc_client.specs.{Hears as ClientHears, Asked}
 use Rattle.osc_client.specs.State.{State as Client}
-use Rattle.osc_proxy.specs.Forwarding.{forwarded_token}
-use Rattle.osc_proxy.specs.Hearing.{Hears as ProxyHears}
+use Rattle.osc_proxy.specs.{forwarded_token, Hears as ProxyHears, forwarded_by, next_own, GoesBack, GoesThereAndBack, IsLawfulProxy, answer_by, answer_id, datagram_of}
 use Rattle.osc_proxy.specs.Passage.{Passage}
 use Rattle.osc_proxy.specs.State.{State as Proxy}
-use Rattle.osc_proxy.specs.Table.{forwarded_by, next_own}
-use Rattle.osc_proxy.specs.ThereAndBack.{GoesBack, GoesThereAndBack, IsLawfulProxy, answer_by, answer_id, datagram_of}
-use Rattle.osc_rounds.specs.AskRound.{asked_text}
-use Rattle.osc_rounds.specs.AskRoundThrough.{IsAskedAndServedThrough, IsBroughtBackAndAnswered, IsPassedOnAndServed, IsServedAndBroughtBack, OnItsWay}
-use Rattle.osc_rounds.specs.Coming.{coming}
-use Rattle.osc_rounds.specs.Ready.{Hops, IsThrough}
+use Rattle.osc_rounds.specs.{asked_text, IsAskedAndServedThrough, IsBroughtBackAndAnswered, IsPassedOnAndServed, IsServedAndBroughtBack, OnItsWay, coming, Hops, IsThrough}
 use Rattle.osc_rounds.proofs.AskedThrough.{IsAskedAndAnsweredThrough, IsServedAndAnsweredThrough, RequestFromProxy}
 use Rattle.osc_rounds.proofs.PassedOn.{PassesLaw, can_send, passage_on, takes_up, token_size}
 

@@ -2,43 +2,31 @@
 use Rattle.std.proofs.Common.{◌≡◌, ◌∙◌, sym, ap, subst, refl, ℕ, ◌+◌, ◌^◌, ◌<◌, ◌≤◌, Bool, true, false, not, List, [], ◌∷◌, length, Option, Some, None, arith}
 use Rattle.std.specs.Prelude.{filter}
 use Rattle.osc_model.specs.Arrival.{Arrival}
-use Rattle.osc_model.specs.Draw.{token_drawn}
-use Rattle.osc_model.specs.Tree.{IsWithinLimits}
+use Rattle.osc_model.specs.{token_drawn, IsWithinLimits}
 use Rattle.osc_model.specs.declared.node.Draw.{Draw}
 use Rattle.osc_model.specs.declared.node.Moment.{Moment}
 use Rattle.osc_model.specs.declared.node.Peer.{Peer}
 use Rattle.osc_model.specs.declared.request.Request.{Request}
 use Rattle.osc_model.specs.declared.step.Step.{Step}
-use Rattle.osc_coap.specs.Code.{is_request_code, is_response_code}
-use Rattle.osc_coap.specs.Message.{AreOptions, Message, NumberAndValue, HasSpelling, spelling}
+use Rattle.osc_coap.specs.{is_request_code, is_response_code, AreOptions, NumberAndValue, HasSpelling, spelling}
+use Rattle.osc_coap.specs.Message.{Message}
 use Rattle.osc_coap.specs.declared.kind.Kind.TheVariants.{Acknowledgement, Confirmable}
-use Rattle.osc_options.specs.Requests.{request_options}
-use Rattle.osc_options.specs.Split.{AreInOrder, merge, outer_options}
-use Rattle.osc_dedup.specs.Table.{looked}
-use Rattle.osc_message.specs.Confirmables.{same_peer}
-use Rattle.osc_message.specs.Endpoint.{EndpointState, own_id}
-use Rattle.osc_message.specs.Sending.{datagram, empty_acknowledgement}
-use Rattle.osc_context.specs.Nonce.{longest_id}
-use Rattle.osc_ccm.specs.Ciphers.{Sealings, Tags}
-use Rattle.osc_protect.specs.Protection.{HasShortContext, plain_bytes, request_value, response_value}
-use Rattle.osc_authz.specs.Begun.{ClientContextState}
+use Rattle.osc_options.specs.{request_options, AreInOrder, merge, outer_options, has_unrecognised_unsafe}
+use Rattle.osc_dedup.specs.{looked}
+use Rattle.osc_message.specs.{same_peer, EndpointState, own_id, datagram, empty_acknowledgement}
+use Rattle.osc_context.specs.{longest_id}
+use Rattle.osc_ccm.specs.{Sealings, Tags}
+use Rattle.osc_protect.specs.{HasShortContext, plain_bytes, request_value, response_value}
+use Rattle.osc_authz.specs.{ClientContextState}
 use Rattle.osc_authz.specs.SecurityContext.{SecurityContext}
-use Rattle.osc_server.specs.Hearing.{Hears as ServerHears}
+use Rattle.osc_server.specs.{Hears as ServerHears}
 use Rattle.osc_server.specs.State.{State as Server}
-use Rattle.osc_client.specs.Hearing.{Hears as ClientHears}
-use Rattle.osc_client.specs.Sending.{Asked, plain_of, plain_request, waits}
+use Rattle.osc_client.specs.{Hears as ClientHears, Asked, plain_of, plain_request, waits, HostAndPort, proxy_options, through}
 use Rattle.osc_client.specs.State.{State as Client}
-use Rattle.osc_client.specs.Route.{HostAndPort, proxy_options, through}
 use Rattle.osc_client.specs.declared.waiting.Awaited.TheVariants.{Ask}
 use Rattle.osc_client.specs.declared.waiting.Waiting.{Waiting}
-use Rattle.osc_proxy.specs.Forwarding.{answer as sent_back, forwarded, forwarded_options, has_proxy_uri, is_taken_out}
-use Rattle.osc_proxy.specs.ThereAndBack.{IsAnswerTo, IsCarried}
-use Rattle.osc_options.specs.Recognised.{has_unrecognised_unsafe}
-use Rattle.osc_rounds.specs.AskRound.{IsLawfulServer, asked_text}
-use Rattle.osc_rounds.specs.Asked.{AwaitsReply, AwaitsRequest, CarriesReply, IsAnsweredWith, IsServed, OpenedRequest, a_uri_host, in_confirmable}
-use Rattle.osc_rounds.specs.Coming.{in_bytes}
-use Rattle.osc_rounds.specs.ForProxy.{IsForProxy}
-use Rattle.osc_rounds.specs.Ready.{MayAsk}
+use Rattle.osc_proxy.specs.{answer as sent_back, forwarded, forwarded_options, has_proxy_uri, is_taken_out, IsAnswerTo, IsCarried}
+use Rattle.osc_rounds.specs.{IsLawfulServer, asked_text, AwaitsReply, AwaitsRequest, CarriesReply, IsAnsweredWith, IsServed, OpenedRequest, a_uri_host, in_confirmable, in_bytes, IsForProxy, MayAsk}
 use Rattle.osc_rounds.proofs.Accepting.{reply_accepted}
 use Rattle.osc_rounds.proofs.AskRound.{RoundLaws, answer_sendable, carries, lawful_context, plain, plain_id, plain_inside, plain_kind}
 use Rattle.osc_rounds.proofs.AskedThrough.{IsAskedAndAnsweredThrough, IsAskedThrough, IsForwardedAs, IsServedAndAnsweredThrough, RequestToProxy, SendsThrough}

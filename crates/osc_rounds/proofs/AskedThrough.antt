@@ -1,9 +1,8 @@
 -- A request that goes through a forward proxy, and its answer: how both ends stand before, and what comes of it. What the proxy makes
 -- of a request is `forwarded`, and what it makes of the response is `answer` (RFC 7252 section 5.7.2).
 use Rattle.std.specs.Prelude.{◌≡◌, ℕ, ◌+◌, ◌≤◌, ◌<◌, ◌^◌, List, [], ◌∷◌, length, Some, None}
-use Rattle.osc_model.specs.Apply.{apply_read}
+use Rattle.osc_model.specs.{apply_read, token_drawn}
 use Rattle.osc_model.specs.Arrival.{Arrival}
-use Rattle.osc_model.specs.Draw.{token_drawn}
 use Rattle.osc_model.specs.declared.context.ContextName.{ContextName}
 use Rattle.osc_model.specs.declared.node.Draw.{Draw}
 use Rattle.osc_model.specs.declared.node.Moment.{Moment}
@@ -12,31 +11,21 @@ use Rattle.osc_model.specs.declared.reply.Reply.{Reply}
 use Rattle.osc_model.specs.declared.step.Step.{Step}
 use Rattle.osc_coap.specs.Message.{Message}
 use Rattle.osc_coap.specs.declared.kind.Kind.TheVariants.{Confirmable}
-use Rattle.osc_dedup.specs.Table.{looked}
-use Rattle.osc_message.specs.Endpoint.{EndpointState, own_id}
-use Rattle.osc_message.specs.Sending.{datagram, empty_acknowledgement}
-use Rattle.osc_context.specs.Nonce.{greatest_number}
-use Rattle.osc_ccm.specs.Ciphers.{Sealings}
-use Rattle.osc_protect.specs.Protection.{IsProtectedRequest, plain_bytes}
-use Rattle.osc_authz.specs.Begun.{ClientContextState}
+use Rattle.osc_dedup.specs.{looked}
+use Rattle.osc_message.specs.{EndpointState, own_id, datagram, empty_acknowledgement}
+use Rattle.osc_context.specs.{greatest_number}
+use Rattle.osc_ccm.specs.{Sealings}
+use Rattle.osc_protect.specs.{IsProtectedRequest, plain_bytes}
+use Rattle.osc_authz.specs.{ClientContextState, accepted}
 use Rattle.osc_authz.specs.SecurityContext.{SecurityContext}
-use Rattle.osc_authz.specs.Table.{accepted}
-use Rattle.osc_run.specs.ClientKinds.{request_note}
-use Rattle.osc_run.specs.ServerKinds.{Replies as AppliesTo}
-use Rattle.osc_options.specs.Texts.{read_request}
-use Rattle.osc_server.specs.Hearing.{Hears as ServerHears}
+use Rattle.osc_run.specs.{request_note, Replies as AppliesTo}
+use Rattle.osc_options.specs.{read_request}
+use Rattle.osc_server.specs.{Hears as ServerHears, notes_of_request}
 use Rattle.osc_server.specs.State.{State as Server}
-use Rattle.osc_server.specs.Table.{notes_of_request}
-use Rattle.osc_client.specs.Hearing.{Hears as ClientHears}
-use Rattle.osc_client.specs.Sending.{Asked, plain_of}
+use Rattle.osc_client.specs.{Hears as ClientHears, Asked, plain_of, HostAndPort, IsLawfulOrigin}
 use Rattle.osc_client.specs.State.{State as Client}
-use Rattle.osc_client.specs.Route.{HostAndPort, IsLawfulOrigin}
-use Rattle.osc_proxy.specs.Forwarding.{answer as sent_back, forwarded}
-use Rattle.osc_proxy.specs.ThereAndBack.{IsAnswerTo}
-use Rattle.osc_rounds.specs.AskRound.{asked_text}
-use Rattle.osc_rounds.specs.Asked.{AwaitsReply, IsAnsweredWith, IsForServer, OpenedRequest}
-use Rattle.osc_rounds.specs.Coming.{coming}
-use Rattle.osc_rounds.specs.ForProxy.{IsForProxy}
+use Rattle.osc_proxy.specs.{answer as sent_back, forwarded, IsAnswerTo}
+use Rattle.osc_rounds.specs.{asked_text, AwaitsReply, IsAnsweredWith, IsForServer, OpenedRequest, coming, IsForProxy}
 
 -- ---- before
 

@@ -3,7 +3,7 @@ use Rattle.std.proofs.Common.{◌≡◌, ◌∙◌, sym, ap, subst, refl, ℕ, �
 use Rattle.std.specs.Prelude.{IfSome}
 use Rattle.std.proofs.lemmas.Bool.{le-leb}
 use Rattle.std.proofs.lemmas.Option.{same_Some}
-use Rattle.osc_model.specs.Apply.{apply_read}
+use Rattle.osc_model.specs.{apply_read}
 use Rattle.osc_model.specs.Arrival.{Arrival}
 use Rattle.osc_model.specs.Scope.{Scope}
 use Rattle.osc_model.specs.declared.context.ContextName.{ContextName}
@@ -12,43 +12,32 @@ use Rattle.osc_model.specs.declared.node.Moment.{Moment}
 use Rattle.osc_model.specs.declared.node.Peer.{Peer}
 use Rattle.osc_model.specs.declared.reply.Reply.{Reply}
 use Rattle.osc_model.specs.declared.step.Step.{Step}
-use Rattle.osc_coap.specs.Building.{payload_of}
-use Rattle.osc_coap.specs.Message.{Message, NumberAndValue, spelling}
+use Rattle.osc_coap.specs.{payload_of, NumberAndValue, spelling}
+use Rattle.osc_coap.specs.Message.{Message}
 use Rattle.osc_coap.specs.declared.kind.Kind.TheVariants.{Confirmable}
-use Rattle.osc_options.specs.Recognised.{unrecognised_critical}
-use Rattle.osc_options.specs.Requests.{value}
-use Rattle.osc_options.specs.Split.{outer_options, protected, merge}
-use Rattle.osc_dedup.specs.Table.{Entry, looked}
-use Rattle.osc_message.specs.Heard.{heard}
-use Rattle.osc_message.specs.Received.{Receives}
+use Rattle.osc_options.specs.{unrecognised_critical, value, outer_options, protected, merge, read_request, IsWithinRanges}
+use Rattle.osc_dedup.specs.{Entry, looked}
+use Rattle.osc_message.specs.{heard, Receives}
 use Rattle.osc_message.specs.declared.heard.Heard.{Heard}
 use Rattle.osc_message.specs.declared.heard.Heard.TheVariants as heard_as
 use Rattle.osc_message.specs.declared.received.Received.{Received}
 use Rattle.osc_message.specs.declared.received.Received.TheVariants as received
-use Rattle.osc_context.specs.Algorithm.{algorithm_of}
-use Rattle.osc_context.specs.Derivation.{key_of}
-use Rattle.osc_context.specs.Nonce.{greatest_number, longest_id}
-use Rattle.osc_window.specs.Window.{IsFresh}
-use Rattle.osc_protect.specs.Aad.{aad_of}
-use Rattle.osc_ccm.specs.Ciphers.{Sealings}
-use Rattle.osc_protect.specs.Protection.{HasShortContext, IsFor, IsProtectedRequest, IsProtectedResponse, IsRequest, SealedRequest, plain_bytes, request_nonce, request_value}
-use Rattle.osc_protect.specs.Value.{Compressed, SpellsValue}
+use Rattle.osc_context.specs.{algorithm_of, key_of, greatest_number, longest_id}
+use Rattle.osc_window.specs.{IsFresh}
+use Rattle.osc_protect.specs.{aad_of, HasShortContext, IsFor, IsProtectedRequest, IsProtectedResponse, IsRequest, SealedRequest, plain_bytes, request_nonce, request_value, Compressed, SpellsValue}
+use Rattle.osc_ccm.specs.{Sealings}
 use Rattle.osc_authz.specs.SecurityContext.{SecurityContext}
-use Rattle.osc_authz.specs.Table.{meant, accepted}
-use Rattle.osc_run.specs.ServerKinds.{Replies as AppliesTo}
-use Rattle.osc_options.specs.Texts.{read_request, IsWithinRanges}
-use Rattle.osc_server.specs.Case.{case_of as server_case}
+use Rattle.osc_authz.specs.{meant, accepted}
+use Rattle.osc_run.specs.{Replies as AppliesTo}
+use Rattle.osc_server.specs.{case_of as server_case, Answers as ServerAnswers, AnswersNew as ServerAnswersNew, AnswersProtected, IsMeant, IsRefused, IsSealed, Sends, Serves, notes_of_request, refused, reply_to, served, Hears as ServerHears}
 use Rattle.osc_server.specs.State.{State as Server}
-use Rattle.osc_server.specs.Table.{Answers as ServerAnswers, AnswersNew as ServerAnswersNew, AnswersProtected, IsMeant, IsRefused, IsSealed, Sends, Serves, notes_of_request, refused, reply_to, served}
 use Rattle.osc_server.specs.declared.case.Case.{Case}
 use Rattle.osc_server.specs.declared.case.Case.TheVariants.{Protected}
 use Rattle.osc_server.specs.declared.refusal.Refusal.{Refusal}
 use Rattle.osc_server.specs.declared.refusal.Refusal.TheVariants.{Malformed, NoContext, Replayed, NotGenuine}
-use Rattle.osc_rounds.specs.Asked.{AreForServer, AwaitsRequest, IsForServer, IsServed, OpenedRequest, a_uri_host, nothing}
-use Rattle.osc_rounds.specs.Coming.{in_bytes}
-use Rattle.osc_proxy.specs.ThereAndBack.{IsCarried}
-use Rattle.osc_server.specs.Hearing.{Hears as ServerHears}
-use Rattle.osc_client.specs.Route.{IsHost}
+use Rattle.osc_rounds.specs.{AreForServer, AwaitsRequest, IsForServer, IsServed, OpenedRequest, a_uri_host, nothing, in_bytes}
+use Rattle.osc_proxy.specs.{IsCarried}
+use Rattle.osc_client.specs.{IsHost}
 
 -- ---- what the floors below say
 

@@ -2,9 +2,9 @@
 use Rattle.std.proofs.Common.{◌≡◌, ◌∙◌, sym, ap, subst, refl, ℕ, ◌^◌, ◌<◌, ◌≤◌, List, [], ◌∷◌, length, Option, Some, None, Result, Ok, unwrap_or, arith}
 use Rattle.std.specs.Prelude.{◌≢◌}
 use Rattle.std.proofs.lemmas.List.{length-take}
-use Rattle.osc_model.specs.Arrival.{Arrival, read_as}
-use Rattle.osc_model.specs.Draw.{nonce_drawn, token_drawn}
-use Rattle.osc_model.specs.StepNotes.{StepNotes, quiet}
+use Rattle.osc_model.specs.{read_as, nonce_drawn, token_drawn, quiet}
+use Rattle.osc_model.specs.Arrival.{Arrival}
+use Rattle.osc_model.specs.StepNotes.{StepNotes}
 use Rattle.osc_model.specs.declared.algorithm.Algorithm.TheVariants.{EightByteTag}
 use Rattle.osc_model.specs.declared.node.Draw.{Draw}
 use Rattle.osc_model.specs.declared.node.Moment.{Moment}
@@ -13,50 +13,36 @@ use Rattle.osc_model.specs.declared.step.ClientResult.TheVariants as result
 use Rattle.osc_model.specs.declared.step.Datagram.{Datagram}
 use Rattle.osc_model.specs.declared.step.Note.{Note}
 use Rattle.osc_model.specs.declared.step.Step.{Step}
-use Rattle.osc_cbor.specs.Spelling.{spelling as item_spelling}
-use Rattle.osc_coap.specs.Building.{payload_of}
-use Rattle.osc_coap.specs.Message.{Message, Spells, spelling}
-use Rattle.osc_cose.specs.Encrypt0.{enc_structure, object_item}
-use Rattle.osc_dedup.specs.Table.{looked}
-use Rattle.osc_message.specs.Endpoint.{own_id}
-use Rattle.osc_message.specs.Heard.{heard}
+use Rattle.osc_cbor.specs.{spelling as item_spelling}
+use Rattle.osc_coap.specs.{payload_of, Spells, spelling}
+use Rattle.osc_coap.specs.Message.{Message}
+use Rattle.osc_cose.specs.{enc_structure, object_item}
+use Rattle.osc_dedup.specs.{looked}
+use Rattle.osc_message.specs.{own_id, heard, Receives, datagram}
 use Rattle.osc_message.specs.declared.heard.Heard.{Heard}
 use Rattle.osc_message.specs.declared.heard.Heard.TheVariants as heard_as
-use Rattle.osc_message.specs.Received.{Receives}
-use Rattle.osc_message.specs.Sending.{datagram}
 use Rattle.osc_message.specs.declared.received.Received.{Received}
 use Rattle.osc_message.specs.declared.received.Received.TheVariants as received
-use Rattle.osc_ccm.specs.Ciphers.{Sealings}
-use Rattle.osc_protect.specs.Protection.{longest_message}
-use Rattle.osc_scope.specs.Entries.{Entry}
-use Rattle.osc_token.specs.Token.{IsToken, algorithm_header, claims_item, token_note, token_object}
+use Rattle.osc_ccm.specs.{Sealings}
+use Rattle.osc_protect.specs.{longest_message}
+use Rattle.osc_scope.specs.{Entry}
+use Rattle.osc_token.specs.{IsToken, algorithm_header, claims_item, token_note, token_object}
 use Rattle.osc_token.specs.declared.claims.Claims.{Claims}
-use Rattle.osc_authz.specs.Agreed.{IsAgreed}
-use Rattle.osc_authz.specs.Desk.{DeskState}
-use Rattle.osc_authz.specs.Exchange.{IsPost, post_item}
-use Rattle.osc_authz.specs.Post.{Posts}
+use Rattle.osc_authz.specs.{IsAgreed, DeskState, IsPost, post_item, Posts, IsWelcome}
 use Rattle.osc_authz.specs.Posting.{Posting}
-use Rattle.osc_authz.specs.Welcome.{IsWelcome}
 use Rattle.osc_authz.specs.declared.error.PostError.{PostError}
 use Rattle.osc_authz.specs.declared.granted.ClientDesk.{ClientDesk}
 use Rattle.osc_authz.specs.declared.post.Post.{Post}
 use Rattle.osc_authz.specs.declared.post.PostAnswer.{PostAnswer}
-use Rattle.osc_server.specs.Case.{case_of as server_case}
-use Rattle.osc_server.specs.Hearing.{Hears as ServerHears}
+use Rattle.osc_server.specs.{case_of as server_case, Hears as ServerHears, Answers as ServerAnswers, AnswersNew as ServerAnswersNew, AnswersPost, nonce_of_post, notes_of_post, refusal_of_post}
 use Rattle.osc_server.specs.State.{State as Server}
-use Rattle.osc_server.specs.Table.{Answers as ServerAnswers, AnswersNew as ServerAnswersNew, AnswersPost, nonce_of_post, notes_of_post, refusal_of_post}
 use Rattle.osc_server.specs.declared.case.Case.{Case as ServerCase}
-use Rattle.osc_client.specs.Lawful.{IsLawfulClient}
-use Rattle.osc_client.specs.Sending.{Exchanges, begins, begun_by, busy, post_by, post_with}
+use Rattle.osc_client.specs.{IsLawfulClient, Exchanges, begins, begun_by, busy, post_by, post_with, HostAndPort, through}
 use Rattle.osc_client.specs.Sending as sending
 use Rattle.osc_client.specs.State.{State as Client}
-use Rattle.osc_client.specs.Route.{HostAndPort, through}
 use Rattle.osc_client.specs.declared.waiting.Awaited.TheVariants.{Exchange}
-use Rattle.osc_rounds.specs.Coming.{coming, in_bytes}
-use Rattle.osc_rounds.specs.ProxiedExchange.{claims_text}
-use Rattle.osc_rounds.specs.Ready.{IsStraight, MayExchange}
-use Rattle.osc_rounds.specs.RoundNotes.{AreNotesOfAgreement, AreNotesOfExchange}
-use Rattle.osc_proxy.specs.ThereAndBack.{IsCarried}
+use Rattle.osc_rounds.specs.{coming, in_bytes, claims_text, IsStraight, MayExchange, AreNotesOfAgreement, AreNotesOfExchange}
+use Rattle.osc_proxy.specs.{IsCarried}
 use Rattle.osc_rounds.proofs.Agreement.{case_post, heard_post, payload_again}
 use Rattle.osc_rounds.proofs.Asking.{received_as}
 use Rattle.osc_rounds.proofs.ExchangeRound.{drawn_size}

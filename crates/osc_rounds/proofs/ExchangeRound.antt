@@ -3,40 +3,32 @@ use Rattle.std.proofs.Common.{◌≡◌, ◌∙◌, ap, subst, refl, ℕ, ◌^�
 use Rattle.std.specs.Prelude.{◌≢◌, IfSome, drop}
 use Rattle.std.proofs.lemmas.List.{length-drop, length-take}
 use Rattle.osc_model.specs.Arrival.{Arrival}
-use Rattle.osc_model.specs.Draw.{nonce_drawn, token_drawn}
-use Rattle.osc_model.specs.StepNotes.{quiet}
+use Rattle.osc_model.specs.{nonce_drawn, token_drawn, quiet}
 use Rattle.osc_model.specs.declared.node.Draw.{Draw}
 use Rattle.osc_model.specs.declared.node.Moment.{Moment}
 use Rattle.osc_model.specs.declared.node.Peer.{Peer}
 use Rattle.osc_model.specs.declared.step.ClientResult.TheVariants as result
 use Rattle.osc_model.specs.declared.step.Step.{Step}
-use Rattle.osc_coap.specs.Message.{Message, Spells, spelling}
+use Rattle.osc_coap.specs.{Spells, spelling}
+use Rattle.osc_coap.specs.Message.{Message}
 use Rattle.osc_coap.specs.declared.kind.Kind.TheVariants.{Acknowledgement}
-use Rattle.osc_message.specs.Confirmables.{same_peer}
-use Rattle.osc_message.specs.Endpoint.{own_id}
-use Rattle.osc_message.specs.Sending.{datagram}
-use Rattle.osc_ccm.specs.Ciphers.{Sealings}
-use Rattle.osc_protect.specs.Protection.{longest_message}
-use Rattle.osc_scope.specs.Entries.{Entry}
+use Rattle.osc_message.specs.{same_peer, own_id, datagram}
+use Rattle.osc_ccm.specs.{Sealings}
+use Rattle.osc_protect.specs.{longest_message}
+use Rattle.osc_scope.specs.{Entry}
 use Rattle.osc_token.specs.declared.claims.Claims.{Claims}
 use Rattle.osc_authz.specs.Begun.{Begun}
 use Rattle.osc_authz.specs.SecurityContext.{SecurityContext}
-use Rattle.osc_client.specs.Hearing.{Hears as ClientHears}
-use Rattle.osc_client.specs.Lawful.{IsLawfulClient}
-use Rattle.osc_client.specs.Sending.{Exchanges, begun_by, busy, begins, opened, post_by, post_with, waits}
+use Rattle.osc_client.specs.{Hears as ClientHears, IsLawfulClient, Exchanges, begun_by, busy, begins, opened, post_by, post_with, waits, HostAndPort, through}
 use Rattle.osc_client.specs.Sending as sending
 use Rattle.osc_client.specs.State.{State as Client}
-use Rattle.osc_client.specs.Route.{HostAndPort, through}
 use Rattle.osc_client.specs.declared.waiting.Awaited.{Awaited}
 use Rattle.osc_client.specs.declared.waiting.Awaited.TheVariants.{Exchange}
 use Rattle.osc_client.specs.declared.waiting.Waiting.{Waiting}
-use Rattle.osc_server.specs.Hearing.{Hears as ServerHears}
+use Rattle.osc_server.specs.{Hears as ServerHears}
 use Rattle.osc_server.specs.State.{State as Server}
-use Rattle.osc_rounds.specs.Agreement.{AwaitsAgreement, AwaitsPost, BegunExchange, IsAgreedTo, agreement, body_of}
-use Rattle.osc_rounds.specs.Coming.{coming, in_bytes}
-use Rattle.osc_rounds.specs.ExchangeRound.{IsAgreedAndMade, IsBegunAndMade, IsHeld, IsMade, StraightPost}
-use Rattle.osc_rounds.specs.Ready.{IsStraight, MayExchange}
-use Rattle.osc_proxy.specs.ThereAndBack.{IsCarried}
+use Rattle.osc_rounds.specs.{AwaitsAgreement, AwaitsPost, BegunExchange, IsAgreedTo, agreement, body_of, coming, in_bytes, IsAgreedAndMade, IsBegunAndMade, IsHeld, IsMade, StraightPost, IsStraight, MayExchange}
+use Rattle.osc_proxy.specs.{IsCarried}
 use Rattle.osc_rounds.proofs.Agreement.{ExchangeLaws, agreement_sendable, counts_acknowledged, hears_agreement, hears_post, post_lawful}
 
 -- what waits does so under a token of 8 bytes, which was drawn behind the nonce

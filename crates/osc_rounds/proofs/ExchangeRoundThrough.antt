@@ -7,32 +7,22 @@ use Rattle.osc_model.specs.declared.node.Peer.{Peer}
 use Rattle.osc_model.specs.declared.step.ClientResult.TheVariants as result
 use Rattle.osc_model.specs.declared.step.Step.{Step}
 use Rattle.osc_coap.specs.Message.{Message}
-use Rattle.osc_dedup.specs.Table.{Entry as Noted, looked}
-use Rattle.osc_message.specs.Confirmables.{acknowledged}
-use Rattle.osc_message.specs.Endpoint.{EndpointState}
-use Rattle.osc_scope.specs.Entries.{Entry}
+use Rattle.osc_dedup.specs.{Entry as Noted, looked}
+use Rattle.osc_message.specs.{acknowledged, EndpointState}
+use Rattle.osc_scope.specs.{Entry}
 use Rattle.osc_token.specs.declared.claims.Claims.{Claims}
-use Rattle.osc_ccm.specs.Ciphers.{Sealings}
-use Rattle.osc_server.specs.Hearing.{Hears as ServerHears}
+use Rattle.osc_ccm.specs.{Sealings}
+use Rattle.osc_server.specs.{Hears as ServerHears}
 use Rattle.osc_server.specs.State.{State as Server}
-use Rattle.osc_client.specs.Hearing.{Hears as ClientHears}
-use Rattle.osc_client.specs.Lawful.{IsLawfulClient}
-use Rattle.osc_client.specs.Sending.{Exchanges, begins, begun_by, busy, opened, post_by}
+use Rattle.osc_client.specs.{Hears as ClientHears, IsLawfulClient, Exchanges, begins, begun_by, busy, opened, post_by, HostAndPort, IsLawfulOrigin}
 use Rattle.osc_client.specs.Sending as sending
 use Rattle.osc_client.specs.State.{State as Client}
-use Rattle.osc_client.specs.Route.{HostAndPort, IsLawfulOrigin}
 use Rattle.osc_client.specs.declared.waiting.Awaited.TheVariants.{Exchange}
-use Rattle.osc_proxy.specs.Forwarding.{forwarded_token}
-use Rattle.osc_proxy.specs.Hearing.{Hears as ProxyHears}
+use Rattle.osc_proxy.specs.{forwarded_token, Hears as ProxyHears, forwarded_by, next_own, GoesBack, GoesThereAndBack, IsLawfulProxy, answer_by, answer_id, datagram_of}
 use Rattle.osc_proxy.specs.Passage.{Passage}
 use Rattle.osc_proxy.specs.State.{State as Proxy}
-use Rattle.osc_proxy.specs.Table.{forwarded_by, next_own}
-use Rattle.osc_proxy.specs.ThereAndBack.{GoesBack, GoesThereAndBack, IsLawfulProxy, answer_by, answer_id, datagram_of}
-use Rattle.osc_rounds.specs.Coming.{coming}
-use Rattle.osc_rounds.specs.ExchangeRoundThrough.{IsAgreedAndBroughtBack, IsBroughtBackAndMade, IsPassedOnAndAgreed, IsPostedAndAgreedThrough, PostOnItsWay}
-use Rattle.osc_rounds.specs.ProxiedExchange.{IsAgreedAndMadeThrough, IsBegunAndMadeThrough, MayExchangeThrough, Posted, ProxiedExchange, at_server, claims_text}
-use Rattle.osc_rounds.specs.Ready.{Hops, IsThrough, MayExchange}
-use Rattle.osc_rounds.specs.RoundNotes.{AreNotesOfAgreement}
+use Rattle.osc_rounds.specs.{coming, IsAgreedAndBroughtBack, IsBroughtBackAndMade, IsPassedOnAndAgreed, IsPostedAndAgreedThrough, PostOnItsWay, IsAgreedAndMadeThrough, IsBegunAndMadeThrough, MayExchangeThrough, Posted, at_server, claims_text, Hops, IsThrough, MayExchange, AreNotesOfAgreement}
+use Rattle.osc_rounds.specs.ProxiedExchange.{ProxiedExchange}
 use Rattle.osc_rounds.proofs.ExchangeRound.{drawn_size}
 use Rattle.osc_rounds.proofs.PassedOn.{PassesLaw, can_send, passage_on, takes_up, token_size}
 

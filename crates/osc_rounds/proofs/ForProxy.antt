@@ -1,15 +1,10 @@
 -- A post through a proxy: what a proxy finds in it, and what it forwards.
 use Rattle.std.proofs.Common.{◌≡◌, ◌∙◌, sym, ap, refl, ℕ, ◌<◌, ◌≤◌, Bool, true, false, ◌==◌, if◌then◌else◌, List, [], ◌∷◌, ◌++◌, length, Some, None, codes, arith, inl, inr}
 use Rattle.std.proofs.lemmas.Bool.{cases_eq, cases_lt, eqb-true, le-leb, le-ltb, lt-ltb, ne_eqb}
-use Rattle.osc_coap.specs.Message.{NumberAndValue}
-use Rattle.osc_options.specs.Recognised.{has_unrecognised_unsafe, recognised}
-use Rattle.osc_options.specs.Replies.{uint_bytes}
-use Rattle.osc_options.specs.Requests.{uint, value}
-use Rattle.osc_options.specs.Split.{merge}
-use Rattle.osc_client.specs.Sending.{post_with}
-use Rattle.osc_client.specs.Route.{HostAndPort, IsLawfulOrigin, through}
-use Rattle.osc_proxy.specs.Forwarding.{forwarded, has_proxy_uri}
-use Rattle.osc_proxy.specs.Route.{port_in}
+use Rattle.osc_coap.specs.{NumberAndValue}
+use Rattle.osc_options.specs.{has_unrecognised_unsafe, recognised, uint_bytes, uint, value, merge}
+use Rattle.osc_client.specs.{post_with, HostAndPort, IsLawfulOrigin, through}
+use Rattle.osc_proxy.specs.{forwarded, has_proxy_uri, port_in}
 use Rattle.osc_rounds.proofs.Agreement.{post_to}
 
 -- ---- a port, as Uri-Port

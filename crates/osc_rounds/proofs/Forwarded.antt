@@ -5,19 +5,16 @@ use Rattle.std.specs.List.{list_any}
 use Rattle.std.proofs.lemmas.Bool.{cases_Bool, cases_lt, lt-ltb, le-ltb, eqb-true}
 use Rattle.osc_model.specs.declared.context.ContextName.{ContextName}
 use Rattle.osc_model.specs.declared.context.Side.TheVariants.{Client}
-use Rattle.osc_coap.specs.Building.{payload_of}
-use Rattle.osc_coap.specs.Message.{Message, NumberAndValue}
-use Rattle.osc_coap.specs.Plaintext.{Plaintext, plaintext_spelling}
+use Rattle.osc_coap.specs.{payload_of, NumberAndValue, plaintext_spelling}
+use Rattle.osc_coap.specs.Message.{Message}
+use Rattle.osc_coap.specs.Plaintext.{Plaintext}
 use Rattle.osc_coap.specs.declared.kind.Kind.{Kind}
-use Rattle.osc_options.specs.Split.{AreInOrder, inner_options, insert, merge, outer_options, plaintext_of, protected, same_class}
-use Rattle.osc_options.specs.Table.{class_of}
+use Rattle.osc_options.specs.{AreInOrder, inner_options, insert, merge, outer_options, plaintext_of, protected, same_class, class_of}
 use Rattle.osc_options.specs.declared.table.Class.TheVariants.{E, U}
-use Rattle.osc_context.specs.Algorithm.{algorithm_of}
-use Rattle.osc_context.specs.Derivation.{key_of}
-use Rattle.osc_protect.specs.Aad.{aad_of}
-use Rattle.osc_ccm.specs.Ciphers.{Sealings}
-use Rattle.osc_protect.specs.Protection.{IsProtectedRequest, IsProtectedResponse, plain_bytes, request_nonce, request_value}
-use Rattle.osc_proxy.specs.Forwarding.{answer, forwarded, forwarded_options, has_proxy_uri, is_taken_out}
+use Rattle.osc_context.specs.{algorithm_of, key_of}
+use Rattle.osc_protect.specs.{aad_of, IsProtectedRequest, IsProtectedResponse, plain_bytes, request_nonce, request_value}
+use Rattle.osc_ccm.specs.{Sealings}
+use Rattle.osc_proxy.specs.{answer, forwarded, forwarded_options, has_proxy_uri, is_taken_out}
 
 -- ---- options of which some are left out
 

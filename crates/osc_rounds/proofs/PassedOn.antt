@@ -3,24 +3,19 @@ use Rattle.std.proofs.Common.{◌≡◌, ◌∙◌, sym, ap, subst, ℕ, ◌<◌
 use Rattle.std.specs.Prelude.{drop}
 use Rattle.std.proofs.lemmas.Bool.{lt-ltb}
 use Rattle.std.proofs.lemmas.List.{length-drop, length-take}
-use Rattle.osc_model.specs.Draw.{token_drawn}
+use Rattle.osc_model.specs.{token_drawn}
 use Rattle.osc_model.specs.declared.node.Draw.{Draw}
 use Rattle.osc_model.specs.declared.node.Peer.{Peer}
 use Rattle.osc_model.specs.declared.step.Step.{Step}
 use Rattle.osc_coap.specs.Message.{Message}
-use Rattle.osc_dedup.specs.Table.{looked}
-use Rattle.osc_message.specs.Confirmables.{Open, has_open, peers_of, takes}
-use Rattle.osc_message.specs.Endpoint.{own_id}
+use Rattle.osc_dedup.specs.{looked}
+use Rattle.osc_message.specs.{Open, has_open, peers_of, takes, own_id}
 use Rattle.osc_server.specs.State.{State as Server}
 use Rattle.osc_client.specs.State.{State as Client}
-use Rattle.osc_proxy.specs.Forwarding.{forwarded_token}
-use Rattle.osc_proxy.specs.Hearing.{Hears as ProxyHears}
+use Rattle.osc_proxy.specs.{forwarded_token, Hears as ProxyHears, peer_of, CanSendTo, GoesThereAndBack, IsLawfulProxy, TakesUp, datagram_of}
 use Rattle.osc_proxy.specs.Passage.{Passage}
 use Rattle.osc_proxy.specs.State.{State as Proxy}
-use Rattle.osc_proxy.specs.Targets.{peer_of}
-use Rattle.osc_proxy.specs.ThereAndBack.{CanSendTo, GoesThereAndBack, IsLawfulProxy, TakesUp, datagram_of}
-use Rattle.osc_rounds.specs.ForProxy.{IsForProxy}
-use Rattle.osc_rounds.specs.Ready.{Hops, IsThrough}
+use Rattle.osc_rounds.specs.{IsForProxy, Hops, IsThrough}
 
 -- what is passed on goes there, and its answer comes back
 abbrev pub PassesLaw : Type 0

@@ -1,23 +1,19 @@
 -- What is assumed of a run goes on over the steps of a round.
 use Rattle.std.proofs.Common.{◌≡◌, ◌⊎◌, ◌∙◌, sym, ap, subst, refl, ℕ, List, [], ◌∷◌, ◌++◌, Option, Some, None, inl, inr, ⊎_elim}
-use Rattle.osc_model.specs.StepNotes.{StepNotes, quiet}
+use Rattle.osc_model.specs.{quiet}
+use Rattle.osc_model.specs.StepNotes.{StepNotes}
 use Rattle.osc_model.specs.declared.context.ContextName.{ContextName}
 use Rattle.osc_model.specs.declared.context.Side.TheVariants as side
 use Rattle.osc_model.specs.declared.node.Moment.{Moment}
 use Rattle.osc_model.specs.declared.reply.Reply.{Reply}
 use Rattle.osc_model.specs.declared.step.Note.{Note}
-use Rattle.osc_token.specs.Token.{token_note}
+use Rattle.osc_token.specs.{token_note}
 use Rattle.osc_authz.specs.SecurityContext.{SecurityContext}
-use Rattle.osc_authz.specs.Members.{In}
-use Rattle.osc_authz.specs.Table.{IsLawfulContext}
-use Rattle.osc_run.specs.ClientKinds.{request_note, response_note}
-use Rattle.osc_run.specs.Notes.{Noted}
-use Rattle.osc_run.specs.Premise.{HasFreshDraws, IsDrawn, IsGenuine, IsGenuineOpening, IsMinted, IsVouched, Premise}
-use Rattle.osc_run.specs.ServerKinds.{opening_note, reply_note}
-use Rattle.osc_run.specs.States.{Minted}
-use Rattle.osc_options.specs.Texts.{reply_text}
-use Rattle.osc_rounds.specs.Asked.{OpenedRequest}
-use Rattle.osc_rounds.specs.RoundNotes.{AreAmongQuiet, AreNotesOfExchange, AreNotesOfRequest, Draws}
+use Rattle.osc_authz.specs.{In, IsLawfulContext}
+use Rattle.osc_run.specs.{request_note, response_note, Noted, HasFreshDraws, IsDrawn, IsGenuine, IsGenuineOpening, IsMinted, IsVouched, opening_note, reply_note, Minted}
+use Rattle.osc_run.specs.Premise.{Premise}
+use Rattle.osc_options.specs.{reply_text}
+use Rattle.osc_rounds.specs.{OpenedRequest, AreAmongQuiet, AreNotesOfExchange, AreNotesOfRequest, Draws}
 
 nothing : {A : Type 0} (it : Option A) (one : A) → it ≡ None → it ≡ Some one → ⊥
 nothing it one none some = let wrong : None ≡ Some one = sym none ∙ some in cc

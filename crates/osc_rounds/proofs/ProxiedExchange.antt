@@ -2,43 +2,32 @@
 use Rattle.std.proofs.Common.{◌≡◌, ◌∙◌, sym, ap, subst, refl, ℕ, ◌^◌, ◌<◌, ◌≤◌, true, List, [], ◌∷◌, length, Option, Some, None, arith}
 use Rattle.std.specs.Prelude.{◌≢◌, drop}
 use Rattle.std.proofs.lemmas.List.{length-drop, length-take}
-use Rattle.osc_model.specs.Arrival.{Arrival, read_as}
-use Rattle.osc_model.specs.Draw.{nonce_drawn, token_drawn}
-use Rattle.osc_model.specs.StepNotes.{quiet}
+use Rattle.osc_model.specs.{read_as, nonce_drawn, token_drawn, quiet}
+use Rattle.osc_model.specs.Arrival.{Arrival}
 use Rattle.osc_model.specs.declared.node.Draw.{Draw}
 use Rattle.osc_model.specs.declared.node.Moment.{Moment}
 use Rattle.osc_model.specs.declared.node.Peer.{Peer}
 use Rattle.osc_model.specs.declared.step.ClientResult.TheVariants as result
 use Rattle.osc_model.specs.declared.step.Step.{Step}
-use Rattle.osc_coap.specs.Length.{datagram_limit}
-use Rattle.osc_coap.specs.Message.{HasSpelling, Message, spelling}
+use Rattle.osc_coap.specs.{datagram_limit, HasSpelling, spelling}
+use Rattle.osc_coap.specs.Message.{Message}
 use Rattle.osc_coap.specs.declared.kind.Kind.TheVariants.{Acknowledgement, Confirmable}
-use Rattle.osc_dedup.specs.Table.{looked}
-use Rattle.osc_message.specs.Confirmables.{same_peer}
-use Rattle.osc_message.specs.Endpoint.{EndpointState, own_id}
-use Rattle.osc_message.specs.Sending.{datagram, empty_acknowledgement}
-use Rattle.osc_ccm.specs.Ciphers.{Sealings}
-use Rattle.osc_protect.specs.Protection.{longest_message}
+use Rattle.osc_dedup.specs.{looked}
+use Rattle.osc_message.specs.{same_peer, EndpointState, own_id, datagram, empty_acknowledgement}
+use Rattle.osc_ccm.specs.{Sealings}
+use Rattle.osc_protect.specs.{longest_message}
 use Rattle.osc_authz.specs.Begun.{Begun}
 use Rattle.osc_authz.specs.SecurityContext.{SecurityContext}
 use Rattle.osc_authz.specs.declared.granted.ClientDesk.{ClientDesk}
-use Rattle.osc_client.specs.Hearing.{Hears as ClientHears}
-use Rattle.osc_client.specs.Sending.{Exchanges, begun_by, busy, begins, opened, post_by, post_of, waits}
+use Rattle.osc_client.specs.{Hears as ClientHears, Exchanges, begun_by, busy, begins, opened, post_by, post_of, waits, HostAndPort, IsLawfulOrigin, through}
 use Rattle.osc_client.specs.Sending as sending
 use Rattle.osc_client.specs.State.{State as Client}
-use Rattle.osc_client.specs.Route.{HostAndPort, IsLawfulOrigin, through}
 use Rattle.osc_client.specs.declared.waiting.Awaited.TheVariants.{Exchange}
-use Rattle.osc_proxy.specs.Forwarding.{answer as sent_back, forwarded}
-use Rattle.osc_server.specs.Hearing.{Hears as ServerHears}
+use Rattle.osc_proxy.specs.{answer as sent_back, forwarded, IsCarried}
+use Rattle.osc_server.specs.{Hears as ServerHears, notes_of_post}
 use Rattle.osc_server.specs.State.{State as Server}
-use Rattle.osc_server.specs.Table.{notes_of_post}
-use Rattle.osc_rounds.specs.Agreement.{AwaitsAgreement, AwaitsPost, BegunExchange, IsAgreedTo, agreement, body_of}
-use Rattle.osc_rounds.specs.Coming.{coming, in_bytes}
-use Rattle.osc_rounds.specs.ExchangeRound.{IsHeld}
-use Rattle.osc_rounds.specs.ForProxy.{IsForProxy}
-use Rattle.osc_rounds.specs.ProxiedExchange.{IsAgreedAndMadeThrough, IsBegunAndMadeThrough, IsMadeThrough, IsPostedThrough, MayExchangeThrough, Posted, ProxiedExchange, at_server, claims_text}
-use Rattle.osc_rounds.specs.RoundNotes.{AreNotesOfAgreement}
-use Rattle.osc_proxy.specs.ThereAndBack.{IsCarried}
+use Rattle.osc_rounds.specs.{AwaitsAgreement, AwaitsPost, BegunExchange, IsAgreedTo, agreement, body_of, coming, in_bytes, IsHeld, IsForProxy, IsAgreedAndMadeThrough, IsBegunAndMadeThrough, IsMadeThrough, IsPostedThrough, MayExchangeThrough, Posted, at_server, claims_text, AreNotesOfAgreement}
+use Rattle.osc_rounds.specs.ProxiedExchange.{ProxiedExchange}
 use Rattle.osc_rounds.proofs.Agreement.{ExchangeLaws, agreement_sendable, counts_confirmable, hears_agreement, hears_post, post_lawful, post_to}
 use Rattle.osc_rounds.proofs.Acknowledged.{acknowledgement_heard}
 use Rattle.osc_rounds.proofs.ExchangeNotes.{TokenLaws, post_notes}

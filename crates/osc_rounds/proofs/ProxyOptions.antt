@@ -2,16 +2,11 @@
 use Rattle.std.proofs.Common.{◌≡◌, ◌∙◌, sym, ap, subst, refl, ℕ, ◌<◌, ◌≤◌, Bool, true, false, not, nat_le, nat_lt, if◌then◌else◌, List, [], ◌∷◌, ◌++◌, length, Some, None, codes, arith, inl, inr}
 use Rattle.std.specs.Prelude.{◌==◌, ◌&&◌}
 use Rattle.std.proofs.lemmas.Bool.{cases_Bool, cases_eq, cases_lt, eqb-true, le-leb, le-ltb, lt-ltb, ne_eqb}
-use Rattle.osc_coap.specs.Message.{NumberAndValue}
-use Rattle.osc_options.specs.Recognised.{has_unrecognised_unsafe, recognised}
-use Rattle.osc_options.specs.Replies.{uint_bytes}
-use Rattle.osc_options.specs.Requests.{uint, value}
-use Rattle.osc_options.specs.Split.{AreInOrder, insert, merge, outer_options, same_class}
-use Rattle.osc_options.specs.Table.{class_of}
+use Rattle.osc_coap.specs.{NumberAndValue}
+use Rattle.osc_options.specs.{has_unrecognised_unsafe, recognised, uint_bytes, uint, value, AreInOrder, insert, merge, outer_options, same_class, class_of}
 use Rattle.osc_options.specs.declared.table.Class.TheVariants.{U}
-use Rattle.osc_client.specs.Route.{HostAndPort, IsHost, proxy_options}
-use Rattle.osc_proxy.specs.Forwarding.{forwarded_options, has_proxy_uri}
-use Rattle.osc_proxy.specs.Route.{port_in}
+use Rattle.osc_client.specs.{HostAndPort, IsHost, proxy_options}
+use Rattle.osc_proxy.specs.{forwarded_options, has_proxy_uri, port_in}
 
 -- ---- a whole number is read again
 

@@ -7,20 +7,14 @@ use Rattle.osc_model.specs.declared.algorithm.Algorithm.{Algorithm}
 use Rattle.osc_model.specs.declared.context.ContextName.{ContextName}
 use Rattle.osc_model.specs.declared.context.Side.TheVariants as side
 use Rattle.osc_model.specs.declared.reply.Reply.{Reply}
-use Rattle.osc_ccm.specs.Limits.{most_tag}
-use Rattle.osc_coap.specs.Building.{payload_of}
-use Rattle.osc_coap.specs.Length.{datagram_limit, extension_length, payload_length, spelled_length}
-use Rattle.osc_coap.specs.Message.{HasSpelling, Message, NumberAndValue, spelling}
-use Rattle.osc_coap.specs.Plaintext.{Plaintext, plaintext_spelling}
-use Rattle.osc_options.specs.PlaintextReplies.{reply_plaintext}
-use Rattle.osc_options.specs.Split.{merge, outer_options, plaintext_of, protected}
-use Rattle.osc_context.specs.Algorithm.{algorithm_of}
-use Rattle.osc_context.specs.Derivation.{key_of}
-use Rattle.osc_protect.specs.Aad.{aad_of}
-use Rattle.osc_ccm.specs.Ciphers.{Sealings, Tags, IsLongerBy}
-use Rattle.osc_protect.specs.Protection.{request_nonce, response_nonce, IsProtectedRequest, IsProtectedResponse, longest_message, plain_bytes, request_length, request_value, response_value}
-use Rattle.osc_options.specs.Texts.{reply_text}
-use Rattle.osc_proxy.specs.ThereAndBack.{IsCarried}
+use Rattle.osc_ccm.specs.{most_tag, Sealings, Tags, IsLongerBy}
+use Rattle.osc_coap.specs.{payload_of, datagram_limit, extension_length, payload_length, spelled_length, HasSpelling, NumberAndValue, spelling, plaintext_spelling}
+use Rattle.osc_coap.specs.Message.{Message}
+use Rattle.osc_coap.specs.Plaintext.{Plaintext}
+use Rattle.osc_options.specs.{reply_plaintext, merge, outer_options, plaintext_of, protected, reply_text}
+use Rattle.osc_context.specs.{algorithm_of, key_of}
+use Rattle.osc_protect.specs.{aad_of, request_nonce, response_nonce, IsProtectedRequest, IsProtectedResponse, longest_message, plain_bytes, request_length, request_value, response_value}
+use Rattle.osc_proxy.specs.{IsCarried}
 use Rattle.osc_rounds.proofs.Asking.{in_place}
 
 -- ---- a message with option 9 alone

@@ -2,24 +2,22 @@
 use Rattle.std.proofs.Common.{◌≡◌, ◌∙◌, sym, ap, subst, refl, ℕ, ◌+◌, ◌^◌, ◌<◌, ◌≤◌, [], ◌∷◌, length, Option, Some, None, arith}
 use Rattle.std.specs.Prelude.{◌≢◌, IfSome}
 use Rattle.std.proofs.lemmas.Option.{same_Some}
-use Rattle.osc_model.specs.Draw.{token_drawn}
-use Rattle.osc_model.specs.StepNotes.{quiet}
+use Rattle.osc_model.specs.{token_drawn, quiet}
 use Rattle.osc_model.specs.declared.node.Draw.{Draw}
 use Rattle.osc_model.specs.declared.request.Request.{Request}
 use Rattle.osc_model.specs.declared.step.ClientResult.TheVariants as result
 use Rattle.osc_model.specs.declared.step.Step.{Step}
-use Rattle.osc_coap.specs.Message.{Message, Spells, spelling}
-use Rattle.osc_message.specs.Endpoint.{own_id}
-use Rattle.osc_message.specs.Sending.{datagram}
-use Rattle.osc_context.specs.Nonce.{greatest_number}
-use Rattle.osc_ccm.specs.Ciphers.{Sealings, Tags}
-use Rattle.osc_protect.specs.Protection.{HasShortContext, IsProtectedRequest, plain_bytes}
-use Rattle.osc_authz.specs.Begun.{ClientContextState}
-use Rattle.osc_run.specs.ClientKinds.{request_note}
-use Rattle.osc_client.specs.Lawful.{IsLawfulClient}
-use Rattle.osc_client.specs.Sending.{Asked, Asks, IsFree, IsHindered, IsRefused, asks, hindered, busy, exhausted, no_context, too_long, opened, plain_of, plain_request}
+use Rattle.osc_coap.specs.{Spells, spelling}
+use Rattle.osc_coap.specs.Message.{Message}
+use Rattle.osc_message.specs.{own_id, datagram}
+use Rattle.osc_context.specs.{greatest_number}
+use Rattle.osc_ccm.specs.{Sealings, Tags}
+use Rattle.osc_protect.specs.{HasShortContext, IsProtectedRequest, plain_bytes}
+use Rattle.osc_authz.specs.{ClientContextState}
+use Rattle.osc_run.specs.{request_note}
+use Rattle.osc_client.specs.{IsLawfulClient, Asked, Asks, IsFree, IsHindered, IsRefused, asks, hindered, busy, exhausted, too_long, opened, plain_of, plain_request, HostAndPort, IsLawfulOrigin, through}
+use Rattle.osc_client.specs.Sending.{no_context}
 use Rattle.osc_client.specs.State.{State as Client}
-use Rattle.osc_client.specs.Route.{HostAndPort, IsLawfulOrigin, through}
 use Rattle.osc_client.specs.declared.waiting.Awaited.TheVariants.{Ask}
 use Rattle.osc_client.specs.declared.waiting.Waiting.{Waiting}
 

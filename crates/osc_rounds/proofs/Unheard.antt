@@ -4,7 +4,7 @@ use Rattle.std.specs.Prelude.{◌≢◌, bytes_eq, filter, nat_eq, not}
 use Rattle.std.proofs.lemmas.Bool.{ne_eqb}
 use Rattle.osc_model.specs.declared.node.Moment.{Moment}
 use Rattle.osc_model.specs.declared.node.Peer.{Peer}
-use Rattle.osc_dedup.specs.Table.{Entry, is_alive, is_of, looked, most_entries, staying, with_note}
+use Rattle.osc_dedup.specs.{Entry, is_alive, is_of, looked, most_entries, staying, with_note}
 use Rattle.osc_dedup.specs.declared.table.Noted.{Noted}
 
 module _ (later : Moment) (peer : Peer) (id : ℕ) where

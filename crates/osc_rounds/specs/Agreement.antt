@@ -2,33 +2,29 @@
 -- waits for that.
 use Rattle.std.specs.Prelude.{◌≡◌, ℕ, true, List, [], ◌∷◌, length, Some, None, Ok}
 use Rattle.osc_model.specs.Arrival.{Arrival}
-use Rattle.osc_model.specs.Code.{code}
-use Rattle.osc_model.specs.Draw.{nonce_drawn}
+use Rattle.osc_model.specs.{code, nonce_drawn}
 use Rattle.osc_model.specs.declared.algorithm.Algorithm.TheVariants.{EightByteTag}
 use Rattle.osc_model.specs.declared.node.Peer.{Peer}
 use Rattle.osc_model.specs.declared.step.Step.{Step}
-use Rattle.osc_cbor.specs.Spelling.{spelling as item_spelling}
-use Rattle.osc_coap.specs.Building.{bare}
+use Rattle.osc_cbor.specs.{spelling as item_spelling}
+use Rattle.osc_coap.specs.{bare}
 use Rattle.osc_coap.specs.Message.{Message}
 use Rattle.osc_coap.specs.declared.kind.Kind.{Kind}
 use Rattle.osc_coap.specs.declared.kind.Kind.TheVariants.{Acknowledgement}
-use Rattle.osc_options.specs.Replies.{with_reply}
-use Rattle.osc_dedup.specs.Table.{looked}
-use Rattle.osc_message.specs.Confirmables.{same_peer}
-use Rattle.osc_message.specs.Sending.{datagram}
-use Rattle.osc_scope.specs.Entries.{Entry}
+use Rattle.osc_options.specs.{with_reply}
+use Rattle.osc_dedup.specs.{looked}
+use Rattle.osc_message.specs.{same_peer, datagram}
+use Rattle.osc_scope.specs.{Entry}
 use Rattle.osc_token.specs.declared.claims.Claims.{Claims}
-use Rattle.osc_ccm.specs.Ciphers.{Sealings}
+use Rattle.osc_ccm.specs.{Sealings}
 use Rattle.osc_authz.specs.Begun.{Begun}
-use Rattle.osc_authz.specs.Exchange.{post_item}
-use Rattle.osc_authz.specs.Post.{Posts}
+use Rattle.osc_authz.specs.{post_item, Posts, IsWelcome}
 use Rattle.osc_authz.specs.Posting.{Posting}
-use Rattle.osc_authz.specs.Welcome.{IsWelcome}
 use Rattle.osc_authz.specs.declared.granted.ClientDesk.{ClientDesk}
 use Rattle.osc_authz.specs.declared.post.Post.{Post}
 use Rattle.osc_authz.specs.declared.post.PostAnswer.{PostAnswer}
 use Rattle.osc_server.specs.State.{State as Server}
-use Rattle.osc_server.specs.Table.{notes_of_post, post_reply}
+use Rattle.osc_server.specs.{notes_of_post, post_reply}
 use Rattle.osc_client.specs.State.{State as Client}
 use Rattle.osc_client.specs.declared.waiting.Awaited.TheVariants.{Exchange}
 use Rattle.osc_client.specs.declared.waiting.Waiting.{Waiting}

@@ -1,7 +1,6 @@
 -- A request that goes straight to the server, and its answer: what comes of it.
 use Rattle.std.specs.Prelude.{◌≡◌, ◌≢◌, ℕ, ◌+◌, List, [], ◌∷◌, Some, None}
-use Rattle.osc_model.specs.Apply.{apply_read}
-use Rattle.osc_model.specs.Tree.{IsWithinLimits}
+use Rattle.osc_model.specs.{apply_read, IsWithinLimits}
 use Rattle.osc_model.specs.declared.node.Draw.{Draw}
 use Rattle.osc_model.specs.declared.node.Moment.{Moment}
 use Rattle.osc_model.specs.declared.node.Peer.{Peer}
@@ -9,24 +8,20 @@ use Rattle.osc_model.specs.declared.reply.Reply.{Reply}
 use Rattle.osc_model.specs.declared.request.Request.{Request}
 use Rattle.osc_model.specs.declared.step.Step.{Step}
 use Rattle.osc_coap.specs.Message.{Message}
-use Rattle.osc_dedup.specs.Table.{looked}
-use Rattle.osc_message.specs.Endpoint.{own_id}
-use Rattle.osc_message.specs.Sending.{datagram}
-use Rattle.osc_ccm.specs.Ciphers.{Sealings}
-use Rattle.osc_protect.specs.Protection.{plain_bytes}
+use Rattle.osc_dedup.specs.{looked}
+use Rattle.osc_message.specs.{own_id, datagram}
+use Rattle.osc_ccm.specs.{Sealings}
+use Rattle.osc_protect.specs.{plain_bytes}
 use Rattle.osc_authz.specs.SecurityContext.{SecurityContext}
-use Rattle.osc_authz.specs.Table.{IsTable, accepted}
-use Rattle.osc_run.specs.ClientKinds.{request_note}
-use Rattle.osc_run.specs.ServerKinds.{Replies as AppliesTo}
-use Rattle.osc_options.specs.Texts.{read_request}
+use Rattle.osc_authz.specs.{IsTable, accepted}
+use Rattle.osc_run.specs.{request_note, Replies as AppliesTo}
+use Rattle.osc_options.specs.{read_request}
 use Rattle.osc_server.specs.State.{State as Server}
-use Rattle.osc_server.specs.Table.{notes_of_request}
-use Rattle.osc_client.specs.Sending.{plain_of}
+use Rattle.osc_server.specs.{notes_of_request, Hears as ServerHears}
+use Rattle.osc_client.specs.{plain_of, Hears as ClientHears}
 use Rattle.osc_client.specs.State.{State as Client}
 use Rattle.osc_rounds.specs.Asked.{IsAnswered}
 use Rattle.osc_rounds.specs.Coming.{coming}
-use Rattle.osc_client.specs.Hearing.{Hears as ClientHears}
-use Rattle.osc_server.specs.Hearing.{Hears as ServerHears}
 
 -- what is true of each server: its resources stay within their limits, and its contexts are a table
 pub record IsLawfulServer (server : Server) : Type 0 where

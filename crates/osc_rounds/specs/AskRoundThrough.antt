@@ -1,8 +1,7 @@
 -- A request that goes through a forward proxy, and its answer, delivery by delivery: what comes of it at client, proxy and
 -- server.
 use Rattle.std.specs.Prelude.{◌≡◌, ℕ, ◌+◌, List, [], ◌∷◌, Some, None}
-use Rattle.osc_model.specs.Apply.{apply_read}
-use Rattle.osc_model.specs.Step.{sends}
+use Rattle.osc_model.specs.{apply_read, sends}
 use Rattle.osc_model.specs.declared.node.Draw.{Draw}
 use Rattle.osc_model.specs.declared.node.Moment.{Moment}
 use Rattle.osc_model.specs.declared.node.Peer.{Peer}
@@ -10,23 +9,19 @@ use Rattle.osc_model.specs.declared.reply.Reply.{Reply}
 use Rattle.osc_model.specs.declared.request.Request.{Request}
 use Rattle.osc_model.specs.declared.step.Step.{Step}
 use Rattle.osc_coap.specs.Message.{Message}
-use Rattle.osc_message.specs.Sending.{datagram, empty_acknowledgement}
-use Rattle.osc_ccm.specs.Ciphers.{Sealings}
+use Rattle.osc_message.specs.{datagram, empty_acknowledgement}
+use Rattle.osc_ccm.specs.{Sealings}
 use Rattle.osc_authz.specs.SecurityContext.{SecurityContext}
-use Rattle.osc_authz.specs.Table.{accepted}
-use Rattle.osc_run.specs.ClientKinds.{request_note}
-use Rattle.osc_run.specs.ServerKinds.{Replies as AppliesTo}
-use Rattle.osc_options.specs.Texts.{read_request}
-use Rattle.osc_server.specs.Hearing.{Hears as ServerHears}
+use Rattle.osc_authz.specs.{accepted}
+use Rattle.osc_run.specs.{request_note, Replies as AppliesTo}
+use Rattle.osc_options.specs.{read_request}
+use Rattle.osc_server.specs.{Hears as ServerHears, notes_of_request}
 use Rattle.osc_server.specs.State.{State as Server}
-use Rattle.osc_server.specs.Table.{notes_of_request}
-use Rattle.osc_client.specs.Hearing.{Hears as ClientHears}
+use Rattle.osc_client.specs.{Hears as ClientHears}
 use Rattle.osc_client.specs.State.{State as Client}
-use Rattle.osc_proxy.specs.Hearing.{Hears as ProxyHears}
+use Rattle.osc_proxy.specs.{Hears as ProxyHears, IsAtRest, answer_id, forwarded_by}
 use Rattle.osc_proxy.specs.Passage.{Passage}
 use Rattle.osc_proxy.specs.State.{State as Proxy}
-use Rattle.osc_proxy.specs.ThereAndBack.{IsAtRest, answer_id}
-use Rattle.osc_proxy.specs.Table.{forwarded_by}
 use Rattle.osc_rounds.specs.AskRound.{asked_text}
 use Rattle.osc_rounds.specs.Asked.{IsAnsweredWith}
 use Rattle.osc_rounds.specs.Coming.{coming}

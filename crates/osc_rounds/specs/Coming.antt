@@ -1,10 +1,12 @@
 -- A message that comes to a node, as one datagram.
 use Rattle.std.specs.Prelude.{ℕ, List}
-use Rattle.osc_model.specs.Arrival.{Arrival, read_as}
+use Rattle.osc_model.specs.{read_as}
+use Rattle.osc_model.specs.Arrival.{Arrival}
 use Rattle.osc_model.specs.declared.node.Draw.{Draw}
 use Rattle.osc_model.specs.declared.node.Moment.{Moment}
 use Rattle.osc_model.specs.declared.node.Peer.{Peer}
-use Rattle.osc_coap.specs.Message.{Message, spelling}
+use Rattle.osc_coap.specs.{spelling}
+use Rattle.osc_coap.specs.Message.{Message}
 
 -- the bytes that it comes as
 abbrev pub in_bytes : Arrival Message → Arrival (List ℕ)

@@ -1,25 +1,22 @@
 -- An exchange that goes straight to the server: what comes of it.
 use Rattle.std.specs.Prelude.{◌≡◌, List, [], ◌∷◌, length, Some, None}
-use Rattle.osc_model.specs.Draw.{nonce_drawn}
-use Rattle.osc_model.specs.StepNotes.{quiet}
+use Rattle.osc_model.specs.{nonce_drawn, quiet}
 use Rattle.osc_model.specs.declared.node.Draw.{Draw}
 use Rattle.osc_model.specs.declared.node.Moment.{Moment}
 use Rattle.osc_model.specs.declared.node.Peer.{Peer}
 use Rattle.osc_model.specs.declared.step.ClientResult.TheVariants as result
 use Rattle.osc_model.specs.declared.step.Step.{Step}
 use Rattle.osc_coap.specs.Message.{Message}
-use Rattle.osc_message.specs.Sending.{datagram}
-use Rattle.osc_ccm.specs.Ciphers.{Sealings}
-use Rattle.osc_protect.specs.Protection.{HasShortContext}
-use Rattle.osc_scope.specs.Entries.{Entry, scope_of}
-use Rattle.osc_authz.specs.Contexts.{IsLive}
+use Rattle.osc_message.specs.{datagram}
+use Rattle.osc_ccm.specs.{Sealings}
+use Rattle.osc_protect.specs.{HasShortContext}
+use Rattle.osc_scope.specs.{Entry, scope_of}
+use Rattle.osc_authz.specs.{IsLive, In, contexts}
 use Rattle.osc_authz.specs.SecurityContext.{SecurityContext}
-use Rattle.osc_authz.specs.Members.{In}
-use Rattle.osc_authz.specs.Table.{contexts}
 use Rattle.osc_server.specs.State.{State as Server}
 use Rattle.osc_client.specs.State.{State as Client}
-use Rattle.osc_client.specs.Hearing.{Hears as ClientHears}
-use Rattle.osc_server.specs.Hearing.{Hears as ServerHears}
+use Rattle.osc_client.specs.{Hears as ClientHears}
+use Rattle.osc_server.specs.{Hears as ServerHears}
 use Rattle.osc_rounds.specs.Coming.{coming}
 
 -- the client's end of an exchange, once it is over: nothing goes out, nothing waits, and it has this context

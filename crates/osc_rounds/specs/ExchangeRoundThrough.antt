@@ -1,27 +1,23 @@
 -- An exchange that goes through a forward proxy, delivery by delivery: what comes of it at client, proxy and server.
 use Rattle.std.specs.Prelude.{◌≡◌, ℕ, List, [], ◌∷◌, length, Some}
-use Rattle.osc_model.specs.Draw.{nonce_drawn}
-use Rattle.osc_model.specs.Step.{sends}
-use Rattle.osc_model.specs.StepNotes.{quiet}
+use Rattle.osc_model.specs.{nonce_drawn, sends, quiet}
 use Rattle.osc_model.specs.declared.node.Draw.{Draw}
 use Rattle.osc_model.specs.declared.node.Moment.{Moment}
 use Rattle.osc_model.specs.declared.node.Peer.{Peer}
 use Rattle.osc_model.specs.declared.step.Step.{Step}
 use Rattle.osc_coap.specs.Message.{Message}
-use Rattle.osc_message.specs.Sending.{datagram, empty_acknowledgement}
-use Rattle.osc_scope.specs.Entries.{Entry}
+use Rattle.osc_message.specs.{datagram, empty_acknowledgement}
+use Rattle.osc_scope.specs.{Entry}
 use Rattle.osc_token.specs.declared.claims.Claims.{Claims}
-use Rattle.osc_ccm.specs.Ciphers.{Sealings}
+use Rattle.osc_ccm.specs.{Sealings}
 use Rattle.osc_authz.specs.SecurityContext.{SecurityContext}
-use Rattle.osc_server.specs.Hearing.{Hears as ServerHears}
+use Rattle.osc_server.specs.{Hears as ServerHears}
 use Rattle.osc_server.specs.State.{State as Server}
-use Rattle.osc_client.specs.Hearing.{Hears as ClientHears}
+use Rattle.osc_client.specs.{Hears as ClientHears}
 use Rattle.osc_client.specs.State.{State as Client}
-use Rattle.osc_proxy.specs.Hearing.{Hears as ProxyHears}
+use Rattle.osc_proxy.specs.{Hears as ProxyHears, forwarded_by, IsAtRest, answer_id}
 use Rattle.osc_proxy.specs.Passage.{Passage}
 use Rattle.osc_proxy.specs.State.{State as Proxy}
-use Rattle.osc_proxy.specs.Table.{forwarded_by}
-use Rattle.osc_proxy.specs.ThereAndBack.{IsAtRest, answer_id}
 use Rattle.osc_rounds.specs.Coming.{coming}
 use Rattle.osc_rounds.specs.ExchangeRound.{IsHeld}
 use Rattle.osc_rounds.specs.ProxiedExchange.{IsMadeThrough, claims_text}

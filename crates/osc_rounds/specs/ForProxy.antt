@@ -1,15 +1,11 @@
 -- What goes to the server through a forward proxy (RFC 7252 section 5.7.2): what the proxy can take up.
 use Rattle.std.specs.Prelude.{◌≡◌, true, false, length, Some, None, codes}
-use Rattle.osc_coap.specs.Code.{is_request_code}
+use Rattle.osc_coap.specs.{is_request_code}
 use Rattle.osc_coap.specs.Message.{Message}
 use Rattle.osc_coap.specs.declared.kind.Kind.TheVariants.{Confirmable}
-use Rattle.osc_options.specs.Numbers.{proxy_scheme, proxy_uri, uri_host, uri_port}
-use Rattle.osc_options.specs.Recognised.{has_unrecognised_unsafe, recognised}
-use Rattle.osc_options.specs.Requests.{value}
-use Rattle.osc_client.specs.Route.{HostAndPort}
-use Rattle.osc_proxy.specs.Forwarding.{has_proxy_uri}
-use Rattle.osc_proxy.specs.Route.{port_in}
-use Rattle.osc_proxy.specs.ThereAndBack.{IsCarried}
+use Rattle.osc_options.specs.{proxy_scheme, proxy_uri, uri_host, uri_port, has_unrecognised_unsafe, recognised, value}
+use Rattle.osc_client.specs.{HostAndPort}
+use Rattle.osc_proxy.specs.{has_proxy_uri, port_in, IsCarried}
 
 -- A request that a proxy can take up: a message that a datagram can carry, confirmable, with a token of 8 bytes. None of its
 -- options keeps it from being forwarded, and its Proxy-Scheme, its Uri-Host and its Uri-Port name this server, without a Proxy-Uri.

@@ -2,36 +2,29 @@
 -- where the server hears what was posted as a proxy forwards it, and the client hears the answer as a proxy sends it back.
 use Rattle.std.specs.Prelude.{◌≡◌, ℕ, ◌<◌, ◌≤◌, ◌^◌, List, [], ◌∷◌, length, Some, None}
 use Rattle.osc_model.specs.Arrival.{Arrival}
-use Rattle.osc_model.specs.Draw.{nonce_drawn}
-use Rattle.osc_model.specs.Step.{sends}
-use Rattle.osc_model.specs.StepNotes.{quiet}
+use Rattle.osc_model.specs.{nonce_drawn, sends, quiet}
 use Rattle.osc_model.specs.declared.algorithm.Algorithm.TheVariants.{EightByteTag}
 use Rattle.osc_model.specs.declared.node.Draw.{Draw}
 use Rattle.osc_model.specs.declared.node.Moment.{Moment}
 use Rattle.osc_model.specs.declared.node.Peer.{Peer}
 use Rattle.osc_model.specs.declared.step.ClientResult.TheVariants as result
 use Rattle.osc_model.specs.declared.step.Step.{Step}
-use Rattle.osc_cbor.specs.Spelling.{spelling as item_spelling}
+use Rattle.osc_cbor.specs.{spelling as item_spelling}
 use Rattle.osc_coap.specs.Message.{Message}
 use Rattle.osc_coap.specs.declared.kind.Kind.TheVariants.{Confirmable}
-use Rattle.osc_dedup.specs.Table.{looked}
-use Rattle.osc_message.specs.Confirmables.{acknowledged}
-use Rattle.osc_message.specs.Endpoint.{EndpointState, own_id}
-use Rattle.osc_message.specs.Sending.{datagram, empty_acknowledgement}
-use Rattle.osc_scope.specs.Entries.{Entry}
-use Rattle.osc_token.specs.Token.{claims_item}
+use Rattle.osc_dedup.specs.{looked}
+use Rattle.osc_message.specs.{acknowledged, EndpointState, own_id, datagram, empty_acknowledgement}
+use Rattle.osc_scope.specs.{Entry}
+use Rattle.osc_token.specs.{claims_item}
 use Rattle.osc_token.specs.declared.claims.Claims.{Claims}
-use Rattle.osc_ccm.specs.Ciphers.{Sealings}
+use Rattle.osc_ccm.specs.{Sealings}
 use Rattle.osc_authz.specs.SecurityContext.{SecurityContext}
-use Rattle.osc_authz.specs.Welcome.{IsWelcome}
-use Rattle.osc_server.specs.Hearing.{Hears as ServerHears}
+use Rattle.osc_authz.specs.{IsWelcome}
+use Rattle.osc_server.specs.{Hears as ServerHears}
 use Rattle.osc_server.specs.State.{State as Server}
-use Rattle.osc_client.specs.Hearing.{Hears as ClientHears}
-use Rattle.osc_client.specs.Sending.{post_by}
+use Rattle.osc_client.specs.{Hears as ClientHears, post_by, HostAndPort, IsLawfulOrigin}
 use Rattle.osc_client.specs.State.{State as Client}
-use Rattle.osc_client.specs.Route.{HostAndPort, IsLawfulOrigin}
-use Rattle.osc_proxy.specs.Forwarding.{answer as sent_back, forwarded}
-use Rattle.osc_proxy.specs.ThereAndBack.{IsAnswerTo}
+use Rattle.osc_proxy.specs.{answer as sent_back, forwarded, IsAnswerTo}
 use Rattle.osc_rounds.specs.Coming.{coming, in_bytes}
 use Rattle.osc_rounds.specs.ExchangeRound.{IsHeld}
 use Rattle.osc_rounds.specs.ForProxy.{IsForProxy}

@@ -5,28 +5,20 @@ use Rattle.osc_model.specs.declared.algorithm.Algorithm.TheVariants.{EightByteTa
 use Rattle.osc_model.specs.declared.node.Draw.{Draw}
 use Rattle.osc_model.specs.declared.node.Moment.{Moment}
 use Rattle.osc_model.specs.declared.node.Peer.{Peer}
-use Rattle.osc_dedup.specs.Table.{looked}
-use Rattle.osc_message.specs.Confirmables.{has_open, peers_of}
-use Rattle.osc_message.specs.Endpoint.{own_id}
-use Rattle.osc_context.specs.Nonce.{greatest_number}
-use Rattle.osc_window.specs.Window.{IsFresh}
-use Rattle.osc_scope.specs.Entries.{Entry}
+use Rattle.osc_dedup.specs.{looked}
+use Rattle.osc_message.specs.{has_open, peers_of, own_id}
+use Rattle.osc_context.specs.{greatest_number}
+use Rattle.osc_window.specs.{IsFresh}
+use Rattle.osc_scope.specs.{Entry}
 use Rattle.osc_token.specs.declared.claims.Claims.{Claims}
-use Rattle.osc_ccm.specs.Ciphers.{Sealings}
-use Rattle.osc_authz.specs.Begun.{ClientContextState}
-use Rattle.osc_authz.specs.Contexts.{IsLive}
+use Rattle.osc_ccm.specs.{Sealings}
+use Rattle.osc_authz.specs.{ClientContextState, IsLive, In, contexts, IsWelcome}
 use Rattle.osc_authz.specs.SecurityContext.{SecurityContext}
-use Rattle.osc_authz.specs.Members.{In}
-use Rattle.osc_authz.specs.Table.{contexts}
-use Rattle.osc_authz.specs.Welcome.{IsWelcome}
 use Rattle.osc_server.specs.State.{State as Server}
 use Rattle.osc_client.specs.State.{State as Client}
-use Rattle.osc_client.specs.Route.{HostAndPort}
-use Rattle.osc_proxy.specs.Exchanges.{free_key}
+use Rattle.osc_client.specs.{HostAndPort}
+use Rattle.osc_proxy.specs.{free_key, next_own, peer_of, answer_id}
 use Rattle.osc_proxy.specs.State.{State as Proxy}
-use Rattle.osc_proxy.specs.Table.{next_own}
-use Rattle.osc_proxy.specs.Targets.{peer_of}
-use Rattle.osc_proxy.specs.ThereAndBack.{answer_id}
 
 -- ---- the way
 

@@ -1,16 +1,15 @@
 -- What the steps of a round note, which is all that what is assumed of a run speaks of.
 use Rattle.std.specs.Prelude.{◌≡◌, ◌⊎◌, ℕ, List, [], ◌∷◌, Some, None}
-use Rattle.osc_model.specs.Draw.{nonce_drawn}
-use Rattle.osc_model.specs.StepNotes.{StepNotes, quiet}
+use Rattle.osc_model.specs.{nonce_drawn, quiet}
+use Rattle.osc_model.specs.StepNotes.{StepNotes}
 use Rattle.osc_model.specs.declared.node.Draw.{Draw}
 use Rattle.osc_model.specs.declared.node.Moment.{Moment}
 use Rattle.osc_model.specs.declared.reply.Reply.{Reply}
 use Rattle.osc_model.specs.declared.step.ClientResult.TheVariants as result
-use Rattle.osc_token.specs.Token.{token_note}
-use Rattle.osc_run.specs.ClientKinds.{request_note, response_note}
-use Rattle.osc_run.specs.Notes.{Noted}
-use Rattle.osc_options.specs.Texts.{reply_text}
-use Rattle.osc_server.specs.Table.{notes_of_request}
+use Rattle.osc_token.specs.{token_note}
+use Rattle.osc_run.specs.{request_note, response_note, Noted}
+use Rattle.osc_options.specs.{reply_text}
+use Rattle.osc_server.specs.{notes_of_request}
 use Rattle.osc_rounds.specs.Asked.{OpenedRequest}
 
 -- The steps of `all` are these, in this order, and others that noted nothing, as those of a forward proxy.

@@ -1,15 +1,13 @@
 -- What a client's desk does is what the kinds of step name.
 use Rattle.std.proofs.Common.{◌≡◌, ℕ, List, length, Some, Result, Ok, refl, arith, length-take}
-use Rattle.osc_model.specs.Draw.{nonce_drawn}
-use Rattle.osc_model.specs.StepNotes.{quiet}
+use Rattle.osc_model.specs.{nonce_drawn, quiet}
 use Rattle.osc_model.specs.declared.code.Code.{Code}
 use Rattle.osc_model.specs.declared.node.Draw.{Draw}
 use Rattle.osc_model.specs.declared.step.ClientResult.TheVariants as result
-use Rattle.osc_authz.specs.Begun.{Begun, ClientContextState}
-use Rattle.osc_authz.specs.Client.{Finishes, offered_id}
+use Rattle.osc_authz.specs.{ClientContextState, Finishes, offered_id}
+use Rattle.osc_authz.specs.Begun.{Begun}
 use Rattle.osc_authz.specs.declared.error.FinishError.{FinishError}
-use Rattle.osc_run.specs.States.{ClientState, Exchange, Nothing}
-use Rattle.osc_run.specs.ClientKinds.{IsStarted, IsMade}
+use Rattle.osc_run.specs.{ClientState, Exchange, Nothing, IsStarted, IsMade}
 
 -- an exchange that is begun
 pub begins : (draw : Draw) (old : ClientState) → length draw.0 ≡ 32 → old.outstanding ≡ Nothing

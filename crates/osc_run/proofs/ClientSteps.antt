@@ -2,13 +2,9 @@
 use Rattle.std.proofs.Common.{◌≡◌, ◌⊎◌, ◌+◌, ◌≤◌, ℕ, List, ◌∷◌, length, Some, None, Bool, false, refl, sym, ap, ◌∙◌, inl, inr, ⊎_elim, subst, arith}
 use Rattle.osc_model.specs.StepNotes.{StepNotes}
 use Rattle.osc_model.specs.declared.step.Note.{Note}
-use Rattle.osc_authz.specs.Begun.{Begun, ClientContextState}
-use Rattle.osc_authz.specs.Client.{made_name}
-use Rattle.osc_authz.specs.Members.{In}
-use Rattle.osc_run.specs.Notes.{Noted, ByClient}
-use Rattle.osc_run.specs.States.{ClientState, OpenAsk, Outstanding, Nothing, Exchange, Ask, Minted}
-use Rattle.osc_run.specs.ClientKinds.{request_note, IsStarted, IsMade, IsAsked, ClientStep, ClientIdle, Started, Made, Asked, Answered, Ended, Lied, ClientRestarted, IsRaised, IsSkipped}
-use Rattle.osc_run.specs.Premise.{IsDrawn, HasFreshDraws}
+use Rattle.osc_authz.specs.{ClientContextState, made_name, In}
+use Rattle.osc_authz.specs.Begun.{Begun}
+use Rattle.osc_run.specs.{Noted, ByClient, ClientState, OpenAsk, Outstanding, Nothing, Exchange, Ask, Minted, request_note, IsStarted, IsMade, IsAsked, ClientStep, ClientIdle, Started, Made, Asked, Answered, Ended, Lied, ClientRestarted, IsRaised, IsSkipped, IsDrawn, HasFreshDraws}
 use Rattle.osc_run.proofs.LawsBelow.{Laws}
 use Rattle.osc_run.proofs.Parts.{IsJoinedOf, one_nonce, IsDrawnBy, IsSealedBy, OneExchange, OneContext, OneClient, SealPart, Silent, client_stays, more_drawn_by, fewer_sealed}
 

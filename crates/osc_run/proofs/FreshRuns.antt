@@ -3,15 +3,8 @@ use Rattle.std.proofs.Common.{◌≡◌, ◌≢◌, ℕ, List, [], ◌∷◌, So
 use Rattle.std.specs.Prelude.{slice_get, slice_set}
 use Rattle.osc_model.specs.StepNotes.{StepNotes}
 use Rattle.osc_model.specs.declared.node.Moment.{Moment}
-use Rattle.osc_authz.specs.Contexts.{OfToken}
-use Rattle.osc_run.specs.Notes.{Noted, ByClient, by_server, by_client, by_proxy}
-use Rattle.osc_run.specs.States.{ServerState, ClientState, WorldState, Minted}
-use Rattle.osc_run.specs.ServerKinds.{ServerStep}
-use Rattle.osc_run.specs.ClientKinds.{ClientStep, ClientIdle, Started, Made, Asked, Answered, Ended, Lied, ClientRestarted, IsSkipped}
-use Rattle.osc_run.specs.ProxyKinds.{ProxyStep}
-use Rattle.osc_run.specs.Runs.{Holds, IsNewClient, IsStart, WorldStep, OfServer, OfClient, OfProxy, Skipped, IsRun}
-use Rattle.osc_run.specs.Premise.{HasFreshDraws}
-use Rattle.osc_run.specs.OwnNonces.{HasOwnNonces}
+use Rattle.osc_authz.specs.{OfToken}
+use Rattle.osc_run.specs.{Noted, ByClient, by_server, by_client, by_proxy, ServerState, ClientState, WorldState, Minted, ServerStep, ClientStep, ClientIdle, Started, Made, Asked, Answered, Ended, Lied, ClientRestarted, IsSkipped, ProxyStep, Holds, IsNewClient, IsStart, WorldStep, OfServer, OfClient, OfProxy, Skipped, IsRun, HasFreshDraws, HasOwnNonces}
 use Rattle.osc_run.proofs.LawsBelow.{Laws}
 use Rattle.osc_run.proofs.Lists.{at_set}
 use Rattle.osc_run.proofs.Parts.{ServerPart, OneClient, SealPart, Silent, client_stays}

@@ -1,25 +1,19 @@
 -- What holds of each run in which, besides, whatever opens was sealed by the other end.
 use Rattle.std.proofs.Common.{◌≡◌, ◌≢◌, ℕ, Bool, false, List, [], ◌∷◌, Option, Some, None, option_map, refl, sym, ap, ◌∙◌, inl, inr, ⊎_elim, subst}
 use Rattle.std.specs.Prelude.{slice_get, slice_set}
-use Rattle.osc_model.specs.History.{IsLegal, effect}
+use Rattle.osc_model.specs.{IsLegal, effect}
 use Rattle.osc_model.specs.StepNotes.{StepNotes}
 use Rattle.osc_model.specs.declared.node.Moment.{Moment}
 use Rattle.osc_model.specs.declared.step.ClientResult.{ClientResult}
 use Rattle.osc_model.specs.declared.step.ClientResult.TheVariants as result
 use Rattle.osc_model.specs.declared.step.Entry.{Entry}
 use Rattle.osc_model.specs.declared.step.Note.{Note}
-use Rattle.osc_token.specs.Token.{token_note}
-use Rattle.osc_authz.specs.Contexts.{OfToken, confirmed_by}
-use Rattle.osc_authz.specs.Members.{In}
-use Rattle.osc_run.specs.Notes.{Noted, ByClient, by_server, by_client, by_proxy}
-use Rattle.osc_run.specs.States.{ServerState, ClientState, Minted, grants_of, WorldState}
-use Rattle.osc_options.specs.Texts.{read_request}
-use Rattle.osc_run.specs.ServerKinds.{opening_note, IsServed, ServerStep, ServerIdle, Posted, Served, ServerRestarted}
-use Rattle.osc_run.specs.ClientKinds.{request_note, response_note, IsEnding, IsAnswered, ClientStep, ClientIdle, Started, Made, Asked, Answered, Ended, Lied, ClientRestarted}
-use Rattle.osc_run.specs.Runs.{IsTextOf, IsStart, WorldStep, OfServer, OfClient, OfProxy, Skipped, IsRun}
-use Rattle.osc_run.specs.Premise.{IsGenuineOpening, IsGenuine, HasOwnSecrets, Premise}
-use Rattle.osc_run.specs.History.{history, questions, question_in, Acceptance, acceptance_in, acceptances}
-use Rattle.osc_run.specs.OneHistory.{IsReplyOfRequest, OneHistory}
+use Rattle.osc_token.specs.{token_note}
+use Rattle.osc_authz.specs.{OfToken, confirmed_by, In}
+use Rattle.osc_run.specs.{Noted, ByClient, by_server, by_client, by_proxy, ServerState, ClientState, Minted, grants_of, WorldState, opening_note, IsServed, ServerStep, ServerIdle, Posted, Served, ServerRestarted, request_note, response_note, IsEnding, IsAnswered, ClientStep, ClientIdle, Started, Made, Asked, Answered, Ended, Lied, ClientRestarted, IsTextOf, IsStart, WorldStep, OfServer, OfClient, OfProxy, Skipped, IsRun, IsGenuineOpening, IsGenuine, HasOwnSecrets, history, questions, question_in, Acceptance, acceptance_in, acceptances, IsReplyOfRequest}
+use Rattle.osc_options.specs.{read_request}
+use Rattle.osc_run.specs.Premise.{Premise}
+use Rattle.osc_run.specs.OneHistory.{OneHistory}
 use Rattle.osc_run.proofs.LawsBelow.{Laws}
 use Rattle.osc_run.proofs.Lists.{collected_more, collected_none, collected_one, collected_same}
 use Rattle.osc_run.proofs.ServerSteps.{none_served, one_served, still_served, added_of, entry_of}

@@ -1,9 +1,8 @@
 -- Each held context has the rights of a grant, and what is served under it goes on with a legal history.
 use Rattle.std.proofs.Common.{◌≡◌, ◌==◌, if◌then◌else◌, ℕ, Bool, true, false, List, [], ◌∷◌, ◌++◌, Option, Some, Result, Ok, Err, IsSomeAnd, bytes_eq, refl, sym, ap, ◌∙◌, inl, inr, subst}
 use Rattle.std.proofs.lemmas.Slice.Eq.{bytes_eq-Decides}
-use Rattle.osc_model.specs.Apply.{Outcome, apply_read, MayReply}
-use Rattle.osc_model.specs.Grant.{Grant, HasBegun, IsNotOver, IsTimely, grant_of, scope_of}
-use Rattle.osc_model.specs.History.{IsSameRequest, IsLegal, MayFollow, effect}
+use Rattle.osc_model.specs.{Outcome, apply_read, MayReply, HasBegun, IsNotOver, IsTimely, grant_of, scope_of, IsSameRequest, IsLegal, MayFollow, effect}
+use Rattle.osc_model.specs.Grant.{Grant}
 use Rattle.osc_model.specs.Scope.{Scope}
 use Rattle.osc_model.specs.StepNotes.{StepNotes}
 use Rattle.osc_model.specs.Tree.{Tree}
@@ -13,18 +12,12 @@ use Rattle.osc_model.specs.declared.node.Moment.{Moment}
 use Rattle.osc_model.specs.declared.reply.Reply.{Reply}
 use Rattle.osc_model.specs.declared.request.Request.{Request}
 use Rattle.osc_model.specs.declared.step.Entry.{Entry}
-use Rattle.osc_window.specs.Window.{IsFresh}
-use Rattle.osc_token.specs.Claims.{ComesTo}
-use Rattle.osc_token.specs.Token.{token_note}
+use Rattle.osc_window.specs.{IsFresh}
+use Rattle.osc_token.specs.{ComesTo, token_note}
 use Rattle.osc_authz.specs.SecurityContext.{SecurityContext}
-use Rattle.osc_authz.specs.Members.{In}
-use Rattle.osc_run.specs.Notes.{Noted}
-use Rattle.osc_run.specs.States.{ServerState, Minted, grants_of}
-use Rattle.osc_options.specs.Texts.{read_request}
-use Rattle.osc_run.specs.ServerKinds.{Replies, Applied, OutOfMemory, IsPosted, IsServed}
-use Rattle.osc_run.specs.Runs.{IsTextOf}
-use Rattle.osc_run.specs.Premise.{IsGenuineOpening, HasOwnSecrets}
-use Rattle.osc_run.specs.History.{history}
+use Rattle.osc_authz.specs.{In}
+use Rattle.osc_run.specs.{Noted, ServerState, Minted, grants_of, Replies, Applied, OutOfMemory, IsPosted, IsServed, IsTextOf, IsGenuineOpening, HasOwnSecrets, history}
+use Rattle.osc_options.specs.{read_request}
 use Rattle.osc_run.proofs.LawsBelow.{Laws}
 use Rattle.osc_run.proofs.Lists.{all_of, collected_push}
 use Rattle.osc_run.proofs.Parts.{ServerPart}

@@ -1,9 +1,8 @@
 -- What the proofs use of the crates below: the laws that these state, all of them.
 use Rattle.std.proofs.Common.{◌≡◌, ◌≢◌, ◌==◌, ◌≤◌, ◌<◌, ◌^◌, ℕ, false, List, [], ◌∷◌, ◌++◌, length, Some, Result}
 use Rattle.std.specs.Prelude.{IfSome}
-use Rattle.osc_model.specs.Apply.{apply}
+use Rattle.osc_model.specs.{apply, IsLegal, MayFollow, effect, tree_after}
 use Rattle.osc_model.specs.Grant.{Grant}
-use Rattle.osc_model.specs.History.{IsLegal, MayFollow, effect, tree_after}
 use Rattle.osc_model.specs.Scope.{Scope}
 use Rattle.osc_model.specs.Tree.{Tree}
 use Rattle.osc_model.specs.declared.code.Code.{Code}
@@ -11,12 +10,12 @@ use Rattle.osc_model.specs.declared.context.ContextName.{ContextName}
 use Rattle.osc_model.specs.declared.reply.Reply.{Reply}
 use Rattle.osc_model.specs.declared.request.Request.{Request}
 use Rattle.osc_model.specs.declared.step.Entry.{Entry}
-use Rattle.osc_coap.specs.Plaintext.{Plaintext, SpellsPlaintext, HasPlaintextSpelling}
-use Rattle.osc_options.specs.PlaintextReplies.{reply_plaintext, reply_in}
-use Rattle.osc_context.specs.MasterSalt.{master_salt, server_nonce}
-use Rattle.osc_context.specs.Nonce.{longest_id, greatest_number, nonce_of}
-use Rattle.osc_window.specs.Window.{IsFresh, with_accepted}
-use Rattle.osc_protect.specs.Aad.{aad_of}
+use Rattle.osc_coap.specs.{SpellsPlaintext, HasPlaintextSpelling}
+use Rattle.osc_coap.specs.Plaintext.{Plaintext}
+use Rattle.osc_options.specs.{reply_plaintext, reply_in}
+use Rattle.osc_context.specs.{master_salt, server_nonce, longest_id, greatest_number, nonce_of}
+use Rattle.osc_window.specs.{IsFresh, with_accepted}
+use Rattle.osc_protect.specs.{aad_of}
 
 -- Each field has the name of its law.
 pub record Laws : Type 0 where

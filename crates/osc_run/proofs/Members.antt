@@ -1,7 +1,7 @@
 -- Members of lists with some property, and properties of lists that hold of their ends.
 use Rattle.std.proofs.Common.{◌≡◌, ◌<◌, ◌≤◌, ℕ, zero, suc, ◌+◌, ◌-◌, List, [], ◌∷◌, ◌++◌, length, get_or, take, drop, reverse, refl, sym, ap, ◌∙◌, inl, inr, ⊎_elim, subst, arith}
 use Rattle.std.proofs.lemmas.List.{reverse-append, reverse-reverse, take_more, take_all, take-append-drop, length-drop}
-use Rattle.osc_authz.specs.Members.{In}
+use Rattle.osc_authz.specs.{In}
 use Rattle.osc_run.proofs.Lists.{in_either}
 
 -- ---- members

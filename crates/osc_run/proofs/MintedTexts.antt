@@ -3,13 +3,11 @@ use Rattle.std.proofs.Common.{◌≡◌, List, ℕ, Ok, sym, ap, ◌∙◌, arit
 use Rattle.osc_model.specs.Grant.{Grant}
 use Rattle.osc_model.specs.Scope.{Scope}
 use Rattle.osc_model.specs.declared.node.Moment.{Moment}
-use Rattle.osc_cbor.specs.Spelling.{spelling}
-use Rattle.osc_scope.specs.Entries.{Entry, IsScope, scope_of}
-use Rattle.osc_token.specs.Claims.{ComesTo}
-use Rattle.osc_token.specs.Minted.{FitTheirTypes, HasLawfulParts}
-use Rattle.osc_token.specs.Token.{claims_item}
+use Rattle.osc_cbor.specs.{spelling}
+use Rattle.osc_scope.specs.{Entry, IsScope, scope_of}
+use Rattle.osc_token.specs.{ComesTo, FitTheirTypes, HasLawfulParts, claims_item}
 use Rattle.osc_token.specs.declared.claims.Claims.{Claims}
-use Rattle.osc_run.specs.Runs.{IsTextOf}
+use Rattle.osc_run.specs.{IsTextOf}
 
 -- it comes to the claims, or to nothing
 abbrev pub MintedLaw : Type 0

@@ -2,10 +2,8 @@
 use Rattle.std.proofs.Common.{◌≡◌, ◌≢◌, ◌<◌, ◌≤◌, ℕ, ◌+◌, ◌-◌, List, [], ◌∷◌, length, get_or, take, drop, reverse, Some, refl, sym, ap, ◌∙◌, inl, ⊎_elim, subst, arith}
 use Rattle.std.proofs.lemmas.List.{drop_all}
 use Rattle.osc_model.specs.declared.step.Note.{Note}
-use Rattle.osc_authz.specs.Members.{In}
-use Rattle.osc_run.specs.Notes.{Noted}
-use Rattle.osc_run.specs.States.{Minted}
-use Rattle.osc_run.specs.Premise.{IsVouched, IsGenuineOpening, IsGenuine, IsDrawn, HasFreshDraws, HasOwnSecrets}
+use Rattle.osc_authz.specs.{In}
+use Rattle.osc_run.specs.{Noted, Minted, IsVouched, IsGenuineOpening, IsGenuine, IsDrawn, HasFreshDraws, HasOwnSecrets}
 use Rattle.osc_run.proofs.Members.{Has, has_at, has_of_reverse, has_in_reverse, none_from, up_to, from_on, next_first, next_of_rest}
 use Rattle.osc_run.proofs.Separate.{all_differ, each_differs}
 

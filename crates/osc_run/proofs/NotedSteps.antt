@@ -1,7 +1,7 @@
 -- Steps that are kept with the oldest first, and what is collected of them with the newest first.
 use Rattle.std.proofs.Common.{◌≡◌, ◌<◌, ℕ, ◌+◌, List, [], ◌∷◌, ◌++◌, length, get_or, take, reverse, map, Option, Some, None, option_map, option_to_list, refl, sym, ap, ◌∙◌}
 use Rattle.std.proofs.lemmas.List.{reverse-append, map-append}
-use Rattle.osc_run.specs.Notes.{Noted, collected}
+use Rattle.osc_run.specs.{Noted, collected}
 use Rattle.osc_run.proofs.Members.{next_first}
 
 -- ---- one step more

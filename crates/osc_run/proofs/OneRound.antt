@@ -2,12 +2,9 @@
 use Rattle.std.proofs.Common.{◌≡◌, ℕ, zero, suc, ◌+◌, false, List, [], ◌∷◌, Some, None, Result, Ok, Err, refl, sym, ap, ◌∙◌, inl, inr, ⊎_elim, subst, arith}
 use Rattle.std.specs.Prelude.{slice_get}
 use Rattle.std.proofs.lemmas.List.Elements.{All-nil}
-use Rattle.osc_model.specs.Apply.{apply_read, unchanged}
-use Rattle.osc_model.specs.Code.{code}
-use Rattle.osc_model.specs.Grant.{Grant, HasBegun, IsNotOver}
-use Rattle.osc_model.specs.Reply.{bare}
+use Rattle.osc_model.specs.{apply_read, unchanged, code, HasBegun, IsNotOver, bare, quiet}
+use Rattle.osc_model.specs.Grant.{Grant}
 use Rattle.osc_model.specs.Scope.{Scope}
-use Rattle.osc_model.specs.StepNotes.{quiet}
 use Rattle.osc_model.specs.Tree.{Tree}
 use Rattle.osc_model.specs.declared.code.Code.{Code}
 use Rattle.osc_model.specs.declared.context.ContextName.{ContextName}
@@ -18,26 +15,17 @@ use Rattle.osc_model.specs.declared.request.Request.{Request}
 use Rattle.osc_model.specs.declared.step.ClientResult.TheVariants as result
 use Rattle.osc_model.specs.declared.step.Entry.{Entry}
 use Rattle.osc_model.specs.declared.step.Note.{Note}
-use Rattle.osc_coap.specs.Plaintext.{HasPlaintextSpelling}
-use Rattle.osc_coap.specs.Reading.{plaintext_at}
-use Rattle.osc_options.specs.PlaintextReplies.{reply_plaintext, reply_in}
-use Rattle.osc_token.specs.Claims.{ComesTo}
-use Rattle.osc_token.specs.Minted.{HasLawfulParts}
-use Rattle.osc_token.specs.Token.{token_note}
+use Rattle.osc_coap.specs.{HasPlaintextSpelling, plaintext_at}
+use Rattle.osc_options.specs.{reply_plaintext, reply_in, read_request, reply_text, IsReplyIn}
+use Rattle.osc_token.specs.{ComesTo, HasLawfulParts, token_note}
 use Rattle.osc_token.specs.declared.claims.Claims.{Claims}
-use Rattle.osc_authz.specs.Agreement.{new_context}
+use Rattle.osc_authz.specs.{new_context, OfToken, pending_of, confirmed_by}
 use Rattle.osc_authz.specs.Begun.{Begun}
-use Rattle.osc_authz.specs.Contexts.{OfToken, pending_of, confirmed_by}
 use Rattle.osc_authz.specs.SecurityContext.{SecurityContext}
 use Rattle.osc_authz.specs.declared.granted.ClientDesk.{ClientDesk}
 use Rattle.osc_authz.specs.declared.post.PostAnswer.{PostAnswer}
-use Rattle.osc_run.specs.Notes.{Noted, by_server, by_client}
-use Rattle.osc_run.specs.States.{ClientState, Nothing, Exchange, Ask, Minted, WorldState}
-use Rattle.osc_options.specs.Texts.{read_request, reply_text, IsReplyIn}
-use Rattle.osc_run.specs.ServerKinds.{opening_note, reply_note, Replies, Applied, Posted, Served}
-use Rattle.osc_run.specs.ClientKinds.{request_note, response_note, Started, Made, Asked, Answered}
-use Rattle.osc_run.specs.Runs.{IsTextOf, IsStart, IsNewClient, WorldStep, OfServer, OfClient, IsReached}
-use Rattle.osc_run.specs.Premise.{IsGenuineOpening, IsGenuine, HasFreshDraws, Premise}
+use Rattle.osc_run.specs.{Noted, by_server, by_client, ClientState, Nothing, Exchange, Ask, Minted, WorldState, opening_note, reply_note, Replies, Applied, Posted, Served, request_note, response_note, Started, Made, Asked, Answered, IsTextOf, IsStart, IsNewClient, WorldStep, OfServer, OfClient, IsReached, IsGenuineOpening, IsGenuine, HasFreshDraws}
+use Rattle.osc_run.specs.Premise.{Premise}
 
 read_nothing : read_request [] ≡ Err (code 4 0)
 unfolding read_request plaintext_at

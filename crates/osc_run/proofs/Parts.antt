@@ -3,20 +3,12 @@ use Rattle.std.proofs.Common.{◌≡◌, ◌≢◌, ◌<◌, ◌≤◌, ◌^◌,
 use Rattle.osc_model.specs.declared.context.ContextName.{ContextName}
 use Rattle.osc_model.specs.declared.step.Note.{Note}
 use Rattle.osc_model.specs.declared.step.Entry.{Entry}
-use Rattle.osc_context.specs.MasterSalt.{master_salt, server_nonce}
-use Rattle.osc_context.specs.Nonce.{longest_id, greatest_number}
-use Rattle.osc_window.specs.Window.{IsFresh}
-use Rattle.osc_authz.specs.Begun.{Begun, ClientContextState}
-use Rattle.osc_authz.specs.Contexts.{OfToken}
-use Rattle.osc_authz.specs.Members.{In}
-use Rattle.osc_run.specs.Notes.{Noted, ByServer, ByClient, ByProxy}
-use Rattle.osc_run.specs.States.{ClientState, OpenAsk, Exchange, Ask, Minted}
-use Rattle.osc_options.specs.Texts.{IsWithinRanges}
-use Rattle.osc_run.specs.ServerKinds.{reply_note}
-use Rattle.osc_run.specs.ClientKinds.{request_note}
-use Rattle.osc_run.specs.Runs.{Holds}
-use Rattle.osc_run.specs.Premise.{IsDrawn}
-use Rattle.osc_run.specs.History.{history}
+use Rattle.osc_context.specs.{master_salt, server_nonce, longest_id, greatest_number}
+use Rattle.osc_window.specs.{IsFresh}
+use Rattle.osc_authz.specs.{ClientContextState, OfToken, In}
+use Rattle.osc_authz.specs.Begun.{Begun}
+use Rattle.osc_run.specs.{Noted, ByServer, ByClient, ByProxy, ClientState, OpenAsk, Exchange, Ask, Minted, reply_note, request_note, Holds, IsDrawn, history}
+use Rattle.osc_options.specs.{IsWithinRanges}
 use Rattle.osc_run.proofs.LawsBelow.{Laws}
 
 -- ---- words

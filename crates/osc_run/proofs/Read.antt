@@ -1,16 +1,12 @@
 -- What is read of a plaintext's bytes, and what is sealed of a reply.
 use Rattle.std.proofs.Common.{◌≡◌, ℕ, List, Option, Some, None, Err, refl, ap}
-use Rattle.osc_model.specs.Code.{code}
+use Rattle.osc_model.specs.{code}
 use Rattle.osc_model.specs.declared.reply.Reply.{Reply}
 use Rattle.osc_coap.specs.Message.{Message}
-use Rattle.osc_coap.specs.Plaintext.{Plaintext, SpellsPlaintext, plaintext_spelling}
-use Rattle.osc_coap.specs.Reading.{AreBytes, plaintext_at}
-use Rattle.osc_options.specs.PlaintextReplies.{reply_plaintext}
-use Rattle.osc_options.specs.PlaintextRequests.{request_of_plaintext}
-use Rattle.osc_options.specs.Replies.{with_reply}
-use Rattle.osc_options.specs.Split.{plaintext_of}
-use Rattle.osc_protect.specs.Protection.{plain_bytes}
-use Rattle.osc_options.specs.Texts.{or_code, request_or_code, read_request, reply_text}
+use Rattle.osc_coap.specs.{SpellsPlaintext, plaintext_spelling, AreBytes, plaintext_at}
+use Rattle.osc_coap.specs.Plaintext.{Plaintext}
+use Rattle.osc_options.specs.{reply_plaintext, request_of_plaintext, with_reply, plaintext_of, or_code, request_or_code, read_request, reply_text}
+use Rattle.osc_protect.specs.{plain_bytes}
 
 pub read_is : ((text : List ℕ) (p : Plaintext) → SpellsPlaintext text p → plaintext_at text ≡ Some p)
     → (text : List ℕ) (p : Plaintext) → SpellsPlaintext text p → read_request text ≡ or_code (request_of_plaintext p)

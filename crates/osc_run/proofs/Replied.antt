@@ -5,21 +5,12 @@ use Rattle.osc_model.specs.declared.context.Side.TheVariants as side
 use Rattle.osc_model.specs.declared.reply.Reply.{Reply}
 use Rattle.osc_model.specs.declared.step.Note.{Note}
 use Rattle.osc_model.specs.declared.step.Entry.{Entry}
-use Rattle.osc_coap.specs.Plaintext.{SpellsPlaintext}
-use Rattle.osc_options.specs.PlaintextReplies.{reply_plaintext, reply_in}
-use Rattle.osc_context.specs.Derivation.{key_name_of}
-use Rattle.osc_context.specs.Nonce.{longest_id, greatest_number}
-use Rattle.osc_protect.specs.Aad.{aad_of}
-use Rattle.osc_protect.specs.Protection.{request_nonce}
-use Rattle.osc_authz.specs.Members.{In}
-use Rattle.osc_run.specs.Notes.{Noted, Actor, ByServer, ByClient, ByProxy}
-use Rattle.osc_run.specs.States.{OpenAsk, Minted}
-use Rattle.osc_options.specs.Texts.{reply_text, IsReplyIn}
-use Rattle.osc_run.specs.ClientKinds.{request_note}
-use Rattle.osc_run.specs.Runs.{Holds}
-use Rattle.osc_run.specs.Premise.{IsOfToken, HasOwnSecrets}
-use Rattle.osc_run.specs.History.{question_in, questions}
-use Rattle.osc_run.specs.OwnNonces.{IsSealed, HasKeyAndNonceOf, HasOwnNonces}
+use Rattle.osc_coap.specs.{SpellsPlaintext}
+use Rattle.osc_options.specs.{reply_plaintext, reply_in, reply_text, IsReplyIn}
+use Rattle.osc_context.specs.{key_name_of, longest_id, greatest_number}
+use Rattle.osc_protect.specs.{aad_of, request_nonce}
+use Rattle.osc_authz.specs.{In}
+use Rattle.osc_run.specs.{Noted, Actor, ByServer, ByClient, ByProxy, OpenAsk, Minted, request_note, Holds, IsOfToken, HasOwnSecrets, question_in, questions, IsSealed, HasKeyAndNonceOf, HasOwnNonces}
 use Rattle.osc_run.proofs.LawsBelow.{Laws}
 use Rattle.osc_run.proofs.Lists.{collected_from}
 use Rattle.osc_run.proofs.Parts.{IsLawfulName, IsSealedBy, ServerSeal, SealPart, more_sealed}

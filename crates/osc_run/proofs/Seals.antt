@@ -4,21 +4,11 @@ use Rattle.osc_model.specs.StepNotes.{StepNotes}
 use Rattle.osc_model.specs.declared.node.Moment.{Moment}
 use Rattle.osc_model.specs.declared.reply.Reply.{Reply}
 use Rattle.osc_model.specs.declared.step.Note.{Note}
-use Rattle.osc_context.specs.Derivation.{KeyName}
-use Rattle.osc_context.specs.MasterSalt.{server_nonce}
-use Rattle.osc_context.specs.Nonce.{greatest_number}
-use Rattle.osc_window.specs.Window.{IsFresh}
-use Rattle.osc_protect.specs.Protection.{request_nonce}
-use Rattle.osc_authz.specs.Begun.{ClientContextState}
-use Rattle.osc_authz.specs.Contexts.{OfToken}
-use Rattle.osc_authz.specs.Members.{In}
-use Rattle.osc_run.specs.Notes.{Noted, Actor, ByServer, ByClient, ByProxy}
-use Rattle.osc_run.specs.States.{ServerState, ClientState, Minted}
-use Rattle.osc_run.specs.ServerKinds.{reply_note, IsServed, ServerStep, ServerIdle, Posted, Served, ServerRestarted}
-use Rattle.osc_run.specs.ClientKinds.{request_note, ClientStep, ClientIdle, Started, Made, Asked, Answered, Ended, Lied, ClientRestarted}
-use Rattle.osc_run.specs.Runs.{Holds}
-use Rattle.osc_run.specs.Premise.{HasFreshDraws}
-use Rattle.osc_run.specs.OwnNonces.{IsSealed, HasKeyAndNonceOf}
+use Rattle.osc_context.specs.{KeyName, server_nonce, greatest_number}
+use Rattle.osc_window.specs.{IsFresh}
+use Rattle.osc_protect.specs.{request_nonce}
+use Rattle.osc_authz.specs.{ClientContextState, OfToken, In}
+use Rattle.osc_run.specs.{Noted, Actor, ByServer, ByClient, ByProxy, ServerState, ClientState, Minted, reply_note, IsServed, ServerStep, ServerIdle, Posted, Served, ServerRestarted, request_note, ClientStep, ClientIdle, Started, Made, Asked, Answered, Ended, Lied, ClientRestarted, Holds, HasFreshDraws, IsSealed, HasKeyAndNonceOf}
 use Rattle.osc_run.proofs.LawsBelow.{Laws}
 use Rattle.osc_run.proofs.Parts.{IsJoinedOf, one_nonce, IsLawfulName, IsDrawnBy, IsSealedBy, OneContext, OneClient, ClientSeal, ServerSeal, SealPart, ServerPart, more_drawn_by}
 use Rattle.osc_run.proofs.ReplyCodes.{reply_code}

@@ -1,8 +1,8 @@
 -- Grants that were minted, each with a secret of its own.
 use Rattle.std.proofs.Common.{◌≢◌, ℕ, List, [], ◌∷◌, refl, sym, ap, ◌∙◌, inl, inr}
 use Rattle.std.specs.List.{AllByRecursion}
-use Rattle.osc_authz.specs.Members.{In}
-use Rattle.osc_run.specs.States.{Minted, grants_of}
+use Rattle.osc_authz.specs.{In}
+use Rattle.osc_run.specs.{Minted, grants_of}
 
 -- of a secret that no grant of these has
 abbrev pub DifferFrom : List ℕ → List Minted → Type 0

@@ -1,29 +1,21 @@
 -- What desk, window and protection do at a server is what the kinds of step name.
 use Rattle.std.proofs.Common.{◌≡◌, ◌≤◌, ℕ, List, length, Option, Some, Result, Ok, Err, refl, sym, ap, ◌∙◌, subst, arith, length-take}
-use Rattle.osc_model.specs.Apply.{apply_read}
-use Rattle.osc_model.specs.Draw.{nonce_drawn}
-use Rattle.osc_model.specs.StepNotes.{quiet}
+use Rattle.osc_model.specs.{apply_read, nonce_drawn, quiet}
 use Rattle.osc_model.specs.Tree.{Tree}
 use Rattle.osc_model.specs.declared.node.Moment.{Moment}
 use Rattle.osc_model.specs.declared.reply.Reply.{Reply}
 use Rattle.osc_model.specs.declared.step.RefusedRequest.{RefusedRequest}
-use Rattle.osc_context.specs.Nonce.{greatest_number}
-use Rattle.osc_window.specs.Window.{IsFresh}
-use Rattle.osc_authz.specs.Agreed.{IsAgreed}
-use Rattle.osc_authz.specs.Agreement.{Answers, new_context}
-use Rattle.osc_authz.specs.Contexts.{OfToken, of_tokens, IsLive, AreKept, HasAdded, HasTaken}
-use Rattle.osc_authz.specs.Desk.{DeskState}
+use Rattle.osc_context.specs.{greatest_number}
+use Rattle.osc_window.specs.{IsFresh}
+use Rattle.osc_authz.specs.{IsAgreed, Answers, new_context, OfToken, of_tokens, IsLive, AreKept, HasAdded, HasTaken, DeskState, In, Posts, offered, IsTable, accepted, alive, meant, with_pending}
 use Rattle.osc_authz.specs.SecurityContext.{SecurityContext}
-use Rattle.osc_authz.specs.Members.{In}
-use Rattle.osc_authz.specs.Post.{Posts}
-use Rattle.osc_authz.specs.Posting.{Posting, offered}
-use Rattle.osc_authz.specs.Table.{IsTable, accepted, alive, meant, with_pending}
+use Rattle.osc_authz.specs.Posting.{Posting}
 use Rattle.osc_authz.specs.declared.error.PostError.{PostError}
 use Rattle.osc_authz.specs.declared.token_entry.TokenEntry.{TokenEntry}
 use Rattle.osc_authz.specs.declared.post.Post.{Post}
 use Rattle.osc_authz.specs.declared.post.PostAnswer.{PostAnswer}
-use Rattle.osc_options.specs.Texts.{read_request, IsWithinRanges}
-use Rattle.osc_run.specs.ServerKinds.{opening_note, reply_note, Replies, IsServerIdle, IsPosted, IsServed}
+use Rattle.osc_options.specs.{read_request, IsWithinRanges}
+use Rattle.osc_run.specs.{opening_note, reply_note, Replies, IsServerIdle, IsPosted, IsServed}
 
 -- ---- a post
 

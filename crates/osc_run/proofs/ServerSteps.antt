@@ -4,16 +4,10 @@ use Rattle.osc_model.specs.StepNotes.{StepNotes}
 use Rattle.osc_model.specs.declared.context.ContextName.{ContextName}
 use Rattle.osc_model.specs.declared.node.Moment.{Moment}
 use Rattle.osc_model.specs.declared.step.Entry.{Entry}
-use Rattle.osc_context.specs.MasterSalt.{server_nonce}
-use Rattle.osc_window.specs.Window.{IsFresh, with_accepted}
-use Rattle.osc_authz.specs.Agreement.{new_context}
-use Rattle.osc_authz.specs.Contexts.{OfToken, pending_of, confirmed_by}
-use Rattle.osc_authz.specs.Members.{In}
-use Rattle.osc_run.specs.Notes.{Noted}
-use Rattle.osc_run.specs.States.{ServerState}
-use Rattle.osc_run.specs.ServerKinds.{IsPosted, IsServed, ServerStep, ServerIdle, Posted, Served, ServerRestarted}
-use Rattle.osc_run.specs.Premise.{IsDrawn, HasFreshDraws}
-use Rattle.osc_run.specs.History.{history}
+use Rattle.osc_context.specs.{server_nonce}
+use Rattle.osc_window.specs.{IsFresh, with_accepted}
+use Rattle.osc_authz.specs.{new_context, OfToken, pending_of, confirmed_by, In}
+use Rattle.osc_run.specs.{Noted, ServerState, IsPosted, IsServed, ServerStep, ServerIdle, Posted, Served, ServerRestarted, IsDrawn, HasFreshDraws, history}
 use Rattle.osc_run.proofs.LawsBelow.{Laws}
 use Rattle.osc_run.proofs.Lists.{collected_more, collected_first, collected_none, collected_one}
 use Rattle.osc_run.proofs.Parts.{IsLawfulName, ServerPart, more_drawn}

@@ -1,19 +1,20 @@
 -- The kinds of step that a client may take. Beyond what its kind names, a step seals nothing, and leaves context, number and what
 -- is outstanding as they were. What was granted stays in each.
 use Rattle.std.specs.Prelude.{◌≡◌, ◌≢◌, ◌⊎◌, ⊤, ℕ, ◌+◌, ◌≤◌, Bool, true, false, List, [], ◌∷◌, length, Option, Some, None, option_map}
-use Rattle.osc_model.specs.StepNotes.{StepNotes, quiet}
+use Rattle.osc_model.specs.{quiet}
+use Rattle.osc_model.specs.StepNotes.{StepNotes}
 use Rattle.osc_model.specs.declared.context.ContextName.{ContextName}
 use Rattle.osc_model.specs.declared.context.Side.TheVariants.{Client}
 use Rattle.osc_model.specs.declared.reply.Reply.{Reply}
 use Rattle.osc_model.specs.declared.step.ClientResult.{ClientResult}
 use Rattle.osc_model.specs.declared.step.ClientResult.TheVariants as result
 use Rattle.osc_model.specs.declared.step.Note.{Note}
-use Rattle.osc_context.specs.Nonce.{longest_id, greatest_number}
-use Rattle.osc_protect.specs.Protection.{request_nonce, response_nonce, note_of}
-use Rattle.osc_authz.specs.Begun.{Begun, ClientContextState}
-use Rattle.osc_authz.specs.Client.{offered_id, made_name}
+use Rattle.osc_context.specs.{longest_id, greatest_number}
+use Rattle.osc_protect.specs.{request_nonce, response_nonce, note_of}
+use Rattle.osc_authz.specs.{ClientContextState, offered_id, made_name}
+use Rattle.osc_authz.specs.Begun.{Begun}
 use Rattle.osc_run.specs.States.{ClientState, OpenAsk, Nothing, Exchange, Ask}
-use Rattle.osc_options.specs.Texts.{IsReplyIn}
+use Rattle.osc_options.specs.{IsReplyIn}
 
 -- ---- words
 

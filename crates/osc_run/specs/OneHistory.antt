@@ -1,12 +1,12 @@
 -- One history: each entry was asked by its client and is answered by its grant and the tree, and each accepted reply is that of its
 -- request.
 use Rattle.std.specs.Prelude.{◌≡◌, ◌⊎◌, ℕ, Bool, true, false, List}
-use Rattle.osc_model.specs.History.{IsLegal, effect}
+use Rattle.osc_model.specs.{IsLegal, effect}
 use Rattle.osc_model.specs.declared.step.Entry.{Entry}
-use Rattle.osc_authz.specs.Members.{In}
+use Rattle.osc_authz.specs.{In}
 use Rattle.osc_run.specs.Notes.{Noted}
 use Rattle.osc_run.specs.States.{Minted, grants_of, WorldState}
-use Rattle.osc_options.specs.Texts.{read_request}
+use Rattle.osc_options.specs.{read_request}
 use Rattle.osc_run.specs.Runs.{Holds}
 use Rattle.osc_run.specs.History.{history, questions, Acceptance, acceptances}
 

@@ -1,8 +1,8 @@
 -- Nonces: no two seals under one key share one (RFC 8613 section 5.2).
 use Rattle.std.specs.Prelude.{◌≡◌, ⊤, false, List, [], ◌∷◌, Some}
 use Rattle.osc_model.specs.declared.step.Note.{Note}
-use Rattle.osc_context.specs.Derivation.{key_name_of}
-use Rattle.osc_authz.specs.Members.{In}
+use Rattle.osc_context.specs.{key_name_of}
+use Rattle.osc_authz.specs.{In}
 use Rattle.osc_run.specs.Notes.{Noted}
 
 -- They are of one key, by all that fixes it: secret, master salt, id context and the sender ID of the end that sealed (section

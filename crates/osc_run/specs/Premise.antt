@@ -1,10 +1,10 @@
 -- What is assumed of a run: what opens was sealed by the other end, no drawn nonce comes twice, and no two grants share a secret.
 use Rattle.std.specs.Prelude.{◌≡◌, ◌≢◌, ⊤, ℕ, List, [], ◌∷◌, Some}
-use Rattle.osc_model.specs.Isolation.{HaveOwnSecrets}
+use Rattle.osc_model.specs.{HaveOwnSecrets}
 use Rattle.osc_model.specs.declared.context.Side.TheVariants.{Server}
 use Rattle.osc_model.specs.declared.step.Note.{Note}
-use Rattle.osc_token.specs.Token.{token_name}
-use Rattle.osc_authz.specs.Members.{In}
+use Rattle.osc_token.specs.{token_name}
+use Rattle.osc_authz.specs.{In}
 use Rattle.osc_run.specs.Notes.{Noted}
 use Rattle.osc_run.specs.States.{Minted, grants_of}
 

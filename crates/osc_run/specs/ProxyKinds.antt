@@ -1,6 +1,7 @@
 -- The kind of step that a proxy may take.
 use Rattle.std.specs.Prelude.{◌≡◌, Option}
-use Rattle.osc_model.specs.StepNotes.{StepNotes, quiet}
+use Rattle.osc_model.specs.{quiet}
+use Rattle.osc_model.specs.StepNotes.{StepNotes}
 use Rattle.osc_model.specs.declared.step.RefusedRequest.{RefusedRequest}
 
 -- Whatever it sends, it seals and opens nothing (RFC 8613 section 10): it has no context. At most a request is refused.

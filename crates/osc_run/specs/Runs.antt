@@ -4,9 +4,9 @@ use Rattle.osc_model.specs.Grant.{Grant}
 use Rattle.osc_model.specs.Scope.{Scope}
 use Rattle.osc_model.specs.StepNotes.{StepNotes}
 use Rattle.osc_model.specs.declared.node.Moment.{Moment}
-use Rattle.osc_token.specs.Claims.{ComesTo}
+use Rattle.osc_token.specs.{ComesTo}
 use Rattle.osc_token.specs.declared.claims.Claims.{Claims}
-use Rattle.osc_authz.specs.Members.{In}
+use Rattle.osc_authz.specs.{In}
 use Rattle.osc_run.specs.Notes.{by_server, by_client, by_proxy}
 use Rattle.osc_run.specs.States.{ServerState, ClientState, Minted, WorldState, Nothing}
 use Rattle.osc_run.specs.ServerKinds.{ServerStep}

@@ -2,11 +2,10 @@
 use Rattle.std.specs.Prelude.{◌≡◌, ℕ, List, Some}
 use Rattle.osc_model.specs.declared.step.Datagram.{Datagram}
 use Rattle.osc_model.specs.declared.step.Note.{Note}
-use Rattle.osc_coap.specs.Building.{payload_of}
-use Rattle.osc_coap.specs.Message.{Message, Spells, spelling}
-use Rattle.osc_context.specs.Algorithm.{algorithm_of}
-use Rattle.osc_context.specs.Derivation.{key_of, other_side}
-use Rattle.osc_ccm.specs.Ciphers.{Sealings}
+use Rattle.osc_coap.specs.{payload_of, Spells, spelling}
+use Rattle.osc_coap.specs.Message.{Message}
+use Rattle.osc_context.specs.{algorithm_of, key_of, other_side}
+use Rattle.osc_ccm.specs.{Sealings}
 
 -- `is_sealing algorithm` is the relation of the algorithm's cipher
 module _ (is_sealing : Sealings) where

@@ -1,10 +1,9 @@
 -- The kinds of step that a server may take. Beyond what its kind names, a step seals nothing, adds no context and no entry, drops
 -- no context that lives, and changes neither a context that stays nor a resource.
 use Rattle.std.specs.Prelude.{◌≡◌, ◌≢◌, ℕ, ◌≤◌, IsTrue, List, [], ◌∷◌, length, Option, Some, Ok}
-use Rattle.osc_model.specs.Apply.{Outcome, apply_read}
-use Rattle.osc_model.specs.Reply.{out_of_memory, takes_memory}
+use Rattle.osc_model.specs.{Outcome, apply_read, out_of_memory, takes_memory, quiet}
 use Rattle.osc_model.specs.Scope.{Scope}
-use Rattle.osc_model.specs.StepNotes.{StepNotes, quiet}
+use Rattle.osc_model.specs.StepNotes.{StepNotes}
 use Rattle.osc_model.specs.Tree.{Tree}
 use Rattle.osc_model.specs.declared.context.ContextName.{ContextName}
 use Rattle.osc_model.specs.declared.context.Side.TheVariants.{Server}
@@ -12,18 +11,15 @@ use Rattle.osc_model.specs.declared.node.Moment.{Moment}
 use Rattle.osc_model.specs.declared.reply.Reply.{Reply}
 use Rattle.osc_model.specs.declared.step.Note.{Note}
 use Rattle.osc_model.specs.declared.step.RefusedRequest.{RefusedRequest}
-use Rattle.osc_context.specs.Nonce.{longest_id, greatest_number}
-use Rattle.osc_window.specs.Window.{IsFresh}
-use Rattle.osc_protect.specs.Protection.{request_nonce, note_of}
-use Rattle.osc_token.specs.Claims.{ComesTo}
-use Rattle.osc_token.specs.Token.{token_note}
+use Rattle.osc_context.specs.{longest_id, greatest_number}
+use Rattle.osc_window.specs.{IsFresh}
+use Rattle.osc_protect.specs.{request_nonce, note_of}
+use Rattle.osc_token.specs.{ComesTo, token_note}
 use Rattle.osc_token.specs.declared.claims.Claims.{Claims}
-use Rattle.osc_authz.specs.Agreement.{new_context}
-use Rattle.osc_authz.specs.Contexts.{OfToken, IsLive, AreKept, HasAdded, HasTaken}
-use Rattle.osc_authz.specs.Members.{In}
+use Rattle.osc_authz.specs.{new_context, OfToken, IsLive, AreKept, HasAdded, HasTaken, In}
 use Rattle.osc_authz.specs.declared.post.PostAnswer.{PostAnswer}
 use Rattle.osc_run.specs.States.{ServerState}
-use Rattle.osc_options.specs.Texts.{read_request, reply_text, IsWithinRanges}
+use Rattle.osc_options.specs.{read_request, reply_text, IsWithinRanges}
 
 -- ---- words
 

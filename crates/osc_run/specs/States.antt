@@ -4,8 +4,8 @@ use Rattle.std.specs.Prelude.{ℕ, List, map, Option}
 use Rattle.osc_model.specs.Grant.{Grant}
 use Rattle.osc_model.specs.Tree.{Tree}
 use Rattle.osc_model.specs.declared.context.ContextName.{ContextName}
-use Rattle.osc_authz.specs.Begun.{Begun, ClientContextState}
-use Rattle.osc_authz.specs.Contexts.{OfToken}
+use Rattle.osc_authz.specs.{ClientContextState, OfToken}
+use Rattle.osc_authz.specs.Begun.{Begun}
 use Rattle.osc_authz.specs.declared.granted.ClientDesk.{ClientDesk}
 use Rattle.osc_run.specs.Notes.{Noted}
 

@@ -1,19 +1,17 @@
 //! Laws of the definitions, for the crates above. These functions do nothing: whoever calls one has its clauses for a proof.
 
 ghost use Rattle.std.specs.Prelude.{◌≡◌, ◌≤◌, ◌<◌, ℕ, List, length};
-ghost use Rattle.osc_model.specs.Apply.{apply_read};
-ghost use Rattle.osc_model.specs.Grant.{HasBegun, IsNotOver};
-ghost use Rattle.osc_model.specs.Isolation.{HaveOwnPaths, IsIsolated};
+ghost use Rattle.osc_model.specs.{apply_read, HasBegun, IsNotOver, HaveOwnPaths, IsIsolated};
 ghost use Rattle.osc_model.specs.Scope.{Scope};
 ghost use Rattle.osc_model.specs.Tree.{Tree};
 ghost use Rattle.osc_model.specs.declared.node.Moment.{Moment as AnyMoment};
 ghost use Rattle.osc_model.specs.declared.reply.Reply.{Reply as AnyReply};
-ghost use Rattle.osc_scope.specs.Entries.{Entry, IsScope};
-ghost use Rattle.osc_token.specs.Minted.{HasLawfulParts};
+ghost use Rattle.osc_scope.specs.{Entry, IsScope};
+ghost use Rattle.osc_token.specs.{HasLawfulParts};
 ghost use Rattle.osc_token.specs.declared.claims.Claims.{Claims as AnyClaims};
 ghost use Rattle.osc_run.specs.States.{WorldState, grants_of};
 ghost use Rattle.osc_run.specs.ServerKinds.{Replies};
-ghost use Rattle.osc_options.specs.Texts.{read_request};
+ghost use Rattle.osc_options.specs.{read_request};
 ghost use Rattle.osc_run.specs.Runs.{IsReached};
 ghost use Rattle.osc_run.specs.Premise.{Premise, HasFreshDraws};
 ghost use Rattle.osc_run.specs.History.{history, acceptances};

@@ -36,7 +36,7 @@ impl Drop for Grant {
 impl Model for Grant {
     ghost use Rattle.std.specs.Coded.{codes};
     ghost use Rattle.osc_model.specs.Grant.{Grant as Granted};
-    ghost use Rattle.osc_model.specs.Scope.{coded_scope};
+    ghost use Rattle.osc_model.specs.{coded_scope};
 
     ghost Value = { Granted };
 
@@ -78,7 +78,7 @@ impl Drop for Minted {
 
 impl Model for Minted {
     ghost use Rattle.std.specs.Coded.{codes};
-    ghost use Rattle.osc_model.specs.Scope.{coded_scope};
+    ghost use Rattle.osc_model.specs.{coded_scope};
     ghost use Rattle.osc_run.specs.States.{Minted as MintedGrant};
 
     ghost Value = { MintedGrant };

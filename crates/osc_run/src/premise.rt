@@ -3,8 +3,8 @@
 
 ghost use Rattle.std.specs.Prelude.{◌≡◌, ◌≢◌, ◌↔◌, [], ◌∷◌, IsTrue, List, ℕ, Some, reverse};
 ghost use Rattle.osc_model.specs.declared.step.Note.{Note as AnyNote};
-ghost use Rattle.osc_token.specs.Token.{token_name};
-ghost use Rattle.osc_authz.specs.Members.{In};
+ghost use Rattle.osc_token.specs.{token_name};
+ghost use Rattle.osc_authz.specs.{In};
 ghost use Rattle.osc_run.specs.Premise.{IsVouched, IsMinted, IsOfToken, IsGenuineOpening, IsGenuine, IsDrawn, HasFreshDraws, HasOwnSecrets};
 ghost use Rattle.osc_run.specs.States.{Minted as MintedGrant};
 

@@ -6,7 +6,7 @@ use Rattle.std.specs.Str.{is_utf8}
 use Rattle.std.proofs.lemmas.Bool.{and_parts, both_ways as either}
 use Rattle.std.proofs.lemmas.List.{append_cancel_left}
 use Rattle.std.proofs.lemmas.Slice.Eq.{bytes_eq-Decides}
-use Rattle.osc_model.specs.Path.{is_segment, are_segments, path_text, segments_of, begins_with, IsPath}
+use Rattle.osc_model.specs.{is_segment, are_segments, path_text, segments_of, begins_with, IsPath}
 
 -- nothing, or a further segment
 abbrev pub is_end : List ℕ → Bool

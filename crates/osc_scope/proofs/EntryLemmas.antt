@@ -4,14 +4,12 @@ use Rattle.std.specs.List.{All}
 use Rattle.std.specs.Result.{IfOk}
 use Rattle.std.proofs.lemmas.List.{map-append}
 use Rattle.std.proofs.lemmas.List.Elements.{All-nil, All-cons, All-push, All-head, All-tail}
-use Rattle.osc_cbor.specs.Data.{DataItem, array, text_string, unsigned, Items, no_items, item}
-use Rattle.osc_cbor.specs.View.{view, items_of, items_view}
+use Rattle.osc_cbor.specs.{DataItem, array, text_string, unsigned, Items, no_items, item, view, items_of, items_view}
 use Rattle.osc_cbor.specs.declared.item.Item.{Item}
 use Rattle.osc_model.specs.Scope.{Scope as Permissions}
-use Rattle.osc_scope.specs.Entries.{Entry, IsLawful, scope_of, entry_item, entry_items}
+use Rattle.osc_scope.specs.{Entry, IsLawful, scope_of, entry_item, entry_items, entry_with, HasMethods, AreEntries, AreEntriesBefore}
 use Rattle.osc_scope.specs.declared.error.ScopeError.{ScopeError}
 use Rattle.osc_scope.specs.declared.error.ScopeError.TheVariants.{BadScope, Memory}
-use Rattle.osc_scope.specs.Reading.{entry_with, HasMethods, AreEntries, AreEntriesBefore}
 
 -- ---- entries in a row
 

@@ -5,10 +5,10 @@ use Rattle.std.specs.FinSet as set
 use Rattle.std.proofs.lemmas.Bool.Decides.{nat_tests}
 use Rattle.std.proofs.lemmas.List.Elements.{All-head, All-tail}
 use Rattle.std.proofs.lemmas.List.Folds.{list_any-append}
-use Rattle.osc_model.specs.Scope.{Permission, permission_cmp, covers, stands_for, allows, names}
+use Rattle.osc_model.specs.{Permission, permission_cmp, covers, stands_for, allows, names}
 use Rattle.osc_model.specs.declared.code.Method.{Method}
 use Rattle.osc_model.specs.declared.code.Method.TheVariants.{Get, Post, Put, Delete}
-use Rattle.osc_scope.specs.Entries.{Entry, has, has_path, methods, permissions, scope_of}
+use Rattle.osc_scope.specs.{Entry, has, has_path, methods, permissions, scope_of}
 use Rattle.osc_scope.proofs.MethodLemmas.{same}
 
 -- ---- tests over lists

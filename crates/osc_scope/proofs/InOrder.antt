@@ -10,12 +10,11 @@ use Rattle.std.proofs.lemmas.Cmp.{tied_itself}
 use Rattle.std.proofs.lemmas.Slice.Eq.{bytes_eq-Decides}
 use Rattle.std.proofs.lemmas.List.Elements.{All-nil, All-cons, All-tail, All-from_all_within, recursion_from_All}
 use Rattle.std.proofs.lemmas.List.Sorted.{All-permutation, IsPermutation-insert, IsPermutation-map, list_any-IsPermutation}
-use Rattle.osc_model.specs.Path.{IsPath, path_cmp, segments_of, begins_with}
+use Rattle.osc_model.specs.{IsPath, path_cmp, segments_of, begins_with}
 use Rattle.osc_model.specs.declared.code.Method.{Method}
 use Rattle.osc_model.specs.declared.code.Method.TheVariants.{Get, Post, Put, Delete}
-use Rattle.osc_scope.specs.Entries.{IsLawful, bit_of, is_below}
+use Rattle.osc_scope.specs.{IsLawful, bit_of, is_below, entry_with, grants}
 use Rattle.osc_scope.specs.Inner.Kept.{is_before, AreInOrder, IsPlaceOf}
-use Rattle.osc_scope.specs.Reading.{entry_with, grants}
 use Rattle.osc_scope.specs.declared.verdict.Verdict.{Verdict}
 use Rattle.osc_scope.specs.declared.verdict.Verdict.TheVariants.{Granted, NoMethod, NoPath}
 use Rattle.osc_scope.proofs.LookupLemmas.{GoesOn, says, reaches, passed, noted}

@@ -2,14 +2,10 @@
 use Rattle.std.proofs.Common.{◌≡◌, ℕ, ◌≤◌, ◌%◌, Bool, true, false, ◌&&◌, ◌||◌, if◌then◌else◌, List, [], ◌∷◌, map, Option, Some, None, refl, sym, ap, ◌∙◌}
 use Rattle.std.specs.List.{All, list_any}
 use Rattle.std.proofs.lemmas.List.Elements.{All-map, All-weaker, All-head, All-tail}
-use Rattle.osc_model.specs.Code.{method_of}
-use Rattle.osc_model.specs.Path.{IsPath}
-use Rattle.osc_model.specs.Scope.{allows, names}
+use Rattle.osc_model.specs.{method_of, IsPath, allows, names}
 use Rattle.osc_model.specs.declared.code.Code.{Code}
 use Rattle.osc_model.specs.declared.code.Method.{Method}
-use Rattle.osc_scope.specs.Entries.{Entry, IsLawful, has, has_path, is_below, scope_of}
-use Rattle.osc_scope.specs.Reading.{HasMethods, entry_with, grants}
-use Rattle.osc_scope.specs.Verdict.{verdict_of}
+use Rattle.osc_scope.specs.{Entry, IsLawful, has, has_path, is_below, scope_of, HasMethods, entry_with, grants, verdict_of}
 use Rattle.osc_scope.specs.declared.verdict.Verdict.{Verdict}
 use Rattle.osc_scope.specs.declared.verdict.Verdict.TheVariants.{Granted, NoMethod, NoPath}
 use Rattle.osc_scope.proofs.EntryLemmas.{have_methods}

@@ -5,11 +5,10 @@ use Rattle.std.proofs.lemmas.Bool.{and_parts, false≢true}
 use Rattle.std.proofs.lemmas.Bool.Decides.{nat_tests}
 use Rattle.std.proofs.lemmas.List.Elements.{All-nil, All-cons, All-head, All-tail, All-push}
 use Rattle.std.proofs.lemmas.List.Sums.{sum_by-cons}
-use Rattle.osc_model.specs.Code.{method_number, method_with_number, method_back}
+use Rattle.osc_model.specs.{method_number, method_with_number, method_back}
 use Rattle.osc_model.specs.declared.code.Method.{Method}
 use Rattle.osc_model.specs.declared.code.Method.TheVariants.{Get, Post, Put, Delete}
-use Rattle.osc_scope.specs.Entries.{bit_of, has, is_below}
-use Rattle.osc_scope.specs.Text.{name_of, below_word, below_bit, AreApart}
+use Rattle.osc_scope.specs.{bit_of, has, is_below, name_of, below_word, below_bit, AreApart}
 use Rattle.osc_scope.proofs.Parting.{Lacks}
 
 -- ---- names

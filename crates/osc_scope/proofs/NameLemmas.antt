@@ -6,9 +6,7 @@ use Rattle.std.proofs.lemmas.Option.{IfSome_then}
 use Rattle.std.proofs.Math.ListN.{take-append-drop}
 use Rattle.std.proofs.lemmas.List.Sums.{sum_by_push}
 use Rattle.osc_model.specs.declared.code.Method.{Method}
-use Rattle.osc_scope.specs.Entries.{bit_of, has}
-use Rattle.osc_scope.specs.Text.{Written, AreApart, name_of, below_word, parted_by, words_of}
-use Rattle.osc_scope.specs.Reading.{Names, Words}
+use Rattle.osc_scope.specs.{bit_of, has, Written, AreApart, name_of, below_word, parted_by, words_of, Names, Words}
 use Rattle.osc_scope.proofs.Parting.{Lacks, cut, cut_more, some_part, parted_cut, parted_more}
 use Rattle.osc_scope.proofs.MethodLemmas.{lacks_by, sub_is_no_name, one_name, lacks_method, has_method, apart_push, apart_before}
 

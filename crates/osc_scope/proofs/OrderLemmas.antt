@@ -10,7 +10,7 @@ use Rattle.std.proofs.lemmas.Cmp.{nat_list_cmp_total}
 use Rattle.std.proofs.lemmas.List.{get_or-map, length-map, map-append, take-map, drop-map}
 use Rattle.std.proofs.lemmas.List.Elements.{All-cons, All-weaker, All-from_recursion, All-from_all_within, recursion_from_All}
 use Rattle.std.proofs.lemmas.List.Sorted.{All-permutation, IsPermutation-insert}
-use Rattle.osc_model.specs.Path.{path_cmp}
+use Rattle.osc_model.specs.{path_cmp}
 use Rattle.osc_scope.specs.Inner.Kept.{pair_at, pairs_at, IsWithin, is_before, AreInOrder, IsPlaceOf}
 use Rattle.osc_scope.specs.declared.kept.Place.{Place}
 use Rattle.osc_scope.proofs.KeptLemmas.{same_pairs, own_pair}

@@ -4,7 +4,7 @@ use Rattle.std.specs.List.{All, slice_split, onto_first, join_with_byte}
 use Rattle.std.proofs.lemmas.Bool.{false≢true}
 use Rattle.std.proofs.lemmas.List.Elements.{All-nil, All-cons, All-head, All-tail, All-append, All-push, All-weaker}
 use Rattle.std.proofs.lemmas.List.Splits.{slice_split_none, slice_split_at, join_with_byte-slice_split}
-use Rattle.osc_scope.specs.Text.{parted_by}
+use Rattle.osc_scope.specs.{parted_by}
 
 abbrev pub Lacks : ℕ → List ℕ → Type 0
 Lacks byte text = All (λ b. b ≢ byte) text

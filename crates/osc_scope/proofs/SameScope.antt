@@ -8,10 +8,9 @@ use Rattle.std.specs.Cmp.{IsTotalOrder}
 use Rattle.std.specs.Ordering.{eq_by_cmp}
 use Rattle.std.proofs.lemmas.List.Folds.{flat_map-map}
 use Rattle.std.proofs.lemmas.List.Elements.{All-head, All-tail}
-use Rattle.osc_model.specs.Scope.{Permission, exactly, permission_cmp, is_same_method}
+use Rattle.osc_model.specs.{Permission, exactly, permission_cmp, is_same_method}
 use Rattle.osc_model.specs.declared.code.Method.{Method}
-use Rattle.osc_scope.specs.Entries.{Entry, has, is_below, methods, permissions, scope_of}
-use Rattle.osc_scope.specs.Text.{Written, AreApart, IsLawfulText, permissions_written, scope_written, entry_of}
+use Rattle.osc_scope.specs.{Entry, has, is_below, methods, permissions, scope_of, Written, AreApart, IsLawfulText, permissions_written, scope_written, entry_of}
 use Rattle.osc_scope.proofs.MethodLemmas.{same, times, same_is, absent, has_is, has_whole, below_whole}
 use Rattle.osc_scope.proofs.Grants.{any-flat_map, any_agree, chosen_is}
 

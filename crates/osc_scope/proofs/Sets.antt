@@ -4,11 +4,11 @@ use Rattle.std.specs.Ordering.{eq_by_cmp}
 use Rattle.std.specs.Cmp.{IsTotalOrder, Equal-is}
 use Rattle.std.specs.FinMap.{IsAntisymmetric}
 use Rattle.std.specs.FinSet as set
-use Rattle.osc_model.specs.Scope.{Scope as Granted, Permission, exactly, permission_cmp}
+use Rattle.osc_model.specs.{Permission, exactly, permission_cmp}
+use Rattle.osc_model.specs.Scope.{Scope as Granted}
 use Rattle.osc_model.specs.declared.code.Method.{Method}
 use Rattle.osc_model.specs.declared.code.Method.TheVariants.{Get, Post, Put, Delete}
-use Rattle.osc_scope.specs.Entries.{bit_of, permissions, scope_of}
-use Rattle.osc_scope.specs.Reading.{entry_with}
+use Rattle.osc_scope.specs.{bit_of, permissions, scope_of, entry_with}
 use Rattle.std.specs.List.{list_any, insert}
 use Rattle.std.proofs.lemmas.List.{map-append, flat_map_more}
 use Rattle.std.proofs.lemmas.List.Sorted.{IsPermutation-insert, IsPermutation-to_front, list_any-IsPermutation}

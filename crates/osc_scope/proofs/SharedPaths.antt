@@ -3,9 +3,8 @@ use Rattle.std.proofs.Common.{◌≡◌, ◌↔◌, ℕ, ◌≤◌, ◌%◌, Boo
 use Rattle.std.specs.List.{All, list_any}
 use Rattle.std.proofs.lemmas.Bool.{both_ways}
 use Rattle.std.proofs.lemmas.List.Elements.{All-weaker}
-use Rattle.osc_model.specs.Isolation.{AreApart}
-use Rattle.osc_model.specs.Scope.{names, is_reached}
-use Rattle.osc_scope.specs.Entries.{Entry, IsLawful, has_path, overlap, scope_of, share_a_path}
+use Rattle.osc_model.specs.{AreApart, names, is_reached}
+use Rattle.osc_scope.specs.{Entry, IsLawful, has_path, overlap, scope_of, share_a_path}
 use Rattle.osc_scope.proofs.Grants.{AnyPermission, scope_names}
 
 -- ---- what is named

@@ -2,10 +2,8 @@
 use Rattle.std.proofs.Common.{◌≡◌, ℕ, ◌<◌, ◌≤◌, ◌^◌, List, [], ◌∷◌, ◌++◌, length, map, ap, arith, lit<, length-append}
 use Rattle.std.specs.List.{All}
 use Rattle.std.proofs.lemmas.List.Elements.{All-nil, All-cons, All-head, All-tail, All-map, All-weaker}
-use Rattle.osc_cbor.specs.Data.{DataItem, array, item_count, items_nesting}
-use Rattle.osc_cbor.specs.Spelling.{Spells, HasSpelling, HaveSpellings, spelling}
-use Rattle.osc_scope.specs.Entries.{Entry, IsLawful, IsScope, entry_items}
-use Rattle.osc_scope.specs.Text.{Written, IsLawfulText, IsScopeText, words_of, parted_by, entry_text, entry_of}
+use Rattle.osc_cbor.specs.{DataItem, array, item_count, items_nesting, Spells, HasSpelling, HaveSpellings, spelling}
+use Rattle.osc_scope.specs.{Entry, IsLawful, IsScope, entry_items, Written, IsLawfulText, IsScopeText, words_of, parted_by, entry_text, entry_of}
 use Rattle.osc_scope.proofs.PathLemmas.{path_utf8}
 use Rattle.osc_scope.proofs.MethodLemmas.{whole_some, whole_most}
 

@@ -3,17 +3,14 @@ use Rattle.std.proofs.Common.{◌≡◌, ◌≢◌, ℕ, zero, suc, ◌<◌, Lis
 use Rattle.std.specs.List.{All}
 use Rattle.std.proofs.lemmas.List.{map-append}
 use Rattle.std.proofs.lemmas.List.Elements.{All-nil, All-cons, All-head, All-tail, All-push, All-append, All-weaker}
-use Rattle.osc_model.specs.Path.{IsPath}
+use Rattle.osc_model.specs.{IsPath}
 use Rattle.osc_model.specs.declared.code.Method.{Method}
-use Rattle.osc_cbor.specs.Data.{no_items, item, array, text_string, unsigned}
-use Rattle.osc_cbor.specs.View.{view, items_view}
+use Rattle.osc_cbor.specs.{no_items, item, array, text_string, unsigned, view, items_view}
 use Rattle.osc_cbor.specs.declared.item.Item.{Item, the_lemmas}
 use Rattle.osc_cbor.specs.declared.item.Item.TheVariants as code
-use Rattle.osc_scope.specs.Entries.{entry_item, entry_items}
+use Rattle.osc_scope.specs.{entry_item, entry_items, Written, name_of, parted_by, below_word, words_of, entry_text, entry_of, IsLawfulText, IsScopeText, IsEntry, Says, Words}
 use Rattle.osc_scope.specs.declared.error.ScopeError.{ScopeError}
 use Rattle.osc_scope.specs.declared.error.ScopeError.TheVariants.{BadScope, Memory}
-use Rattle.osc_scope.specs.Text.{Written, name_of, parted_by, below_word, words_of, entry_text, entry_of, IsLawfulText, IsScopeText}
-use Rattle.osc_scope.specs.Reading.{IsEntry, Says, Words}
 use Rattle.osc_scope.proofs.Parting.{Lacks, cut, cut_parted, parts_back, parted_cut, parts_lack, some_part, one_cut, not_lacking, first_lacks, parted_lacks}
 use Rattle.osc_scope.proofs.MethodLemmas.{names_lack, below_lacks, one_saying}
 use Rattle.osc_scope.proofs.EntryLemmas.{pushed}

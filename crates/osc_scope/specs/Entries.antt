@@ -2,12 +2,11 @@
 use Rattle.std.specs.Prelude.{ℕ, ◌/◌, ◌%◌, ◌≤◌, ◌==◌, Bool, ◌||◌, List, [], ◌∷◌, map, filter, flat_map}
 use Rattle.std.specs.List.{All, list_any}
 use Rattle.std.specs.FinSet as set
-use Rattle.osc_model.specs.Path.{IsPath}
-use Rattle.osc_model.specs.Scope.{Scope, Permission, is_reached}
+use Rattle.osc_model.specs.{IsPath, Permission, is_reached}
+use Rattle.osc_model.specs.Scope.{Scope}
 use Rattle.osc_model.specs.declared.code.Method.{Method}
 use Rattle.osc_model.specs.declared.code.Method.TheVariants.{Get, Post, Put, Delete}
-use Rattle.osc_cbor.specs.Data.{DataItem, Items, no_items, item, array, text_string, unsigned}
-use Rattle.osc_cbor.specs.Spelling.{IsWhole}
+use Rattle.osc_cbor.specs.{DataItem, Items, no_items, item, array, text_string, unsigned, IsWhole}
 
 -- the text of a path, and a set of methods as a number, which has a bit besides where they count on the paths below, too
 pub record Entry : Type 0 where

@@ -1,9 +1,9 @@
 -- Reading entries, one after another. No public contract rests on this.
 use Rattle.std.specs.Prelude.{◌≡◌, ◌≢◌, ℕ, ◌+◌, ◌%◌, ◌≤◌, Bool, false, List, [], ◌++◌, map, Option, Some, None}
 use Rattle.std.specs.List.{All, sum_by}
-use Rattle.osc_model.specs.Path.{IsPath}
+use Rattle.osc_model.specs.{IsPath}
 use Rattle.osc_model.specs.declared.code.Method.{Method}
-use Rattle.osc_cbor.specs.Data.{DataItem, Items}
+use Rattle.osc_cbor.specs.{DataItem, Items}
 use Rattle.osc_scope.specs.Entries.{Entry, IsLawful, bit_of, has, entry_item, entry_items}
 use Rattle.osc_scope.specs.Text.{Written, AreApart, name_of, below_word, below_bit, entry_text, entry_of}
 

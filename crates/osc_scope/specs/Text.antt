@@ -2,8 +2,8 @@
 use Rattle.std.specs.Prelude.{◌≡◌, ◌≢◌, ℕ, ◌+◌, Bool, true, false, List, [], ◌∷◌, ◌++◌, map, flat_map, codes}
 use Rattle.std.specs.List.{All, sum_by}
 use Rattle.std.specs.FinSet as set
-use Rattle.osc_model.specs.Path.{IsPath}
-use Rattle.osc_model.specs.Scope.{Scope, Permission}
+use Rattle.osc_model.specs.{IsPath, Permission}
+use Rattle.osc_model.specs.Scope.{Scope}
 use Rattle.osc_model.specs.declared.code.Method.{Method}
 use Rattle.osc_model.specs.declared.code.Method.TheVariants.{Get, Post, Put, Delete}
 use Rattle.osc_scope.specs.Entries.{Entry, bit_of}

@@ -1,7 +1,7 @@
 -- What a scope says of a request.
 use Rattle.std.specs.Prelude.{ℕ, if◌then◌else◌, List, Option, Some, None}
-use Rattle.osc_model.specs.Code.{method_of}
-use Rattle.osc_model.specs.Scope.{Scope as Permissions, allows, names}
+use Rattle.osc_model.specs.{method_of, allows, names}
+use Rattle.osc_model.specs.Scope.{Scope as Permissions}
 use Rattle.osc_model.specs.declared.code.Code.{Code}
 use Rattle.osc_scope.specs.declared.verdict.Verdict.{Verdict}
 use Rattle.osc_scope.specs.declared.verdict.Verdict.TheVariants.{Granted, NoMethod, NoPath}

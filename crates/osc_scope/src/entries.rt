@@ -2,9 +2,7 @@
 
 ghost use Rattle.std.specs.Prelude.{◌≡◌, ◌⊎◌, List, IfOk, IfSome, IfNone, Ok, Err, option_map};
 ghost use Rattle.std.specs.List.{All};
-ghost use Rattle.osc_cbor.specs.Data.{DataItem, array, text_string, unsigned};
-ghost use Rattle.osc_cbor.specs.Spelling.{IsWhole};
-ghost use Rattle.osc_cbor.specs.View.{items_of};
+ghost use Rattle.osc_cbor.specs.{DataItem, array, text_string, unsigned, IsWhole, items_of};
 ghost use Rattle.osc_scope.specs.Entries.{Entry, IsLawful, IsScope, scope_of, entry_items};
 ghost use Rattle.osc_scope.specs.Reading.{entry_with, AreEntries};
 

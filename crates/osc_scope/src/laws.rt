@@ -2,10 +2,8 @@
 
 ghost use Rattle.std.specs.Prelude.{◌≡◌, ◌↔◌, ◌<◌, ◌^◌, ◌&&◌, ℕ, List, Some, false, map, length};
 ghost use Rattle.std.specs.List.{All, list_any};
-ghost use Rattle.osc_cbor.specs.Data.{array};
-ghost use Rattle.osc_cbor.specs.Spelling.{spelling};
-ghost use Rattle.osc_model.specs.Isolation.{AreApart};
-ghost use Rattle.osc_model.specs.Scope.{allows, names};
+ghost use Rattle.osc_cbor.specs.{array, spelling};
+ghost use Rattle.osc_model.specs.{AreApart, allows, names};
 ghost use Rattle.osc_model.specs.declared.code.Method.{Method as AnyMethod};
 ghost use Rattle.osc_scope.specs.Entries.{Entry, IsLawful, IsScope, scope_of, has, has_path, entry_items, share_a_path};
 ghost use Rattle.osc_scope.specs.Text.{Written, IsScopeText, scope_written, entry_of};

@@ -1,7 +1,7 @@
 //! Look-ups in entries, each a path and a set of methods.
 ghost use Rattle.std.specs.Prelude.{◌≡◌, ◌≤◌, false, length, Some, IsTrue, map, take, bytes_eq, not, ◌&&◌, ◌==◌};
 ghost use Rattle.std.specs.List.{All, list_all, list_any};
-ghost use Rattle.osc_model.specs.Path.{IsPath, segments_of, begins_with};
+ghost use Rattle.osc_model.specs.{IsPath, segments_of, begins_with};
 ghost use Rattle.osc_scope.specs.Entries as spec;
 ghost use Rattle.osc_scope.specs.Entries.{IsLawful, scope_of};
 ghost use Rattle.osc_scope.specs.Inner.Kept.{AreInOrder, IsPlaceOf};

@@ -2,7 +2,7 @@
 ghost use Rattle.std.specs.Prelude.{◌≡◌, OnOk, OnErr, IsOk, IsTrue, map, option_map};
 ghost use Rattle.std.specs.List.{All};
 ghost use Rattle.std.specs.FinSet as set;
-ghost use Rattle.osc_model.specs.Scope.{exactly};
+ghost use Rattle.osc_model.specs.{exactly};
 ghost use Rattle.osc_scope.specs.Entries.{IsLawful, scope_of};
 ghost use Rattle.osc_scope.specs.Reading.{entry_with};
 ghost use Rattle.osc_scope.specs.Verdict.{verdict_of};
@@ -31,7 +31,8 @@ pub struct Scope {
 
 impl Model for Scope {
     ghost use Rattle.std.specs.Prelude.{◌≡◌, map};
-    ghost use Rattle.osc_model.specs.Scope.{Scope as Permissions, coded_scope};
+    ghost use Rattle.osc_model.specs.{coded_scope};
+    ghost use Rattle.osc_model.specs.Scope.{Scope as Permissions};
 
     ghost Value = { Permissions };
 

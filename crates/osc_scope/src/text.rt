@@ -2,10 +2,8 @@
 
 ghost use Rattle.std.specs.Prelude.{◌≡◌, ◌≢◌, ◌⊎◌, [], ◌∷◌, ◌++◌, ◌==◌, List, map, IfOk, IfSome, IfNone, OnOk, OnErr, Ok, Err, MatchOption, string_bytes};
 ghost use Rattle.std.specs.List.{All, slice_split};
-ghost use Rattle.osc_cbor.specs.Data.{array};
-ghost use Rattle.osc_cbor.specs.Spelling.{spelling};
-ghost use Rattle.osc_cbor.specs.View.{view, items_view};
-ghost use Rattle.osc_model.specs.Path.{IsPath};
+ghost use Rattle.osc_cbor.specs.{array, spelling, view, items_view};
+ghost use Rattle.osc_model.specs.{IsPath};
 ghost use Rattle.osc_model.specs.declared.code.Method.{Method as AnyMethod};
 ghost use Rattle.osc_scope.specs.Entries.{entry_item, entry_items};
 ghost use Rattle.osc_scope.specs.Text.{Written, IsScopeText, AreApart, name_of, words_of, entry_text, entry_of};

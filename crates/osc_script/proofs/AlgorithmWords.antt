@@ -4,7 +4,7 @@ use Rattle.std.proofs.lemmas.Bool.{cases_Bool}
 use Rattle.std.proofs.lemmas.Slice.Eq.{bytes_eq-Decides}
 use Rattle.osc_model.specs.declared.algorithm.Algorithm.{Algorithm}
 use Rattle.osc_model.specs.declared.algorithm.Algorithm.TheVariants.{EightByteTag, SixteenByteTag}
-use Rattle.osc_script.specs.Words.{SpellsAlgorithm}
+use Rattle.osc_script.specs.{SpellsAlgorithm}
 use Rattle.osc_script.specs.Inner.Reading.{algorithm_in}
 
 -- ---- what the code finds

@@ -4,8 +4,7 @@ use Rattle.std.specs.Prelude.{slice_index}
 use Rattle.osc_script.specs.declared.line.Change.{Change}
 use Rattle.osc_script.specs.declared.line.Line.{Line}
 use Rattle.osc_script.specs.declared.line.Line.TheVariants.{Alter}
-use Rattle.osc_script.specs.Values.{SpellsNumber}
-use Rattle.osc_script.specs.Words.{SpellChanges, SpellsPairs}
+use Rattle.osc_script.specs.{SpellsNumber, SpellChanges, SpellsPairs}
 use Rattle.osc_script.specs.Inner.Reading.{◌>>=◌, number_in, hex_in, change_in, changes_in, some_changes}
 use Rattle.osc_script.proofs.Found.{step_found, test_held}
 use Rattle.osc_script.proofs.Numbers.{number_found, number_again}

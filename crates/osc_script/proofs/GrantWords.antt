@@ -2,23 +2,16 @@
 use Rattle.std.proofs.Common.{◌≡◌, ℕ, ◌≤◌, ◌<◌, true, false, List, [], ◌∷◌, ◌++◌, length, get_or, map, take, drop, Option, Some, None, Bor, codes, refl, sym, ap, subst, ◌∙◌, arith, bytes_eq, nat_le, leb-true, le-leb, take-append-drop, append-nil}
 use Rattle.std.specs.Prelude.{IsTrue, ◌↔◌}
 use Rattle.std.proofs.lemmas.Slice.Eq.{bytes_eq-Decides}
-use Rattle.osc_cbor.specs.Data.{array}
-use Rattle.osc_cbor.specs.Spelling.{spelling}
+use Rattle.osc_cbor.specs.{array, spelling}
 use Rattle.osc_model.specs.declared.algorithm.Algorithm.{Algorithm}
 use Rattle.osc_model.specs.declared.algorithm.Algorithm.TheVariants.{EightByteTag, SixteenByteTag}
-use Rattle.osc_scope.specs.Entries.{entry_items}
-use Rattle.osc_scope.specs.Text.{Written, entry_of}
-use Rattle.osc_token.specs.Minted.{most_claims}
-use Rattle.osc_token.specs.Token.{claims_item}
+use Rattle.osc_scope.specs.{entry_items, Written, entry_of}
+use Rattle.osc_token.specs.{most_claims, claims_item}
 use Rattle.osc_token.specs.declared.claims.Claims.{Claims}
 use Rattle.osc_script.specs.declared.client_name.ClientName.{ClientName}
 use Rattle.osc_script.specs.declared.line.Line.{Line}
 use Rattle.osc_script.specs.declared.line.Line.TheVariants.{Skipped, Put, Open, Grant, Proxy, Via, At, Draw, Drop, Skip, Exchange, Ask, Tick, Restart, Deliver, Alter, Graft, Inject, Lie, Quiet}
-use Rattle.osc_script.specs.Grants.{claims_of}
-use Rattle.osc_script.specs.Node.{client_name}
-use Rattle.osc_script.specs.Values.{SpellsNumber, SpellsScope}
-use Rattle.osc_script.specs.Words.{SpellsDate, SpellsAlgorithm}
-use Rattle.osc_script.specs.Line.{Say}
+use Rattle.osc_script.specs.{claims_of, client_name, SpellsNumber, SpellsScope, SpellsDate, SpellsAlgorithm, Say}
 use Rattle.osc_script.specs.Inner.Reading.{◌>>=◌, number_in, date_in, one_date, dates_in, algorithm_in, client_in}
 use Rattle.osc_script.proofs.AlgorithmWords.{algorithm_found, algorithm_last}
 use Rattle.osc_script.proofs.Found.{step_found, test_held}

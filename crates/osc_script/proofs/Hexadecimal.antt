@@ -5,7 +5,7 @@ use Rattle.hex.specs.Hex.{decode_of, decode_sized}
 use Rattle.hex.specs.declared.error.FromHexError.{FromHexError}
 use Rattle.hex.proofs.HexLemmas.{decode_of-ok, decode_sized-ok, decode_sized-twice}
 use Rattle.osc_script.specs.Inner.Reading.{decoded}
-use Rattle.osc_script.specs.Values.{Reads, SpellsHex, SpellsHexWithin}
+use Rattle.osc_script.specs.{Reads, SpellsHex, SpellsHexWithin}
 
 -- as many bytes as there is room for
 pub array_read : (n : ℕ) (text : List ℕ) (d : Result (List ℕ) FromHexError) (r : Option (List ℕ))

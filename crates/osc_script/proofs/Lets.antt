@@ -2,7 +2,7 @@
 use Rattle.std.proofs.Common.{◌≡◌, Bool, true, false, List, not, refl, sym, ◌∙◌}
 use Rattle.std.specs.Prelude.{IsTrue, ◌↔◌}
 use Rattle.osc_script.specs.declared.line.Line.{Line}
-use Rattle.osc_script.specs.Line.{MayFollow}
+use Rattle.osc_script.specs.{MayFollow}
 
 -- the same for the line itself
 pub lets_as : (above : List Line) (line kind : Line) (test : Bool) → line ≡ kind → (IsTrue test ↔ MayFollow above kind) → (IsTrue test ↔ MayFollow above line)

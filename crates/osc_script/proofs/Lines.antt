@@ -3,14 +3,11 @@ use Rattle.std.proofs.Common.{◌≡◌, ℕ, ◌<◌, ◌^◌, Bool, true, fals
 use Rattle.std.specs.Prelude.{IfSome, IsSome, ◌↔◌}
 use Rattle.std.proofs.Props.{props}
 use Rattle.std.proofs.lemmas.Bool.{cases_Bool}
-use Rattle.osc_model.specs.Path.{IsPath}
-use Rattle.osc_model.specs.Tree.{longest_payload}
+use Rattle.osc_model.specs.{IsPath, longest_payload}
 use Rattle.osc_model.specs.declared.node.Moment.{Moment}
 use Rattle.osc_script.specs.declared.line.Line.{Line}
 use Rattle.osc_script.specs.declared.line.Line.TheVariants.{Put, Open, Proxy, Via, At, Draw, Drop, Skip, Exchange, Ask, Tick, Restart, Deliver, Graft, Inject, Lie}
-use Rattle.osc_script.specs.Node.{client_name, name_of}
-use Rattle.osc_script.specs.Values.{SpellsNumber}
-use Rattle.osc_script.specs.Line.{Say}
+use Rattle.osc_script.specs.{client_name, name_of, SpellsNumber, Say}
 use Rattle.osc_script.specs.Inner.Reading.{◌>>=◌, number_in, request_number_in, format_in, client_in, node_in, worker_in, kept_in, short_bytes_in, nonce_in, changes_in, some_changes, request_in, moment_if, moment_in, put_in, at_in, draw_in, exchange_in, skip_in, ask_in, lie_in, deliver_in, drop_in, alter_in, graft_in, tick_in, restart_in, inject_in, proxy_in, proxy_line_in, via_in, HasPath}
 use Rattle.osc_script.proofs.Found.{step_found}
 use Rattle.osc_script.proofs.Numbers.{number_found, format_found, request_number_found}

@@ -11,10 +11,9 @@ use Rattle.osc_script.specs.declared.node.Node.{Node}
 use Rattle.osc_script.specs.declared.node.Node.TheVariants.{Server, Client, Proxy, Stranger}
 use Rattle.osc_script.specs.declared.proxy_name.ProxyName.{ProxyName}
 use Rattle.osc_model.specs.declared.node.Peer.{Peer}
-use Rattle.osc_script.specs.Node.{client_name, proxy_name, name_of, local, address_of}
-use Rattle.osc_scope.specs.Text.{name_of as method_name}
+use Rattle.osc_script.specs.{client_name, proxy_name, name_of, local, address_of, Reads, SpellsMethod}
+use Rattle.osc_scope.specs.{name_of as method_name}
 use Rattle.osc_script.specs.Inner.Reading.{client_if, client_with, client_in, proxy_if, proxy_with, proxy_in, one_named, node_in, unless_stranger, worker_in, method_in}
-use Rattle.osc_script.specs.Values.{Reads, SpellsMethod}
 use Rattle.osc_script.proofs.Found.{step_found, test_held, chosen}
 
 -- ---- clients

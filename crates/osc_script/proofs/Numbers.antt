@@ -9,9 +9,7 @@ use Rattle.std.proofs.lemmas.Str.{IsUtf8-from_ascii}
 use Rattle.std.proofs.lemmas.Str.Ascii.{IsAscii-from_reads}
 use Rattle.std.proofs.lemmas.Str.Parse.{IsNumeralModel, numerals_by_value, tells_all_ascii_digits, digit_at, parse_plain}
 use Rattle.std.proofs.lemmas.Slice.Eq.{bytes_eq-Decides}
-use Rattle.osc_script.specs.Line.{last_number}
-use Rattle.osc_script.specs.Values.{Reads, SpellsNumber, SpellsShortNumber}
-use Rattle.osc_script.specs.Words.{SpellsFormat}
+use Rattle.osc_script.specs.{last_number, Reads, SpellsNumber, SpellsShortNumber, SpellsFormat}
 use Rattle.osc_script.specs.Inner.Reading.{number_in, short_number_in, request_number_in, format_in}
 use Rattle.osc_script.proofs.Found.{step_found, none_unless}
 

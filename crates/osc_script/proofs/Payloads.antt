@@ -10,8 +10,7 @@ use Rattle.std.proofs.lemmas.Slice.Eq.{bytes_eq-Decides}
 use Rattle.hex.specs.Hex.{decode_of, is_hex_digit}
 use Rattle.hex.specs.declared.error.FromHexError.{FromHexError}
 use Rattle.hex.proofs.HexLemmas.{decode_of-ok}
-use Rattle.osc_script.specs.Values.{SpellsNumber}
-use Rattle.osc_script.specs.Words.{most_kept, SpellsPairs, SpellsRepeated, SpellParts, SpellsBytes, SpellsKept}
+use Rattle.osc_script.specs.{SpellsNumber, most_kept, SpellsPairs, SpellsRepeated, SpellParts, SpellsBytes, SpellsKept}
 use Rattle.osc_script.specs.Inner.Reading.{◌>>=◌, number_in, decoded, hex_in, nonce_in, repeated_in, part_in, parts_in, bytes_in, kept_in, short_bytes_in}
 use Rattle.osc_script.proofs.Found.{step_found, mapped_found, not_mapped, test_held, none_unless}
 use Rattle.osc_script.proofs.Numbers.{number_found, number_again}

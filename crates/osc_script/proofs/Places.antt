@@ -8,7 +8,7 @@ use Rattle.osc_script.specs.declared.client_name.ClientName.{ClientName}
 use Rattle.osc_script.specs.declared.line.Line.{Line}
 use Rattle.osc_script.specs.declared.place.Place.{Place}
 use Rattle.osc_script.specs.declared.proxy_name.ProxyName.{ProxyName}
-use Rattle.osc_script.specs.Line.{grants, is_event, is_put, makes, moment_after, moment_behind, routes}
+use Rattle.osc_script.specs.{grants, is_event, is_put, makes, moment_after, moment_behind, routes}
 use Rattle.osc_script.specs.Inner.Place.{IsPlace}
 
 or_false : (b : Bool) → (b || false) ≡ b

@@ -1,9 +1,9 @@
 -- Words spell a request exactly where one is read, and it is that one.
 use Rattle.std.proofs.Common.{◌≡◌, ℕ, List, [], ◌∷◌, Some, sym, ap, subst, ◌∙◌}
 use Rattle.std.specs.Option.{ForSome}
-use Rattle.osc_model.specs.Path.{IsPath}
+use Rattle.osc_model.specs.{IsPath}
 use Rattle.osc_model.specs.declared.request.Request.{Request}
-use Rattle.osc_script.specs.Line.{plain_request, SpellRequest}
+use Rattle.osc_script.specs.{plain_request, SpellRequest}
 use Rattle.osc_script.specs.Inner.Reading.{◌>>=◌, kept_in, method_in, request_in}
 use Rattle.osc_script.proofs.Found.{step_found}
 use Rattle.osc_script.proofs.Nodes.{method_found, method_again}

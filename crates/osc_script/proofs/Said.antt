@@ -2,12 +2,10 @@
 use Rattle.std.proofs.Common.{◌≡◌, ℕ, ◌≤◌, true, false, List, [], ◌∷◌, length, get_or, map, drop, Option, Some, None, codes, Bor, inl, inr, refl, sym, ap, subst, ◌∙◌, arith, bytes_eq, IsUtf8}
 use Rattle.std.proofs.lemmas.Bool.{cases_Bool}
 use Rattle.std.proofs.lemmas.Slice.Eq.{bytes_eq-Decides}
-use Rattle.osc_model.specs.Tree.{longest_payload}
+use Rattle.osc_model.specs.{longest_payload}
 use Rattle.osc_script.specs.declared.line.Line.{Line}
 use Rattle.osc_script.specs.declared.line.Line.TheVariants.{Skipped, Put, Open, Grant, Proxy, Via, At, Draw, Drop, Skip, Exchange, Ask, Tick, Restart, Deliver, Alter, Graft, Inject, Lie, Quiet}
-use Rattle.osc_script.specs.Values.{Reads}
-use Rattle.osc_script.specs.Words.{words_of}
-use Rattle.osc_script.specs.Line.{IsSkipped, Say, Says}
+use Rattle.osc_script.specs.{Reads, words_of, IsSkipped, Say, Says}
 use Rattle.osc_script.specs.Inner.Reading.{with_none, with_one, with_two, with_three, with_more, with_two_more, put_in, at_in, draw_in, exchange_in, skip_in, ask_in, lie_in, deliver_in, drop_in, alter_in, graft_in, tick_in, restart_in, inject_in, proxy_line_in, via_in, node_line_in, datagram_line_in, client_line_in, timed_line_in, line_in, HasPath, Gives}
 use Rattle.osc_script.proofs.Found.{chosen, test_held}
 use Rattle.osc_script.proofs.Numbers.{number_again, format_again, request_number_again}

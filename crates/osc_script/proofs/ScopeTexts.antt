@@ -7,7 +7,7 @@ use Rattle.std.proofs.lemmas.List.Elements.{All-nil, All-cons, All-head, All-tai
 use Rattle.std.proofs.lemmas.List.Splits.{slice_split_none, slice_split_at}
 use Rattle.osc_model.specs.declared.code.Method.{Method}
 use Rattle.osc_model.specs.declared.code.Method.TheVariants.{Get, Post, Put, Delete}
-use Rattle.osc_scope.specs.Text.{Written, name_of, below_word, words_of, parted_by, entry_text, IsLawfulText, IsScopeText}
+use Rattle.osc_scope.specs.{Written, name_of, below_word, words_of, parted_by, entry_text, IsLawfulText, IsScopeText}
 
 abbrev Lacks : ℕ → List ℕ → Type 0
 Lacks byte text = All (λ b. b ≢ byte) text

@@ -4,8 +4,7 @@ use Rattle.std.proofs.lemmas.List.{take_more, map_push, map-append, nil_from_len
 use Rattle.osc_script.specs.declared.line.Line.{Line}
 use Rattle.osc_script.specs.declared.read.ScriptError.{ScriptError}
 use Rattle.osc_script.specs.declared.read.ScriptError.TheVariants.{BadLine}
-use Rattle.osc_script.specs.Line.{StandsFor}
-use Rattle.osc_script.specs.Script.{without_empty_last, lines_of, StandFor, IsScript, IsFirstBadIn}
+use Rattle.osc_script.specs.{StandsFor, without_empty_last, lines_of, StandFor, IsScript, IsFirstBadIn}
 use Rattle.osc_script.proofs.Said.{one_line}
 
 -- a part that another follows isn't the last

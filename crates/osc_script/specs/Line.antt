@@ -2,15 +2,12 @@
 use Rattle.std.specs.Prelude.{◌≡◌, ◌≢◌, ℕ, ◌<◌, ◌≤◌, ◌⊎◌, ◌==◌, Bool, true, false, List, [], ◌∷◌, ◌++◌, length, Some, None, codes, count_by}
 use Rattle.std.specs.List.{list_any}
 use Rattle.std.specs.Str.{IsUtf8, bytes_eq}
-use Rattle.osc_model.specs.Code.{code, method_number}
-use Rattle.osc_model.specs.Path.{IsPath}
-use Rattle.osc_model.specs.Tree.{longest_payload, most_resources}
+use Rattle.osc_model.specs.{code, method_number, IsPath, longest_payload, most_resources}
 use Rattle.osc_model.specs.declared.code.Method.{Method}
 use Rattle.osc_model.specs.declared.request.Request.{Request}
-use Rattle.osc_cbor.specs.Spelling.{spelling}
-use Rattle.osc_scope.specs.Text.{name_of as method_name}
-use Rattle.osc_token.specs.Minted.{most_claims}
-use Rattle.osc_token.specs.Token.{claims_item}
+use Rattle.osc_cbor.specs.{spelling}
+use Rattle.osc_scope.specs.{name_of as method_name}
+use Rattle.osc_token.specs.{most_claims, claims_item}
 use Rattle.osc_script.specs.Grants.{claims_of}
 use Rattle.osc_script.specs.Node.{client_name, proxy_name, name_of}
 use Rattle.osc_script.specs.Values.{SpellsNumber, SpellsScope}

@@ -3,10 +3,8 @@ use Rattle.std.specs.Prelude.{◌≡◌, ℕ, ◌<◌, ◌≤◌, ◌^◌, List,
 use Rattle.std.specs.Str.Parse.{IsNumeral, digits_value}
 use Rattle.hex.specs.Hex.{decode_of}
 use Rattle.osc_model.specs.declared.code.Method.{Method}
-use Rattle.osc_cbor.specs.Data.{array}
-use Rattle.osc_cbor.specs.Spelling.{spelling}
-use Rattle.osc_scope.specs.Entries.{entry_items}
-use Rattle.osc_scope.specs.Text.{Written, IsScopeText, entry_of, name_of}
+use Rattle.osc_cbor.specs.{array, spelling}
+use Rattle.osc_scope.specs.{entry_items, Written, IsScopeText, entry_of, name_of}
 
 -- What was found is such, and nothing was found only where nothing is.
 abbrev pub Reads : {X : Type 0} → (X → Type 0) → Option X → Type 0

@@ -2,7 +2,7 @@
 
 ghost use Rattle.std.specs.Prelude.{◌≡◌, ◌<◌, ◌+◌, ◌||◌, ◌&&◌, ◌↔◌, ◌++◌, ◌∷◌, [], cond, false, IsTrue, IfSome, IfNone, slice_index_or, count_by};
 ghost use Rattle.std.specs.List.{list_any};
-ghost use Rattle.osc_model.specs.Tree.{most_resources};
+ghost use Rattle.osc_model.specs.{most_resources};
 ghost use Rattle.osc_script.specs.Line.{grants, is_event, is_put, makes, moment_behind, puts, routes, IsKnown, IsGranted, MayFollow};
 ghost use Rattle.osc_script.specs.Inner.Place.{IsPlace};
 ghost use Rattle.osc_script.specs.declared.client_name.ClientName.{ClientName as AnyClient};

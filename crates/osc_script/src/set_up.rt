@@ -1,9 +1,8 @@
 //! Lines that stand before the first event.
 
 ghost use Rattle.std.specs.Prelude.{◌≡◌, ◌≤◌, ◌↔◌, ◌∷◌, codes, length, IfOk, IsTrue, map, Some};
-ghost use Rattle.osc_cbor.specs.Spelling.{spelling};
-ghost use Rattle.osc_token.specs.Minted.{most_claims};
-ghost use Rattle.osc_token.specs.Token.{claims_item};
+ghost use Rattle.osc_cbor.specs.{spelling};
+ghost use Rattle.osc_token.specs.{most_claims, claims_item};
 ghost use Rattle.osc_script.specs.Grants.{claims_of};
 ghost use Rattle.osc_script.specs.Line.{Say};
 ghost use Rattle.osc_script.specs.declared.line.Line.TheVariants.{Open};

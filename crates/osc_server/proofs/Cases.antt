@@ -1,11 +1,11 @@
 -- Unprotected requests whose options are all understood are answered.
 use Rattle.std.proofs.Common.{◌==◌, Bool, true, false, if◌then◌else◌}
 use Rattle.osc_coap.specs.Message.{Message}
-use Rattle.osc_model.specs.Code.{method_number}
+use Rattle.osc_model.specs.{method_number}
 use Rattle.osc_model.specs.Scope.{Scope}
 use Rattle.osc_model.specs.declared.code.Method.TheVariants.{Post}
 use Rattle.osc_model.specs.declared.request.Request.{Request}
-use Rattle.osc_server.specs.Case.{IsNewAnswered, is_authz_info, is_open_get, unprotected_case}
+use Rattle.osc_server.specs.{IsNewAnswered, is_authz_info, is_open_get, unprotected_case}
 use Rattle.osc_server.specs.declared.case.Case.{Case}
 use Rattle.osc_server.specs.declared.case.Case.TheVariants.{Posted, NotPosted, OpenGet, Unauthorised}
 

@@ -2,12 +2,9 @@
 use Rattle.std.proofs.Common.{◌≡◌, ℕ, ◌<◌, ◌≤◌, List, length, Option, Some, None, refl, subst, arith}
 use Rattle.std.proofs.lemmas.List.{length-take}
 use Rattle.std.specs.FinMap as map
-use Rattle.osc_model.specs.Code.{method_of}
+use Rattle.osc_model.specs.{method_of, bare, content, etag_of, refusal, Outcome, read, perform, refused_or, apply_at, apply}
 use Rattle.osc_model.specs.Tree.{Tree}
 use Rattle.osc_model.specs.Scope.{Scope}
-use Rattle.osc_model.specs.Reply.{bare, content, etag_of}
-use Rattle.osc_model.specs.Checks.{refusal}
-use Rattle.osc_model.specs.Apply.{Outcome, read, perform, refused_or, apply_at, apply}
 use Rattle.osc_model.specs.declared.code.Code.{Code}
 use Rattle.osc_model.specs.declared.code.Method.{Method}
 use Rattle.osc_model.specs.declared.code.Method.TheVariants.{Get}

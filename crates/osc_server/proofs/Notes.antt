@@ -7,9 +7,10 @@ use Rattle.std.proofs.lemmas.List.Elements.{All-nil, All-head, All-tail, All-pus
 use Rattle.std.proofs.lemmas.Option.{same_Some}
 use Rattle.osc_coap.specs.declared.kind.Kind.{Kind}
 use Rattle.osc_coap.specs.declared.kind.Kind.TheVariants.{Confirmable, NonConfirmable, Acknowledgement, Reset}
-use Rattle.osc_coap.specs.Message.{HasSpelling, Message, spelling}
+use Rattle.osc_coap.specs.{HasSpelling, spelling}
+use Rattle.osc_coap.specs.Message.{Message}
 use Rattle.osc_dedup.specs.declared.table.Noted.{Noted}
-use Rattle.osc_dedup.specs.Table.{most_entries, Entry, is_alive, is_of, staying, with_note, alive}
+use Rattle.osc_dedup.specs.{most_entries, Entry, is_alive, is_of, staying, with_note, alive}
 use Rattle.osc_model.specs.Arrival.{Arrival}
 use Rattle.osc_model.specs.declared.bytes.Bytes.{Bytes}
 use Rattle.osc_model.specs.declared.node.Draw.{Draw}
@@ -18,12 +19,8 @@ use Rattle.osc_model.specs.declared.node.Peer.{Peer}
 use Rattle.osc_model.specs.declared.step.Datagram.{Datagram}
 use Rattle.osc_message.specs.declared.handling.Handling.TheVariants.{Dropped, Answered}
 use Rattle.osc_message.specs.declared.heard.Heard.TheVariants as heard
-use Rattle.osc_message.specs.Confirmables.{Open}
-use Rattle.osc_message.specs.Endpoint.{EndpointState, id_taken, noted, settled, acknowledged_by, after_tick}
-use Rattle.osc_message.specs.Ticks.{acts, tick_sends}
-use Rattle.osc_message.specs.Heard.{AnswersAlone, IsAlone, IsSendableHeard, ignores, noted_reply, rejects, repeats}
+use Rattle.osc_message.specs.{Open, EndpointState, id_taken, noted, settled, acknowledged_by, after_tick, acts, tick_sends, AnswersAlone, IsAlone, IsSendableHeard, ignores, noted_reply, rejects, repeats, AreSendable, FitsDatagram, GoesOut, again, datagram, is_confirmable, rejection, replied, reset}
 use Rattle.osc_message.specs.declared.heard.Heard.{Heard}
-use Rattle.osc_message.specs.Sending.{AreSendable, FitsDatagram, GoesOut, again, datagram, is_confirmable, rejection, replied, reset}
 use Rattle.osc_server.specs.Inner.Parts.{HeardSendsTo, IsMessage, IsQuiet, KeepsMessages, SendsTo, noted_by}
 
 abbrev IsKept : Entry → Type 0

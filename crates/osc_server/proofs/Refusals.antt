@@ -4,14 +4,13 @@ use Rattle.std.proofs.lemmas.Option.{same_Some}
 use Rattle.osc_model.specs.Arrival.{Arrival}
 use Rattle.osc_model.specs.declared.algorithm.Algorithm.{Algorithm}
 use Rattle.osc_coap.specs.Message.{Message}
-use Rattle.osc_context.specs.Algorithm.{algorithm_of}
-use Rattle.osc_authz.specs.Desk.{DeskState}
+use Rattle.osc_context.specs.{algorithm_of}
+use Rattle.osc_authz.specs.{DeskState, meant}
 use Rattle.osc_authz.specs.SecurityContext.{SecurityContext}
-use Rattle.osc_authz.specs.Table.{meant}
-use Rattle.osc_ccm.specs.Ciphers.{Sealings, SealsOneText}
-use Rattle.osc_protect.specs.Protection.{SealedRequest, IsRequest}
-use Rattle.osc_window.specs.Window.{IsFresh}
-use Rattle.osc_server.specs.Table.{IsMeant, IsOpened, IsRefused, IsSealed}
+use Rattle.osc_ccm.specs.{Sealings, SealsOneText}
+use Rattle.osc_protect.specs.{SealedRequest, IsRequest}
+use Rattle.osc_window.specs.{IsFresh}
+use Rattle.osc_server.specs.{IsMeant, IsOpened, IsRefused, IsSealed}
 use Rattle.osc_server.specs.declared.refusal.Refusal.{Refusal}
 use Rattle.osc_server.specs.declared.refusal.Refusal.TheVariants.{Malformed, NoContext, Replayed, NotGenuine}
 

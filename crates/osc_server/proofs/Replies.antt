@@ -6,35 +6,28 @@ use Rattle.std.specs.List.{AllByRecursion}
 use Rattle.std.specs.Option.{ForSome}
 use Rattle.std.specs.FinMap as map
 use Rattle.osc_model.specs.Arrival.{Arrival}
-use Rattle.osc_model.specs.Code.{code, method_of}
-use Rattle.osc_model.specs.Tree.{Tree, IsWithinLimits, payload_length}
+use Rattle.osc_model.specs.{code, method_of, IsWithinLimits, payload_length, checks, first_failing, refusal, written, Outcome, read, write, perform, refused_or, apply_at, apply}
+use Rattle.osc_model.specs.Tree.{Tree}
 use Rattle.osc_model.specs.Scope.{Scope}
-use Rattle.osc_model.specs.Checks.{checks, first_failing, refusal, written}
-use Rattle.osc_model.specs.Apply.{Outcome, read, write, perform, refused_or, apply_at, apply}
 use Rattle.osc_model.specs.declared.code.Code.{Code}
 use Rattle.osc_model.specs.declared.code.Method.TheVariants.{Get, Post, Put, Delete}
 use Rattle.osc_model.specs.declared.reply.Reply.{Reply}
 use Rattle.osc_model.specs.declared.request.Request.{Request}
 use Rattle.osc_model.specs.declared.resource.Resource.{Resource}
-use Rattle.osc_coap.specs.Building.{payload_of}
-use Rattle.osc_coap.specs.Length.{extension_length, options_length, plaintext_length, spelled_length}
+use Rattle.osc_coap.specs.{payload_of, extension_length, options_length, plaintext_length, spelled_length, NumberAndValue, spelling, plaintext_spelling}
 use Rattle.osc_coap.specs.Length as coap
-use Rattle.osc_coap.specs.Message.{Message, NumberAndValue, spelling}
-use Rattle.osc_coap.specs.Plaintext.{Plaintext, plaintext_spelling}
-use Rattle.osc_options.specs.Replies.{etag_option, format_option, reply_options, uint_bytes}
-use Rattle.osc_options.specs.PlaintextReplies.{reply_plaintext}
-use Rattle.osc_options.specs.Split.{merge, outer_options}
-use Rattle.osc_message.specs.Endpoint.{EndpointState}
-use Rattle.osc_protect.specs.Protection.{longest_message, plain_bytes, response_length, response_value, response_with}
-use Rattle.osc_protect.specs.Value.{value_spelling}
-use Rattle.osc_options.specs.Texts.{reply_text}
-use Rattle.osc_authz.specs.Post.{code_of}
+use Rattle.osc_coap.specs.Message.{Message}
+use Rattle.osc_coap.specs.Plaintext.{Plaintext}
+use Rattle.osc_options.specs.{etag_option, format_option, reply_options, uint_bytes, reply_plaintext, merge, outer_options, reply_text}
+use Rattle.osc_message.specs.{EndpointState}
+use Rattle.osc_protect.specs.{longest_message, plain_bytes, response_length, response_value, response_with, value_spelling}
+use Rattle.osc_authz.specs.{code_of}
 use Rattle.osc_authz.specs.declared.error.PostError.{PostError}
 use Rattle.osc_authz.specs.declared.error.PostError.TheVariants.{Fields, Token, Full}
 use Rattle.osc_token.specs.declared.error.TokenError.TheVariants as token
 use Rattle.osc_authz.specs.declared.post.PostAnswer.{PostAnswer}
 use Rattle.osc_server.specs.Inner.Parts.{IsReplyOf, FitsAResource, read_length, request_reply_length}
-use Rattle.osc_server.specs.Table.{post_reply, reply_to}
+use Rattle.osc_server.specs.{post_reply, reply_to}
 use Rattle.osc_server.proofs.Gets.{bare_reply, content_reply}
 
 -- ---- short replies

@@ -5,9 +5,9 @@ use Rattle.std.specs.Option.{ForSome, option_map_or}
 use Rattle.std.proofs.lemmas.Option.{same_Some}
 use Rattle.std.proofs.lemmas.Slice.Eq.{bytes_eq-Decides}
 use Rattle.osc_model.specs.declared.node.Moment.{Moment}
-use Rattle.osc_protect.specs.Protection.{SealedRequest, IsFor}
+use Rattle.osc_protect.specs.{SealedRequest, IsFor}
 use Rattle.osc_authz.specs.SecurityContext.{SecurityContext}
-use Rattle.osc_authz.specs.Table.{if_meant, is_live, is_named, meant, with_id}
+use Rattle.osc_authz.specs.{if_meant, is_live, is_named, meant, with_id}
 use Rattle.osc_authz.specs.declared.token_entry.TokenEntry.{TokenEntry}
 
 pub record IsFound (now : Moment) (kid_context : Option (List ℕ)) (found : Option SecurityContext) (held : SecurityContext) : Type 0 where

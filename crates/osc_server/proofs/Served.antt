@@ -1,6 +1,6 @@
 -- A protected request that is served.
 use Rattle.std.proofs.Common.{◌≡◌, ℕ, List, [], ◌∷◌, sym, subst, ap, ◌∙◌}
-use Rattle.osc_model.specs.Apply.{apply_read}
+use Rattle.osc_model.specs.{apply_read}
 use Rattle.osc_model.specs.Arrival.{Arrival}
 use Rattle.osc_model.specs.Tree.{Tree}
 use Rattle.osc_model.specs.declared.bytes.Bytes.{Bytes}
@@ -8,17 +8,16 @@ use Rattle.osc_model.specs.declared.step.Datagram.{Datagram}
 use Rattle.osc_model.specs.declared.step.Note.{Note}
 use Rattle.osc_model.specs.declared.step.Step.{Step}
 use Rattle.osc_coap.specs.Message.{Message}
-use Rattle.osc_authz.specs.Desk.{DeskState}
+use Rattle.osc_authz.specs.{DeskState, accepted, taking}
 use Rattle.osc_authz.specs.SecurityContext.{SecurityContext}
-use Rattle.osc_authz.specs.Table.{accepted, taking}
-use Rattle.osc_ccm.specs.Ciphers.{Sealings}
-use Rattle.osc_protect.specs.Protection.{SealedRequest}
-use Rattle.osc_run.specs.ServerKinds.{opening_note, Replies as AppliesTo}
-use Rattle.osc_options.specs.Texts.{read_request}
-use Rattle.osc_message.specs.Sending.{datagram}
+use Rattle.osc_ccm.specs.{Sealings}
+use Rattle.osc_protect.specs.{SealedRequest}
+use Rattle.osc_run.specs.{opening_note, Replies as AppliesTo}
+use Rattle.osc_options.specs.{read_request}
+use Rattle.osc_message.specs.{datagram}
 use Rattle.osc_server.specs.Inner.Parts.{IsReplied, IsServedAs, Standing, noted_by}
 use Rattle.osc_server.specs.State.{State}
-use Rattle.osc_server.specs.Table.{IsOpened, Serves}
+use Rattle.osc_server.specs.{IsOpened, Serves}
 use Rattle.osc_server.specs.declared.serving.Served.{Served}
 
 -- what serves of this server

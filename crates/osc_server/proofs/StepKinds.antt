@@ -1,8 +1,8 @@
 -- Each step is one of the kinds that a run has.
 use Rattle.std.proofs.Common.{◌≡◌, ℕ, ◌≤◌, List, length, Option, Some, None, Result, Ok, Err, refl, sym, subst, ap}
-use Rattle.osc_model.specs.Apply.{apply_read}
-use Rattle.osc_model.specs.Arrival.{Arrival, read_as}
-use Rattle.osc_model.specs.StepNotes.{StepNotes, quiet}
+use Rattle.osc_model.specs.{apply_read, read_as, quiet}
+use Rattle.osc_model.specs.Arrival.{Arrival}
+use Rattle.osc_model.specs.StepNotes.{StepNotes}
 use Rattle.osc_model.specs.Tree.{Tree}
 use Rattle.osc_model.specs.declared.algorithm.Algorithm.TheVariants.{EightByteTag}
 use Rattle.osc_model.specs.declared.node.Moment.{Moment}
@@ -12,25 +12,20 @@ use Rattle.osc_model.specs.declared.step.Step.{Step}
 use Rattle.osc_coap.specs.Message.{Message}
 use Rattle.osc_message.specs.declared.heard.Heard.{Heard}
 use Rattle.osc_message.specs.declared.heard.Heard.TheVariants as heard
-use Rattle.osc_context.specs.Nonce.{greatest_number}
-use Rattle.osc_window.specs.Window.{IsFresh}
-use Rattle.osc_ccm.specs.Ciphers.{Sealings}
-use Rattle.osc_authz.specs.Contexts.{of_tokens}
-use Rattle.osc_authz.specs.Desk.{DeskState}
+use Rattle.osc_context.specs.{greatest_number}
+use Rattle.osc_window.specs.{IsFresh}
+use Rattle.osc_ccm.specs.{Sealings}
+use Rattle.osc_authz.specs.{of_tokens, DeskState, Posts, IsTable, accepted, meant}
 use Rattle.osc_authz.specs.SecurityContext.{SecurityContext}
-use Rattle.osc_authz.specs.Post.{Posts}
 use Rattle.osc_authz.specs.Posting.{Posting}
-use Rattle.osc_authz.specs.Table.{IsTable, accepted, meant}
 use Rattle.osc_authz.specs.declared.error.PostError.{PostError}
 use Rattle.osc_authz.specs.declared.token_entry.TokenEntry.{TokenEntry}
 use Rattle.osc_authz.specs.declared.post.Post.{Post}
 use Rattle.osc_authz.specs.declared.post.PostAnswer.{PostAnswer}
-use Rattle.osc_run.specs.ServerKinds.{opening_note, reply_note, Replies as AppliesTo, IsServerIdle, IsPosted, IsServed, ServerStep, ServerIdle, Posted, Served, ServerRestarted}
-use Rattle.osc_options.specs.Texts.{read_request, IsWithinRanges}
-use Rattle.osc_server.specs.Case.{case_of}
-use Rattle.osc_server.specs.State.{State, core}
-use Rattle.osc_server.specs.Steps.{again}
-use Rattle.osc_server.specs.Table.{Answers, AnswersNew, AnswersPost, AnswersProtected, Sends, Serves, nonce_of_post, notes_of_post, posting, notes_of_request, refusal_of_post, refused, served}
+use Rattle.osc_run.specs.{opening_note, reply_note, Replies as AppliesTo, IsServerIdle, IsPosted, IsServed, ServerStep, ServerIdle, Posted, Served, ServerRestarted}
+use Rattle.osc_options.specs.{read_request, IsWithinRanges}
+use Rattle.osc_server.specs.{case_of, core, again, Answers, AnswersNew, AnswersPost, AnswersProtected, Sends, Serves, nonce_of_post, notes_of_post, posting, notes_of_request, refusal_of_post, refused, served}
+use Rattle.osc_server.specs.State.{State}
 use Rattle.osc_server.specs.declared.case.Case.{Case}
 use Rattle.osc_server.specs.declared.case.Case.TheVariants as case
 

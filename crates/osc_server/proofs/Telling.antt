@@ -3,10 +3,9 @@ use Rattle.std.proofs.Common.{◌≡◌, ℕ, false, List, [], ◌∷◌, ◌++�
 use Rattle.std.specs.List.{All}
 use Rattle.std.proofs.lemmas.List.Elements.{All-nil, All-push}
 use Rattle.std.proofs.lemmas.Option.{same_Some}
-use Rattle.osc_model.specs.Arrival.{Arrival, read_as}
-use Rattle.osc_model.specs.Code.{code}
-use Rattle.osc_model.specs.Reply.{bare}
-use Rattle.osc_model.specs.StepNotes.{StepNotes, quiet}
+use Rattle.osc_model.specs.{read_as, code, bare, quiet, sends}
+use Rattle.osc_model.specs.Arrival.{Arrival}
+use Rattle.osc_model.specs.StepNotes.{StepNotes}
 use Rattle.osc_model.specs.declared.algorithm.Algorithm.TheVariants.{EightByteTag}
 use Rattle.osc_model.specs.declared.bytes.Bytes.{Bytes}
 use Rattle.osc_model.specs.declared.context.Side.TheVariants.{Server}
@@ -14,32 +13,23 @@ use Rattle.osc_model.specs.declared.reply.Reply.{Reply}
 use Rattle.osc_model.specs.declared.step.Datagram.{Datagram}
 use Rattle.osc_model.specs.declared.step.Note.{Note}
 use Rattle.osc_model.specs.declared.step.Step.{Step}
-use Rattle.osc_authz.specs.Desk.{DeskState}
-use Rattle.osc_authz.specs.Post.{Posts, no_post, not_genuine, opened}
+use Rattle.osc_authz.specs.{DeskState, Posts, no_post, not_genuine, opened}
 use Rattle.osc_authz.specs.declared.post.Post.{Post}
-use Rattle.osc_coap.specs.Message.{Message, Spells}
-use Rattle.osc_context.specs.Algorithm.{algorithm_of}
-use Rattle.osc_context.specs.Derivation.{key_of}
+use Rattle.osc_coap.specs.{Spells}
+use Rattle.osc_coap.specs.Message.{Message}
+use Rattle.osc_context.specs.{algorithm_of, key_of}
 use Rattle.osc_coap.specs.declared.kind.Kind.{Kind}
 use Rattle.osc_coap.specs.declared.kind.Kind.TheVariants.{Confirmable, NonConfirmable, Acknowledgement, Reset}
-use Rattle.osc_message.specs.Heard.{AnswersAlone, IsAlone, ignores, noted_reply, rejects, repeats}
+use Rattle.osc_message.specs.{AnswersAlone, IsAlone, ignores, noted_reply, rejects, repeats, reply_start, reset, rejection, again, datagram}
 use Rattle.osc_message.specs.declared.heard.Heard.{Heard}
 use Rattle.osc_message.specs.declared.heard.Heard.TheVariants as heard
-use Rattle.osc_model.specs.Step.{sends}
-use Rattle.osc_message.specs.Sending.{reply_start, reset, rejection, again, datagram}
-use Rattle.osc_options.specs.Replies.{etag_option, format_option, max_age_option, with_reply}
-use Rattle.osc_options.specs.Split.{has_oscore}
-use Rattle.osc_protect.specs.Aad.{aad_of}
-use Rattle.osc_ccm.specs.Ciphers.{Sealings}
-use Rattle.osc_protect.specs.Protection.{plain_bytes, request_nonce}
-use Rattle.osc_run.specs.Seals.{IsOpenOf, IsSealOf}
-use Rattle.osc_run.specs.ServerKinds.{opening_note, reply_note}
-use Rattle.osc_token.specs.Token.{token_note}
-use Rattle.osc_options.specs.Texts.{reply_text}
-use Rattle.osc_server.specs.Case.{case_of}
+use Rattle.osc_options.specs.{etag_option, format_option, max_age_option, with_reply, has_oscore, reply_text}
+use Rattle.osc_protect.specs.{aad_of, plain_bytes, request_nonce}
+use Rattle.osc_ccm.specs.{Sealings}
+use Rattle.osc_run.specs.{IsOpenOf, IsSealOf, opening_note, reply_note}
+use Rattle.osc_token.specs.{token_note}
+use Rattle.osc_server.specs.{case_of, Answers, AnswersNew, AnswersProtected, Serves, notes_of_post, post_reply, posting, refusal_age, refusal_code, refusal_number, refused_for, reply_to, refused, served, AreTold, IsOpenedOf, IsToldOf, request_came, sealed_now, sent_before, token_came, unprotected}
 use Rattle.osc_server.specs.State.{State}
-use Rattle.osc_server.specs.Table.{Answers, AnswersNew, AnswersProtected, Serves, notes_of_post, post_reply, posting, refusal_age, refusal_code, refusal_number, refused_for, reply_to, refused, served}
-use Rattle.osc_server.specs.Told.{AreTold, IsOpenedOf, IsToldOf, request_came, sealed_now, sent_before, token_came, unprotected}
 use Rattle.osc_server.specs.declared.case.Case.{Case}
 use Rattle.osc_server.specs.declared.case.Case.TheVariants as case
 

@@ -1,22 +1,19 @@
 -- Which case a new message is to a server: the first test that holds, read from the top.
 use Rattle.std.specs.Prelude.{◌≡◌, ◌≢◌, ℕ, Bool, true, false, ◌==◌, ◌&&◌, ◌||◌, if◌then◌else◌, List, [], bytes_eq, Option, Some, None, is_some, codes}
 use Rattle.std.specs.List.{list_any}
-use Rattle.osc_model.specs.Code.{method_number}
+use Rattle.osc_model.specs.{method_number}
 use Rattle.osc_model.specs.Scope.{Scope}
 use Rattle.osc_model.specs.declared.code.Method.TheVariants.{Get, Post}
 use Rattle.osc_model.specs.declared.request.Request.{Request}
-use Rattle.osc_coap.specs.Code.{is_request_code}
-use Rattle.osc_coap.specs.Message.{NumberAndValue, Message as CoapMessage}
-use Rattle.osc_options.specs.Numbers.{proxy_uri, proxy_scheme}
-use Rattle.osc_options.specs.Requests.{request_of}
-use Rattle.osc_options.specs.Recognised.{unrecognised_critical}
-use Rattle.osc_options.specs.Split.{has_oscore}
-use Rattle.osc_scope.specs.Verdict.{verdict_of}
+use Rattle.osc_coap.specs.{is_request_code, NumberAndValue}
+use Rattle.osc_coap.specs.Message.{Message as CoapMessage}
+use Rattle.osc_options.specs.{proxy_uri, proxy_scheme, request_of, unrecognised_critical, has_oscore}
+use Rattle.osc_scope.specs.{verdict_of}
 use Rattle.osc_scope.specs.declared.verdict.Verdict.{Verdict}
 use Rattle.osc_scope.specs.declared.verdict.Verdict.TheVariants.{Granted}
 use Rattle.osc_message.specs.declared.heard.Heard.{Heard}
 use Rattle.osc_message.specs.declared.heard.Heard.TheVariants as heard
-use Rattle.osc_message.specs.Sending.{is_confirmable}
+use Rattle.osc_message.specs.{is_confirmable}
 use Rattle.osc_server.specs.declared.case.Case.{Case}
 use Rattle.osc_server.specs.declared.case.Case.TheVariants.{Unused, BadOption, ProxyAsked, Protected, Posted, NotPosted, OpenGet, Unauthorised}
 

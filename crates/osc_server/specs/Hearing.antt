@@ -1,15 +1,12 @@
 -- The steps of a server: a datagram comes to it, or the time for what is due.
 use Rattle.std.specs.Prelude.{◌≡◌, ℕ, List, []}
 use Rattle.osc_model.specs.Arrival.{Arrival}
-use Rattle.osc_model.specs.Step.{sends}
+use Rattle.osc_model.specs.{sends}
 use Rattle.osc_model.specs.declared.node.Moment.{Moment}
 use Rattle.osc_model.specs.declared.step.Step.{Step}
-use Rattle.osc_message.specs.Endpoint.{after_tick}
-use Rattle.osc_message.specs.Heard.{heard}
-use Rattle.osc_message.specs.Received.{Receives}
-use Rattle.osc_message.specs.Sending.{AreSendable}
+use Rattle.osc_message.specs.{after_tick, heard, Receives, AreSendable}
 use Rattle.osc_message.specs.declared.received.Received.{Received}
-use Rattle.osc_ccm.specs.Ciphers.{Sealings}
+use Rattle.osc_ccm.specs.{Sealings}
 use Rattle.osc_server.specs.State.{State}
 use Rattle.osc_server.specs.Table.{Answers}
 use Rattle.osc_server.specs.Told.{AreTold}

@@ -1,10 +1,9 @@
 -- What a server keeps.
 use Rattle.osc_model.specs.Tree.{Tree}
 use Rattle.osc_model.specs.Scope.{Scope}
-use Rattle.osc_authz.specs.Contexts.{of_tokens}
-use Rattle.osc_authz.specs.Desk.{DeskState}
-use Rattle.osc_message.specs.Endpoint.{EndpointState}
-use Rattle.osc_run.specs.States.{ServerState}
+use Rattle.osc_authz.specs.{of_tokens, DeskState}
+use Rattle.osc_message.specs.{EndpointState}
+use Rattle.osc_run.specs.{ServerState}
 
 -- the resources, the security contexts with the desk that adds them, what needs no protection, and the message layer
 pub record State : Type 0 where

@@ -2,10 +2,9 @@
 use Rattle.std.specs.Prelude.{Bool, false, []}
 use Rattle.osc_model.specs.declared.node.Moment.{Moment}
 use Rattle.osc_model.specs.declared.step.Step.{Step}
-use Rattle.osc_message.specs.Endpoint.{fresh}
-use Rattle.osc_ccm.specs.Ciphers.{Sealings}
-use Rattle.osc_run.specs.Nodes.{Cause, Came, Due, moment_of}
-use Rattle.osc_run.specs.ServerKinds.{ServerStep}
+use Rattle.osc_message.specs.{fresh}
+use Rattle.osc_ccm.specs.{Sealings}
+use Rattle.osc_run.specs.{Cause, Came, Due, moment_of, ServerStep}
 use Rattle.osc_server.specs.Hearing.{Hears, Ticks}
 use Rattle.osc_server.specs.State.{State, core}
 

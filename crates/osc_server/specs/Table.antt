@@ -1,12 +1,9 @@
 -- What a server sends for each thing that it hears, and what it keeps after it.
 use Rattle.std.specs.Prelude.{◌≡◌, ℕ, List, [], ◌∷◌, Option, Some, None, Result, Ok, Err, codes, unwrap_or}
 use Rattle.osc_model.specs.Refusals as refusal
-use Rattle.osc_model.specs.Apply.{apply, apply_read, MayReply}
-use Rattle.osc_model.specs.Arrival.{Arrival, read_as}
-use Rattle.osc_model.specs.Code.{code}
-use Rattle.osc_model.specs.Reply.{bare}
-use Rattle.osc_model.specs.Step.{sends}
-use Rattle.osc_model.specs.StepNotes.{StepNotes, quiet}
+use Rattle.osc_model.specs.{apply, apply_read, MayReply, read_as, code, bare, sends, quiet}
+use Rattle.osc_model.specs.Arrival.{Arrival}
+use Rattle.osc_model.specs.StepNotes.{StepNotes}
 use Rattle.osc_model.specs.declared.algorithm.Algorithm.TheVariants.{EightByteTag}
 use Rattle.osc_model.specs.declared.code.Code.{Code}
 use Rattle.osc_model.specs.declared.context.Side.TheVariants.{Client}
@@ -15,32 +12,25 @@ use Rattle.osc_model.specs.declared.reply.Reply.{Reply}
 use Rattle.osc_model.specs.declared.request.Request.{Request}
 use Rattle.osc_model.specs.declared.step.RefusedRequest.{RefusedRequest}
 use Rattle.osc_model.specs.declared.step.Step.{Step}
-use Rattle.osc_cbor.specs.Spelling.{spelling as item_spelling}
-use Rattle.osc_coap.specs.Message.{Message, Spells, spelling}
-use Rattle.osc_options.specs.Replies.{with_reply, with_error}
+use Rattle.osc_cbor.specs.{spelling as item_spelling}
+use Rattle.osc_coap.specs.{Spells, spelling}
+use Rattle.osc_coap.specs.Message.{Message}
+use Rattle.osc_options.specs.{with_reply, with_error, read_request, IsWithinRanges}
 use Rattle.osc_message.specs.declared.heard.Heard.{Heard}
 use Rattle.osc_message.specs.declared.heard.Heard.TheVariants as heard
 use Rattle.osc_message.specs.declared.handling.Handling.TheVariants.{Dropped, Answered}
-use Rattle.osc_message.specs.Endpoint.{EndpointState, settled}
-use Rattle.osc_message.specs.Sending.{rejection, reply_start, replied, datagram}
-use Rattle.osc_context.specs.Algorithm.{algorithm_of}
-use Rattle.osc_context.specs.Derivation.{key_of}
-use Rattle.osc_window.specs.Window.{IsFresh}
-use Rattle.osc_protect.specs.Aad.{aad_of}
-use Rattle.osc_ccm.specs.Ciphers.{Sealings}
-use Rattle.osc_protect.specs.Protection.{SealedRequest, IsRequest, IsProtectedResponse, request_nonce}
-use Rattle.osc_authz.specs.Desk.{DeskState}
-use Rattle.osc_authz.specs.Errors.{post_number}
-use Rattle.osc_authz.specs.Exchange.{answer_item}
+use Rattle.osc_message.specs.{EndpointState, settled, rejection, reply_start, replied, datagram}
+use Rattle.osc_context.specs.{algorithm_of, key_of}
+use Rattle.osc_window.specs.{IsFresh}
+use Rattle.osc_protect.specs.{aad_of, SealedRequest, IsRequest, IsProtectedResponse, request_nonce}
+use Rattle.osc_ccm.specs.{Sealings}
+use Rattle.osc_authz.specs.{DeskState, post_number, answer_item, Posts, code_of, meant, accepted}
 use Rattle.osc_authz.specs.SecurityContext.{SecurityContext}
-use Rattle.osc_authz.specs.Post.{Posts, code_of}
 use Rattle.osc_authz.specs.Posting.{Posting}
-use Rattle.osc_authz.specs.Table.{meant, accepted}
 use Rattle.osc_authz.specs.declared.error.PostError.{PostError}
 use Rattle.osc_authz.specs.declared.post.Post.{Post}
 use Rattle.osc_authz.specs.declared.post.PostAnswer.{PostAnswer}
-use Rattle.osc_run.specs.ServerKinds.{opening_note, reply_note, Replies as AppliesTo}
-use Rattle.osc_options.specs.Texts.{read_request, IsWithinRanges}
+use Rattle.osc_run.specs.{opening_note, reply_note, Replies as AppliesTo}
 use Rattle.osc_server.specs.Case.{case_of}
 use Rattle.osc_server.specs.State.{State}
 use Rattle.osc_server.specs.declared.case.Case.{Case}

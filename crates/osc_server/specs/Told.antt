@@ -7,14 +7,14 @@ use Rattle.osc_model.specs.declared.algorithm.Algorithm.TheVariants.{EightByteTa
 use Rattle.osc_model.specs.declared.step.Datagram.{Datagram}
 use Rattle.osc_model.specs.declared.step.Note.{Note}
 use Rattle.osc_model.specs.declared.step.Step.{Step}
-use Rattle.osc_coap.specs.Message.{Message, Spells, spelling}
-use Rattle.osc_options.specs.Split.{has_oscore}
-use Rattle.osc_authz.specs.Post.{IsOpened as OpensToken}
-use Rattle.osc_authz.specs.Posting.{OpenedToken}
-use Rattle.osc_message.specs.Heard.{noted_reply}
-use Rattle.osc_run.specs.Seals.{IsOpenOf, IsSealOf}
-use Rattle.osc_token.specs.Token.{token_note}
-use Rattle.osc_ccm.specs.Ciphers.{Sealings}
+use Rattle.osc_coap.specs.{Spells, spelling}
+use Rattle.osc_coap.specs.Message.{Message}
+use Rattle.osc_options.specs.{has_oscore}
+use Rattle.osc_authz.specs.{IsOpened as OpensToken, OpenedToken}
+use Rattle.osc_message.specs.{noted_reply}
+use Rattle.osc_run.specs.{IsOpenOf, IsSealOf}
+use Rattle.osc_token.specs.{token_note}
+use Rattle.osc_ccm.specs.{Sealings}
 use Rattle.osc_server.specs.State.{State}
 
 -- `is_sealing algorithm` is the relation of the algorithm's cipher

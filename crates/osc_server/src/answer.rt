@@ -1,8 +1,8 @@
 //! The messages that answer.
 ghost use Rattle.std.specs.Prelude.{◌≡◌, ◌≤◌, length};
-ghost use Rattle.osc_coap.specs.Message.{spelling};
+ghost use Rattle.osc_coap.specs.{spelling};
 ghost use Rattle.osc_model.specs.declared.reply.Reply.{Reply as AnyReply};
-ghost use Rattle.osc_protect.specs.Protection.{reply_with_header};
+ghost use Rattle.osc_protect.specs.{reply_with_header};
 ghost use Rattle.osc_server.specs.Inner.Parts.{FitsAResource, IsSentAs};
 ghost use Rattle.osc_server.specs.Table.{reply_to as reply_to_of, refusal_to as refusal_to_of};
 

@@ -1,17 +1,17 @@
 //! Laws of the definitions, for the crates above. These functions do nothing: whoever calls one has its clauses for a proof.
 ghost use Rattle.std.specs.Prelude.{◌≡◌, ◌<◌, ◌≤◌, ℕ, List, length};
 ghost use Rattle.std.specs.Option.{ForSome};
-ghost use Rattle.osc_authz.specs.Desk.{DeskState};
+ghost use Rattle.osc_authz.specs.{DeskState};
 ghost use Rattle.osc_authz.specs.SecurityContext.{SecurityContext};
 ghost use Rattle.osc_coap.specs.Message.{Message};
-ghost use Rattle.osc_model.specs.Apply.{apply_read};
+ghost use Rattle.osc_model.specs.{apply_read, IsWithinLimits};
 ghost use Rattle.osc_model.specs.Arrival.{Arrival};
 ghost use Rattle.osc_model.specs.Scope.{Scope};
-ghost use Rattle.osc_model.specs.Tree.{Tree, IsWithinLimits};
+ghost use Rattle.osc_model.specs.Tree.{Tree};
 ghost use Rattle.osc_model.specs.declared.reply.Reply.{Reply as AnyReply};
-ghost use Rattle.osc_protect.specs.Protection.{SealedRequest};
-ghost use Rattle.osc_run.specs.ServerKinds.{Replies as AppliesTo};
-ghost use Rattle.osc_options.specs.Texts.{read_request, reply_text};
+ghost use Rattle.osc_protect.specs.{SealedRequest};
+ghost use Rattle.osc_run.specs.{Replies as AppliesTo};
+ghost use Rattle.osc_options.specs.{read_request, reply_text};
 ghost use Rattle.osc_server.specs.Table.{IsOpened, IsRefused};
 ghost use Rattle.osc_server.specs.declared.refusal.Refusal.{Refusal as AnyRefusal};
 

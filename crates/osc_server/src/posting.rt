@@ -1,7 +1,7 @@
 //! The answers to posts at authz-info (RFC 9200 section 5.10.1, RFC 9203 section 4.2).
 ghost use Rattle.std.specs.Prelude.{◌≡◌, ◌≤◌, length};
-ghost use Rattle.osc_coap.specs.Message.{spelling};
-ghost use Rattle.osc_model.specs.StepNotes.{quiet};
+ghost use Rattle.osc_coap.specs.{spelling};
+ghost use Rattle.osc_model.specs.{quiet};
 ghost use Rattle.osc_server.specs.Table.{nonce_of_post, post_reply as post_reply_of, refusal_of_post, reply_to as reply_to_of};
 
 use crate::Endpoint;

@@ -1,20 +1,15 @@
 //! The server.
 ghost use Rattle.std.specs.Prelude.{◌≡◌, ◌≤◌, ◌<◌, ℕ, List, [], ◌∷◌, length, false, true, IsOk, IfOk, None, OnErr, Some};
 ghost use Rattle.std.specs.List.{All};
-ghost use Rattle.osc_authz.specs.Table.{IsTable};
-ghost use Rattle.osc_coap.specs.Message.{Message, Spells, spelling};
-ghost use Rattle.osc_message.specs.Endpoint.{fresh};
-ghost use Rattle.osc_message.specs.Heard.{AnswersAlone, heard as heard_as};
-ghost use Rattle.osc_message.specs.Received.{Receives};
+ghost use Rattle.osc_authz.specs.{IsTable};
+ghost use Rattle.osc_coap.specs.{Spells, spelling};
+ghost use Rattle.osc_coap.specs.Message.{Message};
+ghost use Rattle.osc_message.specs.{fresh, AnswersAlone, heard as heard_as, Receives, FitsDatagram, datagram, is_confirmable as is_confirmable_of, rejection as rejection_of, acts};
 ghost use Rattle.osc_message.specs.declared.received.Received.{Received as AnyReceived};
-ghost use Rattle.osc_model.specs.Apply.{apply, MayReply};
-ghost use Rattle.osc_model.specs.Step.{sends};
-ghost use Rattle.osc_model.specs.StepNotes.{quiet};
+ghost use Rattle.osc_model.specs.{apply, MayReply, sends, quiet};
 ghost use Rattle.osc_model.specs.declared.node.Moment.{Moment as AnyMoment};
-ghost use Rattle.osc_run.specs.ServerKinds.{ServerStep};
-ghost use Rattle.osc_message.specs.Sending.{FitsDatagram, datagram, is_confirmable as is_confirmable_of, rejection as rejection_of};
+ghost use Rattle.osc_run.specs.{ServerStep};
 ghost use Rattle.osc_server.specs.Case.{IsAnswered, IsNewAnswered, case_of as case_in};
-ghost use Rattle.osc_message.specs.Ticks.{acts};
 ghost use Rattle.osc_server.specs.Hearing.{Hears, Ticks};
 ghost use Rattle.osc_server.specs.Inner.Parts.{AsksGet, FitsAResource, HeardSendsTo, IsMessage, SendsTo, noted_by};
 ghost use Rattle.osc_server.specs.State.{core};
@@ -64,8 +59,7 @@ impl Model for Server {
     ghost use Rattle.osc_server.specs.State.{State};
     ghost use Rattle.osc_server.specs.Inner.Parts.{IsQuiet};
     ghost use Rattle.std.specs.Coded.{codes};
-    ghost use Rattle.osc_model.specs.Scope.{coded_scope};
-    ghost use Rattle.osc_model.specs.Tree.{coded_tree};
+    ghost use Rattle.osc_model.specs.{coded_scope, coded_tree};
 
     ghost Value = { State };
 

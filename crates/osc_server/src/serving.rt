@@ -1,21 +1,20 @@
 //! Protected requests (RFC 8613 sections 8.2 and 8.3): a request is opened without memory until it is known to be genuine, then all
 //! memory is taken before the number is accepted, and nothing fails from there but what is answered by 5.00.
 ghost use Rattle.std.specs.Prelude.{◌≡◌, ◌<◌, ◌≤◌, ◌+◌, ℕ, List, length, Some, None, IfOk, IfErr, IfSome, IfNone, OnErr, OnOk};
-ghost use Rattle.osc_coap.specs.Message.{Message as AnyMessage, spelling};
+ghost use Rattle.osc_coap.specs.{spelling};
+ghost use Rattle.osc_coap.specs.Message.{Message as AnyMessage};
 ghost use Rattle.osc_authz.specs.SecurityContext.{SecurityContext};
-ghost use Rattle.osc_authz.specs.Table.{accepted, meant};
-ghost use Rattle.osc_context.specs.Algorithm.{algorithm_of};
-ghost use Rattle.osc_context.specs.Derivation.{accepted_of};
+ghost use Rattle.osc_authz.specs.{accepted, meant};
+ghost use Rattle.osc_context.specs.{algorithm_of, accepted_of};
 ghost use Rattle.osc_model.specs.declared.context.Side.TheVariants.{Server};
-ghost use Rattle.osc_model.specs.Apply.{apply_read};
-ghost use Rattle.osc_protect.specs.Aad.{aad_of};
-ghost use Rattle.osc_protect.specs.Protection.{IsFor, IsRequest, IsProtectedResponse};
-ghost use Rattle.osc_run.specs.ServerKinds.{opening_note, reply_note, Replies as AppliesTo};
-ghost use Rattle.osc_options.specs.Texts.{read_request, IsWithinRanges};
+ghost use Rattle.osc_model.specs.{apply_read};
+ghost use Rattle.osc_protect.specs.{aad_of, IsFor, IsRequest, IsProtectedResponse};
+ghost use Rattle.osc_run.specs.{opening_note, reply_note, Replies as AppliesTo};
+ghost use Rattle.osc_options.specs.{read_request, IsWithinRanges};
 ghost use Rattle.osc_model.specs.Tree.{Tree as AnyTree};
 ghost use Rattle.osc_server.specs.Inner.Parts.{FitsAResource, IsReplyOf, IsSentAs, IsServedAs, IsTakenFor, message_beside_sealed, reply_length, read_length as read_length_of, text_beside_payload};
 ghost use Rattle.osc_server.specs.Table.{IsMeant, IsOpened, IsRefused, IsSealed, notes_of_request, reply_to as reply_to_of};
-ghost use Rattle.osc_window.specs.Window.{IsFresh};
+ghost use Rattle.osc_window.specs.{IsFresh};
 
 use crate::Endpoint;
 use crate::answer::{header_to, sent_as};

@@ -8,7 +8,7 @@ use Rattle.std.specs.Net.Text.{ipv4_text, socket_v4_text}
 use Rattle.std.proofs.NetLemmas.Texts.{IsPortText-decimal}
 use Rattle.std.proofs.NetLemmas.Theorems.{IsSocketV4Text_unique}
 use Rattle.osc_model.specs.declared.node.Peer.{Peer}
-use Rattle.osc_settings.specs.Values.{IsAddressFrom}
+use Rattle.osc_settings.specs.{IsAddressFrom}
 
 -- the peer of a socket address
 abbrev pub peer_of : SocketAddrV4 → Peer

@@ -3,7 +3,7 @@ use Rattle.std.proofs.Common.{◌≡◌, ℕ, ◌*◌, List, length, Ok, Err, sy
 use Rattle.hex.specs.Hex.{decode_of, decode_sized}
 use Rattle.hex.specs.declared.error.FromHexError.{FromHexError}
 use Rattle.hex.proofs.HexLemmas.{decode_of-ok, decode_sized-ok, decode_sized-twice}
-use Rattle.osc_settings.specs.Values.{SpellsBytes}
+use Rattle.osc_settings.specs.{SpellsBytes}
 
 -- as many bytes as there is room for
 pub array_read : (n : ℕ) (text bytes : List ℕ) → decode_sized text n ≡ Ok bytes → SpellsBytes n n text bytes

@@ -6,8 +6,7 @@ use Rattle.std.specs.Option.{is_some}
 use Rattle.std.specs.Str.{bytes_eq}
 use Rattle.toml.specs.View.{members_view}
 use Rattle.toml.specs.declared.value.Value.{Value}
-use Rattle.osc_settings.specs.Document.{other_key}
-use Rattle.osc_settings.specs.Keys.{name_of}
+use Rattle.osc_settings.specs.{other_key, name_of}
 use Rattle.osc_settings.specs.declared.key.SettingsKey.{SettingsKey}
 
 pub first_member : (keys : List SettingsKey) (es : List (String Global × Value))

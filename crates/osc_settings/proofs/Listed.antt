@@ -5,11 +5,8 @@ use Rattle.std.specs.Option.{is_some, option_and_then}
 use Rattle.toml.specs.Data.{Data, Items, Members, array, as_array, get_member}
 use Rattle.toml.specs.View.{view, items_view}
 use Rattle.toml.specs.declared.value.Value.{Value}
-use Rattle.osc_settings.specs.Document.{StandForEach, ListedAt}
-use Rattle.osc_settings.specs.Faults.{IsArrayAt, IsFaultAt, IsFirstFault, IsItemFault, IsKeyFault}
-use Rattle.osc_settings.specs.Keys.{name_of}
+use Rattle.osc_settings.specs.{StandForEach, ListedAt, IsArrayAt, IsFaultAt, IsFirstFault, IsItemFault, IsKeyFault, name_of, IsTargetTable}
 use Rattle.osc_settings.specs.Inner.Reading.{AreTargetsRefused, IsItemRefused, IsRefusal, IsRefusedAs, read_at, untyped_at}
-use Rattle.osc_settings.specs.Settings.{IsTargetTable}
 use Rattle.osc_settings.specs.declared.error.KeyFault.{KeyFault}
 use Rattle.osc_settings.specs.declared.error.SettingsError.{SettingsError}
 use Rattle.osc_settings.specs.declared.error.SettingsError.TheVariants as error

@@ -1,11 +1,7 @@
 -- A document that is at fault stands for no settings.
 use Rattle.std.proofs.Common.{◌≡◌, ◌≢◌, ℕ, zero, suc, List, [], ◌∷◌, Option, Some, None, refl, inl, inr, sym, ◌∙◌, subst}
 use Rattle.toml.specs.Data.{Data, Items, Members, no_items, item, array, get_member}
-use Rattle.osc_settings.specs.Document.{IsPortAt, ListedAt, MaySpellAt, SpelledAt, StandForEach, other_key}
-use Rattle.osc_settings.specs.Faults.{IsArrayAt, IsClientFault, IsFaultAt, IsFaultOfProxy, IsFirstFault, IsItemFault, IsKeyFault, IsOriginFault, IsOther, IsServerFault, IsTargetFault, IsTextAt, IsWrongAt}
-use Rattle.osc_settings.specs.Keys.{name_of}
-use Rattle.osc_settings.specs.Settings.{AreClientSettings, AreProxySettings, AreServerSettings, IsOrigin, IsPathText, IsTarget, IsTargetTable, client_keys, proxy_keys, server_keys, target_keys}
-use Rattle.osc_settings.specs.Values.{IsAddress, IsHost, IsOpenAddress, SpellsBytes, SpellsHex}
+use Rattle.osc_settings.specs.{IsPortAt, ListedAt, MaySpellAt, SpelledAt, StandForEach, other_key, IsArrayAt, IsClientFault, IsFaultAt, IsFaultOfProxy, IsFirstFault, IsItemFault, IsKeyFault, IsOriginFault, IsOther, IsServerFault, IsTargetFault, IsTextAt, IsWrongAt, name_of, AreClientSettings, AreProxySettings, AreServerSettings, IsOrigin, IsPathText, IsTarget, IsTargetTable, client_keys, proxy_keys, server_keys, target_keys, IsAddress, IsHost, IsOpenAddress, SpellsBytes, SpellsHex}
 use Rattle.osc_settings.specs.declared.client.ClientSettings.{ClientSettings}
 use Rattle.osc_settings.specs.declared.error.KeyFault.{KeyFault}
 use Rattle.osc_settings.specs.declared.error.SettingsError.{SettingsError}

@@ -4,12 +4,8 @@ use Rattle.std.specs.Option.{IsSomeAnd, is_some}
 use Rattle.toml.specs.Data.{Members, get_member}
 use Rattle.toml.specs.Parse.{parse_document}
 use Rattle.osc_model.specs.declared.node.Peer.{Peer}
-use Rattle.osc_settings.specs.Document.{IsLeftOut, IsPortAt, MaySpellAt, SpelledAt, StandsFor, other_key}
-use Rattle.osc_settings.specs.Faults.{IsFaultAt, IsFaultOfProxy, IsKeyFault, IsOriginFault, IsProxyFault, IsWrongAt, Lacks}
-use Rattle.osc_settings.specs.Keys.{name_of}
+use Rattle.osc_settings.specs.{IsLeftOut, IsPortAt, MaySpellAt, SpelledAt, StandsFor, other_key, IsFaultAt, IsFaultOfProxy, IsKeyFault, IsOriginFault, IsProxyFault, IsWrongAt, Lacks, name_of, IsOriginPort, IsSalt, proxy_keys, IsAddress, IsHost, SpellsBytes}
 use Rattle.osc_settings.specs.Inner.Reading.{AreTargetsRefused, IsNoDocument}
-use Rattle.osc_settings.specs.Settings.{IsOriginPort, IsSalt, proxy_keys}
-use Rattle.osc_settings.specs.Values.{IsAddress, IsHost, SpellsBytes}
 use Rattle.osc_settings.specs.declared.error.KeyFault.{KeyFault}
 use Rattle.osc_settings.specs.declared.error.SettingsError.{SettingsError}
 use Rattle.osc_settings.specs.declared.error.SettingsError.TheVariants.{NotToml, Key, Target, Memory}

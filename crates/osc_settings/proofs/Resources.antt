@@ -4,11 +4,8 @@ use Rattle.std.specs.Option.{is_some, option_and_then}
 use Rattle.toml.specs.Data.{Data, Items, Members, array, string, table, as_array, as_str, as_table, get_member}
 use Rattle.toml.specs.View.{items_view}
 use Rattle.toml.specs.declared.value.Value.{Value}
-use Rattle.osc_settings.specs.Document.{StandForEach}
-use Rattle.osc_settings.specs.Faults.{IsFaultAt, IsKeyFault, IsWrongAt}
+use Rattle.osc_settings.specs.{StandForEach, IsFaultAt, IsKeyFault, IsWrongAt, name_of, AreResources, AreResourcesAt, IsPathOf, IsResource, IsResourceTable}
 use Rattle.osc_settings.specs.Inner.Reading.{IsRefusal, SpellsPath, StandForFew, read_at, untyped_at}
-use Rattle.osc_settings.specs.Keys.{name_of}
-use Rattle.osc_settings.specs.Settings.{AreResources, AreResourcesAt, IsPathOf, IsResource, IsResourceTable}
 use Rattle.osc_settings.specs.declared.error.SettingsError.{SettingsError}
 use Rattle.osc_settings.specs.declared.error.ValueError.{ValueError}
 use Rattle.osc_settings.specs.declared.error.ValueError.TheVariants.{Bad, Memory}

@@ -2,12 +2,9 @@
 use Rattle.std.proofs.Common.{◌≡◌, ℕ, ℤ, List, Option, Some, None, Result, Ok, Err, refl, sym, ap, subst, ◌∙◌, inl, inr, if◌then◌else◌, MatchResult}
 use Rattle.std.specs.Option.{is_some, option_and_then}
 use Rattle.toml.specs.Data.{Data, Items, Members, string, integer, array, table, as_str, as_integer, as_array, as_table, get_member}
-use Rattle.osc_settings.specs.Document.{SpelledAt}
+use Rattle.osc_settings.specs.{SpelledAt, IsPathText, IsTarget, IsTargetTable, IsFaultAt, IsItemFault, IsKeyFault, IsTargetFault, IsTextAt, name_of}
 use Rattle.osc_settings.specs.Inner.Reading.{IsRefusal, SpellsPath, read_at, text_at, untyped_at}
-use Rattle.osc_settings.specs.Settings.{IsPathText, IsTarget, IsTargetTable}
 use Rattle.osc_settings.specs.declared.proxy.TargetSetting.{TargetSetting}
-use Rattle.osc_settings.specs.Faults.{IsFaultAt, IsItemFault, IsKeyFault, IsTargetFault, IsTextAt}
-use Rattle.osc_settings.specs.Keys.{name_of}
 use Rattle.osc_settings.specs.declared.error.KeyFault.TheVariants.{Missing, Wrong}
 use Rattle.osc_settings.specs.declared.error.SettingsError.{SettingsError}
 use Rattle.osc_settings.specs.declared.error.ValueError.{ValueError}

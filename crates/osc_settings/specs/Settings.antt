@@ -1,8 +1,7 @@
 -- Which settings a document stands for, program by program. A key that isn't named here is in none of them.
 use Rattle.std.specs.Prelude.{◌≡◌, ◌⊎◌, ◌≤◌, ℕ, pos, List, [], ◌∷◌, length, Option, Some, None, codes}
 use Rattle.toml.specs.Data.{Data, Members, string, integer, table, get_member}
-use Rattle.osc_model.specs.Path.{IsPath}
-use Rattle.osc_model.specs.Tree.{longest_payload, most_resources}
+use Rattle.osc_model.specs.{IsPath, longest_payload, most_resources}
 use Rattle.osc_model.specs.declared.algorithm.Algorithm.{Algorithm}
 use Rattle.osc_model.specs.declared.algorithm.Algorithm.TheVariants.{EightByteTag}
 use Rattle.osc_settings.specs.Document.{other_key, IsLeftOut, SpelledAt, MaySpellAt, IsAlgorithmAt, IsPortAt, ListedAt}

@@ -2,7 +2,7 @@
 use Rattle.std.specs.Prelude.{◌≡◌, ℕ, ◌≤◌, ℤ, pos, List, ◌++◌, length, codes, decimal, Ok}
 use Rattle.std.specs.Net.Grammar.{IsDotted}
 use Rattle.hex.specs.Hex.{decode_of}
-use Rattle.osc_model.specs.Algorithm.{algorithm_number}
+use Rattle.osc_model.specs.{algorithm_number}
 use Rattle.osc_model.specs.declared.algorithm.Algorithm.{Algorithm}
 use Rattle.osc_model.specs.declared.node.Peer.{Peer}
 

@@ -1,14 +1,13 @@
 -- A client that a line grants to is the holder that the lines make of it.
 use Rattle.std.proofs.Common.{◌≡◌, ◌∙◌, ap, ℕ, List}
 use Rattle.osc_client.specs.declared.route.Route.{Route}
-use Rattle.osc_script.specs.Grants.{iv_of}
-use Rattle.osc_script.specs.Node.{address_of}
+use Rattle.osc_script.specs.{iv_of, address_of}
 use Rattle.osc_script.specs.declared.client_name.ClientName.{ClientName}
 use Rattle.osc_script.specs.declared.line.Line.{Line}
 use Rattle.osc_script.specs.declared.node.Node.TheVariants.{Client}
 use Rattle.osc_token.specs.declared.claims.Claims.{Claims}
 use Rattle.osc_world.specs.declared.start.Holder.{Holder}
-use Rattle.osc_simulation.specs.Simulation.{holder_of, proxy_of, way_by}
+use Rattle.osc_simulation.specs.{holder_of, proxy_of, way_by}
 
 pub holder_is : (lines : List Line) (number : ℕ) (client : ClientName) (granted : Claims) (way : Route) (claims : Claims) (holder : Holder)
     → way ≡ way_by (proxy_of client lines) → claims ≡ granted

@@ -2,12 +2,10 @@
 use Rattle.std.proofs.Common.{◌≡◌, ◌∙◌, ◌==◌, ap, if◌then◌else◌, sym, subst, refl, ℕ, ◌+◌, ◌<◌, drop, get_or, length, add-one, List, [], ◌∷◌, ◌++◌, append_assoc, append-nil, Bool, codes}
 use Rattle.std.proofs.Math.Seq.{drop-cons}
 use Rattle.osc_script.specs.declared.client_name.ClientName.{ClientName}
-use Rattle.osc_world.specs.Worlds.{State}
+use Rattle.osc_world.specs.{State}
 use Rattle.osc_world.specs.declared.log.Record.{Record}
 use Rattle.osc_world.specs.declared.log.SentDatagram.{SentDatagram}
-use Rattle.osc_simulation.specs.Text.{line}
-use Rattle.osc_simulation.specs.Trace.{words_before}
-use Rattle.osc_simulation.specs.Records.{PrintsSent, PrintAllSent, PrintsRecord, PrintAllRecords}
+use Rattle.osc_simulation.specs.{line, words_before, PrintsSent, PrintAllSent, PrintsRecord, PrintAllRecords}
 
 pub datagrams_more : (with_bytes : Bool) (number : ℕ) (left left-after : List SentDatagram) (d : SentDatagram) (text line : List ℕ) (P : List ℕ → Type 0)
     → left ≡ d ∷ left-after → PrintsSent with_bytes number d line

@@ -4,14 +4,13 @@ use Rattle.std.specs.FinMap as map
 use Rattle.std.specs.List.{sum_by}
 use Rattle.std.proofs.lemmas.List.Sums.{sum_by-append}
 use Rattle.std.specs.Cmp.Lexicographic.{nat_list_cmp_total}
-use Rattle.osc_model.specs.Tree.{Tree, longest_payload}
+use Rattle.osc_model.specs.{longest_payload, path_cmp}
+use Rattle.osc_model.specs.Tree.{Tree}
 use Rattle.osc_model.specs.declared.resource.Resource.{Resource}
-use Rattle.osc_script.specs.Line.{Says, is_put}
-use Rattle.osc_model.specs.Path.{path_cmp}
-use Rattle.osc_script.specs.Script.{StandFor, IsScript, lines_of}
+use Rattle.osc_script.specs.{Says, is_put, StandFor, IsScript, lines_of}
 use Rattle.osc_script.specs.declared.line.Line.{Line}
 use Rattle.osc_script.specs.declared.line.Line.TheVariants.{Skipped, Put}
-use Rattle.osc_simulation.specs.SetUp.{CanPutAll}
+use Rattle.osc_simulation.specs.{CanPutAll}
 
 count_put : (above : List Line) (line : Line) → count_by is_put (above ++ line ∷ []) ≡ count_by is_put above + cond (is_put line) 1 0
 count_put above line = let count : Line → ℕ = λ l. cond (is_put l) 1 0 in sum_by-append count above (line ∷ []) ∙ ap (λ n. sum_by count above + n) (zero-add (count line))

@@ -4,7 +4,7 @@ use Rattle.std.proofs.Math.Seq.{drop-cons, take-suc}
 use Rattle.std.specs.Io.KnownBytes.{Appends, Keeps}
 use Rattle.std.specs.Result.{IsErrAnd}
 use Rattle.osc_script.specs.declared.line.Line.{Line}
-use Rattle.osc_simulation.specs.Simulation.{Printing, Prints, PrintsLine}
+use Rattle.osc_simulation.specs.{Printing, Prints, PrintsLine}
 use Rattle.osc_simulation.specs.declared.stage.Stage.{Stage}
 
 -- what is left at an item, and behind it

@@ -1,12 +1,11 @@
 -- What happens by a line of a script, in a world that sent these datagrams.
 use Rattle.std.specs.Prelude.{ℕ, zero, suc, List, length, Option, Some, None, slice_get}
 use Rattle.osc_model.specs.declared.request.Request.{Request}
-use Rattle.osc_coap.specs.Building.{payload_of}
-use Rattle.osc_coap.specs.Plaintext.{plaintext_spelling}
-use Rattle.osc_options.specs.Requests.{path_options}
+use Rattle.osc_coap.specs.{payload_of, plaintext_spelling}
+use Rattle.osc_options.specs.{path_options}
 use Rattle.osc_run.specs.declared.noted.Actor.{Actor}
 use Rattle.osc_run.specs.declared.noted.Actor.TheVariants as actor
-use Rattle.osc_script.specs.Node.{address_of}
+use Rattle.osc_script.specs.{address_of}
 use Rattle.osc_script.specs.declared.node.Node.{Node}
 use Rattle.osc_script.specs.declared.node.Node.TheVariants as node
 use Rattle.osc_script.specs.declared.line.Change.{Change}

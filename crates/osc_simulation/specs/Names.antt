@@ -1,7 +1,7 @@
 -- The clients and the proxies of a script, by the lines that make them, and their numbers in a world.
 use Rattle.std.specs.Prelude.{ℕ, ◌==◌, if◌then◌else◌, List, [], ◌∷◌, ◌++◌, length, Option, Some, None, codes, unwrap_or, slice_get, position}
 use Rattle.std.specs.List.{list_any}
-use Rattle.osc_script.specs.Node.{client_name}
+use Rattle.osc_script.specs.{client_name}
 use Rattle.osc_script.specs.declared.client_name.ClientName.{ClientName}
 use Rattle.osc_script.specs.declared.line.Line.{Line}
 use Rattle.osc_script.specs.declared.line.Line.TheVariants.{Grant, Proxy, Via}

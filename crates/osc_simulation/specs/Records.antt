@@ -1,19 +1,19 @@
 -- What an event of a world prints.
 use Rattle.std.specs.Prelude.{◌≡◌, ℕ, ◌+◌, ◌-◌, Bool, if◌then◌else◌, List, [], ◌∷◌, ◌++◌, Option, Some, None, codes, decimal, drop, take, reverse, slice_get}
 use Rattle.std.specs.Str.{bytes_eq}
-use Rattle.osc_coap.specs.Message.{Message, Spells}
+use Rattle.osc_coap.specs.{Spells}
+use Rattle.osc_coap.specs.Message.{Message}
 use Rattle.osc_model.specs.declared.node.Peer.{Peer}
 use Rattle.osc_model.specs.declared.step.ClientResult.{ClientResult}
 use Rattle.osc_model.specs.declared.step.ClientResult.TheVariants.{Made, Answer, Unverified, TimedOut, Refused}
 use Rattle.osc_model.specs.declared.step.Entry.{Entry}
-use Rattle.osc_run.specs.Notes.{Noted}
-use Rattle.osc_run.specs.States.{Minted}
+use Rattle.osc_run.specs.{Noted, Minted}
 use Rattle.osc_run.specs.declared.noted.Actor.{Actor}
 use Rattle.osc_run.specs.declared.noted.Actor.TheVariants.{Client}
-use Rattle.osc_script.specs.Node.{name_of, address_of}
+use Rattle.osc_script.specs.{name_of, address_of}
 use Rattle.osc_script.specs.declared.client_name.ClientName.{ClientName}
 use Rattle.osc_script.specs.declared.node.Node.{Node}
-use Rattle.osc_world.specs.Worlds.{State}
+use Rattle.osc_world.specs.{State}
 use Rattle.osc_world.specs.declared.log.Record.{Record}
 use Rattle.osc_world.specs.declared.log.SentDatagram.{SentDatagram}
 use Rattle.osc_simulation.specs.Names.{name_of_number}

@@ -1,7 +1,8 @@
 -- What the set-up lines put fits into the tree.
 use Rattle.std.specs.Prelude.{◌≤◌, ◌<◌, List, [], ◌∷◌, length}
 use Rattle.std.specs.FinMap as map
-use Rattle.osc_model.specs.Tree.{Tree, longest_payload, most_resources}
+use Rattle.osc_model.specs.{longest_payload, most_resources}
+use Rattle.osc_model.specs.Tree.{Tree}
 use Rattle.osc_script.specs.declared.line.Line.{Line}
 use Rattle.osc_script.specs.declared.line.Line.TheVariants.{Put}
 use Rattle.osc_simulation.specs.Simulation.{tree_after}

@@ -2,29 +2,21 @@
 use Rattle.std.specs.Prelude.{◌≡◌, ◌⊎◌, ◌↔◌, ℕ, ◌+◌, ◌==◌, if◌then◌else◌, Bool, true, false, IsTrue, List, [], ◌∷◌, ◌++◌, drop, length, Option, Some, None, codes}
 use Rattle.std.specs.FinMap as map
 use Rattle.std.specs.FinSet as set
-use Rattle.osc_model.specs.Isolation.{Answer, alone}
+use Rattle.osc_model.specs.{Answer, alone, exactly}
 use Rattle.osc_model.specs.Tree.{Tree}
-use Rattle.osc_model.specs.Scope.{Scope, exactly}
+use Rattle.osc_model.specs.Scope.{Scope}
 use Rattle.osc_model.specs.declared.code.Method.TheVariants.{Get}
-use Rattle.osc_ccm.specs.Ccm.{IsSealing}
-use Rattle.osc_client.specs.Route.{HostAndPort}
+use Rattle.osc_ccm.specs.{IsSealing, Sealing, Sealings, Tags, chosen_sealing, chosen_tag}
+use Rattle.osc_client.specs.{HostAndPort}
 use Rattle.osc_client.specs.declared.route.Route.{Route}
 use Rattle.osc_proxy.specs.declared.targets.Target.{Target}
-use Rattle.osc_ccm.specs.Ciphers.{Sealing, Sealings, Tags, chosen_sealing, chosen_tag}
-use Rattle.osc_run.specs.History.{history}
+use Rattle.osc_run.specs.{history, grants_of}
 use Rattle.osc_run.specs.Premise.{Premise}
-use Rattle.osc_run.specs.States.{grants_of}
-use Rattle.osc_options.specs.Texts.{read_request}
-use Rattle.osc_world.specs.Log.{settled}
-use Rattle.osc_world.specs.Nodes.{skipped}
-use Rattle.osc_world.specs.Quiet.{Rounds}
-use Rattle.osc_world.specs.Starts.{Beginning, Enrols, begun, new_proxy}
-use Rattle.osc_world.specs.Worlds.{State, Happens}
+use Rattle.osc_options.specs.{read_request}
+use Rattle.osc_world.specs.{settled, skipped, Rounds, Beginning, Enrols, begun, new_proxy, State, Happens}
 use Rattle.osc_world.specs.declared.event.What.{What}
 use Rattle.osc_world.specs.declared.start.Holder.{Holder}
-use Rattle.osc_script.specs.Grants.{claims_of, iv_of, token_key}
-use Rattle.osc_script.specs.Node.{address_of, client_name}
-use Rattle.osc_script.specs.Script.{IsScript}
+use Rattle.osc_script.specs.{claims_of, iv_of, token_key, address_of, client_name, IsScript}
 use Rattle.osc_script.specs.declared.client_name.ClientName.{ClientName}
 use Rattle.osc_script.specs.declared.line.Line.{Line}
 use Rattle.osc_script.specs.declared.line.Line.TheVariants.{Put, Open, Grant, Via, At, Draw, Drop, Skip, Quiet}

@@ -3,9 +3,9 @@ use Rattle.std.specs.Prelude.{ℕ, ◌==◌, Bool, true, false, if◌then◌else
 use Rattle.std.specs.FinMap as map
 use Rattle.std.specs.List.{list_any}
 use Rattle.hex.specs.Hex.{encode_lower}
-use Rattle.osc_coap.specs.Kind.{kind_name}
+use Rattle.osc_coap.specs.{kind_name}
 use Rattle.osc_coap.specs.Message.{Message}
-use Rattle.osc_model.specs.Isolation.{Answer}
+use Rattle.osc_model.specs.{Answer}
 use Rattle.osc_model.specs.Tree.{Tree}
 use Rattle.osc_model.specs.declared.resource.Resource.{Resource}
 use Rattle.osc_simulation.specs.Text.{line, code_text, format_text, short_text}

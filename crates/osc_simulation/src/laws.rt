@@ -2,7 +2,7 @@
 //! a proof.
 ghost use Rattle.std.specs.Prelude.{ℕ, List};
 ghost use Rattle.std.specs.FinMap as map;
-ghost use Rattle.osc_script.specs.Script.{IsScript};
+ghost use Rattle.osc_script.specs.{IsScript};
 ghost use Rattle.osc_script.specs.declared.line.Line.{Line};
 ghost use Rattle.osc_simulation.specs.SetUp.{CanPutAll};
 

@@ -2,10 +2,9 @@
 ghost use Rattle.std.specs.Prelude.{◌≡◌, ◌+◌, [], IfOk, OnOk, codes, length};
 ghost use Rattle.std.specs.FinMap as map;
 ghost use Rattle.std.specs.FinSet as set;
-ghost use Rattle.osc_script.specs.Grants.{iv_of};
-ghost use Rattle.osc_script.specs.Node.{address_of};
+ghost use Rattle.osc_script.specs.{iv_of, address_of};
 ghost use Rattle.osc_script.specs.declared.node.Node.TheVariants.{Client, Server};
-ghost use Rattle.osc_world.specs.Starts.{Beginning, Enrols};
+ghost use Rattle.osc_world.specs.{Beginning, Enrols};
 ghost use Rattle.osc_simulation.specs.Names.{names_in};
 ghost use Rattle.osc_simulation.specs.Simulation as spec;
 ghost use Rattle.osc_simulation.specs.SetUp.{CanPut, CanPutAll};

@@ -2,8 +2,8 @@
 ghost use Rattle.std.specs.Prelude.{◌≡◌, ◌≢◌, ◌++◌, [], ℕ, List, IfErr, IfOk, OnOk, Err, drop, length};
 ghost use Rattle.std.specs.Io.KnownBytes.{Appends};
 ghost use Rattle.std.specs.FinMap as map;
-ghost use Rattle.osc_run.specs.History.{history};
-ghost use Rattle.osc_script.specs.Script.{IsFirstBad};
+ghost use Rattle.osc_run.specs.{history};
+ghost use Rattle.osc_script.specs.{IsFirstBad};
 ghost use Rattle.osc_simulation.specs.SetUp.{CanPutAll};
 ghost use Rattle.osc_simulation.specs.Records.{PrintAllRecords};
 ghost use Rattle.osc_simulation.specs.Simulation as spec;

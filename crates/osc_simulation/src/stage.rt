@@ -1,6 +1,6 @@
 //! What the lines of a script do to its world.
 ghost use Rattle.std.specs.Prelude.{◌≡◌, IfOk, OnOk, Some, length};
-ghost use Rattle.osc_world.specs.Log.{settled};
+ghost use Rattle.osc_world.specs.{settled};
 ghost use Rattle.osc_simulation.specs.Events.{datagram_number, what_of};
 ghost use Rattle.osc_simulation.specs.Names as names;
 ghost use Rattle.osc_simulation.specs.Draw.{drawn};

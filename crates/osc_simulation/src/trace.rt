@@ -1,7 +1,7 @@
 //! The lines of a trace.
 ghost use Rattle.std.specs.Prelude.{◌≡◌, ◌<◌, ◌+◌, ◌++◌, ◌∷◌, [], true, if◌then◌else◌, IfOk, OnOk, Some, codes, decimal, flat_map, string_bytes};
 ghost use Rattle.std.specs.FinMap as map;
-ghost use Rattle.osc_script.specs.Node.{client_name};
+ghost use Rattle.osc_script.specs.{client_name};
 ghost use Rattle.osc_simulation.specs.Text as text;
 ghost use Rattle.osc_simulation.specs.Trace as spec;
 

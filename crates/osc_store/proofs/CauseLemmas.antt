@@ -12,8 +12,8 @@ use Rattle.sqlite_trees.specs.View.{View, IsStorable, HasCause}
 use Rattle.sqlite_trees.specs.declared.error.StoreError.{StoreError}
 use Rattle.sqlite_trees.specs.declared.error.StoreError.TheVariants.{OutOfMemory, Io, Corrupt, Full, Broken, Unstorable}
 use Rattle.osc_model.specs.declared.resource.Resource.{Resource}
-use Rattle.osc_store.specs.Rows.{format_value, row_of}
-use Rattle.osc_store.specs.Causes.{IsTooLong, Excuses}
+use Rattle.osc_store.specs.{format_value, row_of, Excuses}
+use Rattle.osc_store.specs.Causes.{IsTooLong}
 
 no_bytes : (f : Option ℕ) → length (bytes (format_value f)) ≡ 0
 no_bytes None = refl

@@ -12,10 +12,9 @@ use Rattle.sqlite_pool.proofs.StateLemmas.{may_leave_is}
 use Rattle.sqlite_store.specs.Unopened.{files_of, image, state_of}
 use Rattle.sqlite_store.specs.declared.store.open.Unopened.{Unopened}
 use Rattle.osc_model.specs.Tree.{Tree}
-use Rattle.osc_store.specs.Starting.{Leaves}
+use Rattle.osc_store.specs.{Leaves, faults_of, image_of, outcomes_of, IsOnlyRead}
 use Rattle.osc_store.specs.declared.left.Left.{Left}
 use Rattle.osc_store.specs.declared.left.Left.TheVariants as left
-use Rattle.osc_store.specs.Opening.{faults_of, image_of, outcomes_of, IsOnlyRead}
 use Rattle.osc_store.proofs.FindLemmas.{reads_then}
 
 pool_files : {D : Type 0} {g : Ghosts D} (it : Pool D g)

@@ -29,9 +29,7 @@ use Rattle.osc_store.specs.declared.error.OpenError.{OpenError}
 use Rattle.osc_store.specs.declared.error.OpenError.TheVariants as opening
 use Rattle.sqlite_trees.specs.declared.error.StoreError.{StoreError}
 use Rattle.sqlite_trees.specs.declared.error.StoreError.TheVariants as call
-use Rattle.osc_store.specs.Causes.{by_fault, of_probe}
-use Rattle.osc_store.specs.Starting.{IsEmpty, IsStore, ReadsAs, page}
-use Rattle.osc_store.specs.Opening.{Fails, HasSound, WhyNotOpened, image_of}
+use Rattle.osc_store.specs.{by_fault, of_probe, IsEmpty, IsStore, ReadsAs, page, Fails, HasSound, WhyNotOpened, image_of}
 
 -- ---- reading
 

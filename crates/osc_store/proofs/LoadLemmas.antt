@@ -11,11 +11,10 @@ use Rattle.sqlite_value.specs.Order.{Row, column, bytes}
 use Rattle.sqlite_value.specs.declared.value.Value.{Value}
 use Rattle.sqlite_value.specs.declared.value.Value.TheVariants.{Null, Int}
 use Rattle.sqlite_trees.specs.View.{View, Advances}
-use Rattle.osc_model.specs.Path.{path_cmp}
+use Rattle.osc_model.specs.{path_cmp}
 use Rattle.osc_model.specs.Tree.{Tree}
 use Rattle.osc_model.specs.declared.resource.Resource.{Resource}
-use Rattle.osc_store.specs.Rows.{Holds, format_value, row_of, rows_of}
-use Rattle.osc_store.specs.Loading.{Reads}
+use Rattle.osc_store.specs.{Holds, format_value, row_of, rows_of, Reads}
 
 abbrev pub Entry : Type 0
 Entry = List ℕ × Resource

@@ -17,10 +17,10 @@ use Rattle.sqlite_value.proofs.KeyLemmas.{entry_cmp-plain, entry_cmp_total}
 use Rattle.sqlite_value.proofs.OrderLemmas.{value_cmp-Text}
 use Rattle.sqlite_trees.specs.Tree.{insert_entry, remove_entry, from_key, IsIndex}
 use Rattle.sqlite_trees.proofs.TreeLemmas.{prefix_cmp-one}
-use Rattle.osc_model.specs.Path.{path_cmp}
+use Rattle.osc_model.specs.{path_cmp}
 use Rattle.osc_model.specs.Tree.{Tree}
 use Rattle.osc_model.specs.declared.resource.Resource.{Resource}
-use Rattle.osc_store.specs.Rows.{key_of, row_of, format_value, rows_of}
+use Rattle.osc_store.specs.{key_of, row_of, format_value, rows_of}
 
 abbrev pub Entry : Type 0
 Entry = List ℕ × Resource

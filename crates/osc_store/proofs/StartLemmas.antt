@@ -44,11 +44,7 @@ use Rattle.sqlite_store.proofs.AlikeLemmas.{same_file}
 use Rattle.sqlite_store.proofs.BuildLemmas.{new_is_empty}
 use Rattle.sqlite_store.proofs.ListingLemmas.{past_version, named_tree}
 use Rattle.osc_model.specs.Tree.{Tree}
-use Rattle.osc_store.specs.Rows.{rows_of, Holds}
-use Rattle.osc_store.specs.Starting.{schema, statement, page, FindsTree, HoldsTree, IsEmpty, IsUnmade, Leaves, ListsTable, ReadsAs}
-use Rattle.osc_store.specs.Keeping.{Keeps, MayHold}
-use Rattle.osc_store.specs.Causes.{of_open}
-use Rattle.osc_store.specs.Opening.{Fails, Fits, HasSound, IsOwnList, Shows}
+use Rattle.osc_store.specs.{rows_of, Holds, schema, statement, page, FindsTree, HoldsTree, IsEmpty, IsUnmade, Leaves, ListsTable, ReadsAs, Keeps, MayHold, of_open, Fails, Fits, HasSound, IsOwnList, Shows}
 use Rattle.osc_store.proofs.FindLemmas.{page_sized, same_size, same_pages, sound_is_something}
 use Rattle.osc_store.proofs.LoadLemmas.{one_tree}
 use Rattle.osc_store.proofs.ViewLemmas.{no_rows}

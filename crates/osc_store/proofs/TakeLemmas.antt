@@ -20,8 +20,7 @@ use Rattle.sqlite_store.specs.Unopened.{image, state_of, HasSomeFile, Opens}
 use Rattle.sqlite_store.specs.declared.store.open.Unopened.{Unopened}
 use Rattle.sqlite_store.proofs.AlikeLemmas.{same_file}
 use Rattle.osc_model.specs.Tree.{Tree}
-use Rattle.osc_store.specs.Starting.{FindsTree, IsStore, page, schema}
-use Rattle.osc_store.specs.Opening.{Fits, IsOwnList}
+use Rattle.osc_store.specs.{FindsTree, IsStore, page, schema, Fits, IsOwnList}
 use Rattle.osc_store.proofs.FindLemmas.{page_sized}
 use Rattle.osc_store.proofs.StartLemmas.{carry, lists_by, own_list}
 

@@ -5,8 +5,8 @@ use Rattle.sqlite_value.specs.Order.{Row}
 use Rattle.sqlite_value.specs.declared.value.Value.{Value}
 use Rattle.sqlite_value.specs.declared.value.Value.TheVariants.{Null, Int, Text, Blob}
 use Rattle.sqlite_trees.specs.Tree.{Trees}
-use Rattle.osc_model.specs.Path.{IsPath}
-use Rattle.osc_model.specs.Tree.{Tree, IsWithinLimits}
+use Rattle.osc_model.specs.{IsPath, IsWithinLimits}
+use Rattle.osc_model.specs.Tree.{Tree}
 use Rattle.osc_model.specs.declared.resource.Resource.{Resource}
 
 abbrev pub key_of : List ℕ → Row

@@ -3,7 +3,7 @@ ghost use Rattle.std.specs.Prelude.{◌≡◌, ◌≢◌, ◌≤◌, ◌+◌, fa
 ghost use Rattle.std.specs.FinMap as map;
 ghost use Rattle.sqlite_disk.specs.Disk.{MoreFaults};
 ghost use Rattle.sqlite_trees.specs.View.{IsClean, KeepsSchema};
-ghost use Rattle.osc_model.specs.Tree.{most_resources};
+ghost use Rattle.osc_model.specs.{most_resources};
 ghost use Rattle.osc_store.specs.Causes.{Excuses};
 ghost use Rattle.osc_store.specs.Rows.{Holds};
 ghost use Rattle.osc_store.specs.Keeping.{AddsNone, HasTable, IsReady, IsSame, Keeps};

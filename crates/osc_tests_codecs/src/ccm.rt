@@ -1,5 +1,5 @@
 ghost use Rattle.std.specs.Prelude.{◌≡◌, ◌+◌, ◌≤◌, length, take};
-ghost use Rattle.osc_ccm.specs.Limits.{IsInRange};
+ghost use Rattle.osc_ccm.specs.{IsInRange};
 
 use osc_ccm::*;
 use std::process::Abort;

@@ -1,6 +1,6 @@
 //! Tests of `osc_message`.
 ghost use Rattle.std.specs.Prelude.{IfOk};
-ghost use Rattle.osc_message.specs.Sending.{FitsDatagram, IsSendableHandling};
+ghost use Rattle.osc_message.specs.{FitsDatagram, IsSendableHandling};
 
 use osc_coap::{Kind, MessageBuilder, MessageRef};
 use osc_message::*;

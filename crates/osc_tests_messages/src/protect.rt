@@ -1,9 +1,8 @@
 //! Protection: the published examples, what is read before it is opened, what is too long, and what is printed.
 ghost use Rattle.std.specs.Prelude.{◌≡◌, ◌≤◌, length, IfSome};
 ghost use Rattle.osc_model.specs.declared.context.Side.TheVariants.{Client, Server};
-ghost use Rattle.osc_context.specs.Derivation.{taken_of, recipient_of};
-ghost use Rattle.osc_context.specs.Nonce.{longest_id};
-ghost use Rattle.osc_protect.specs.Protection.{HasShortContext, IsFor, note_of, request_nonce};
+ghost use Rattle.osc_context.specs.{taken_of, recipient_of, longest_id};
+ghost use Rattle.osc_protect.specs.{HasShortContext, IsFor, note_of, request_nonce};
 
 use osc_ccm::Suite;
 use osc_coap::{DATAGRAM_LIMIT, MessageRef};

@@ -1,9 +1,8 @@
 //! A token posted to a server, and protected requests under the context that it makes.
 ghost use Rattle.std.specs.Prelude.{◌≡◌, ◌<◌, ◌≤◌, IfOk};
 ghost use Rattle.osc_model.specs.declared.context.Side.TheVariants.{Client};
-ghost use Rattle.osc_context.specs.Derivation.{taken_of};
-ghost use Rattle.osc_context.specs.Nonce.{greatest_number};
-ghost use Rattle.osc_protect.specs.Protection.{HasShortContext};
+ghost use Rattle.osc_context.specs.{taken_of, greatest_number};
+ghost use Rattle.osc_protect.specs.{HasShortContext};
 
 use osc_ccm::Suite;
 use osc_coap::{Kind, MessageBuilder, MessageRef};

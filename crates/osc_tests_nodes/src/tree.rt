@@ -1,6 +1,6 @@
 //! Tests of `osc_tree`: requests on small trees, with their replies.
 ghost use Rattle.std.specs.Prelude.{◌≤◌, IfOk, length};
-ghost use Rattle.osc_model.specs.Tree.{longest_payload};
+ghost use Rattle.osc_model.specs.{longest_payload};
 
 use osc_fixtures::{DELETE, EVERY_METHOD, GET, POST, PUT, scope_of};
 use osc_model::{Bytes, Code, ETags, Method, Path, Request, Resource};

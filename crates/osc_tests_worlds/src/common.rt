@@ -29,7 +29,11 @@ pub(crate) fn start(alloc: Global, first: Tree, audience: &str) -> Result<Start,
     Ok(Start::new(alloc, first, Scope::new(alloc), KEY, audience, SERVER))
 }
 
-fn holder(alloc: Global, right: Right, way: Result<Route, AllocError>) -> Result<Holder, AllocError> {
+fn holder(
+    alloc: Global,
+    right: Right,
+    way: Result<Route, AllocError>,
+) -> Result<Holder, AllocError> {
     let way = way?;
     Ok(Holder {
         at: place(right.client),

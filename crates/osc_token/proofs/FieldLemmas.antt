@@ -3,8 +3,7 @@ use Rattle.std.proofs.Common.{◌≡◌, ◌≢◌, inl, inr, ℕ, suc, ◌≤�
 use Rattle.std.specs.Option.{IfSome}
 use Rattle.std.proofs.Math.Nat.{max-le}
 use Rattle.std.proofs.lemmas.Bool.{false≢true, and_parts, leb-true, eqb-true, eq-eqb, ne_eqb, cond-true, cond-false, cases_Bool}
-use Rattle.osc_cbor.specs.Data.{DataItem, unsigned, map, Pairs, no_pairs, pair, pair_count, HasKey, HasOwnKeys, value_under, nesting, pairs_nesting}
-use Rattle.osc_cbor.specs.Spelling.{HasSpelling, PairsHaveSpellings}
+use Rattle.osc_cbor.specs.{DataItem, unsigned, map, Pairs, no_pairs, pair, pair_count, HasKey, HasOwnKeys, value_under, nesting, pairs_nesting, HasSpelling, PairsHaveSpellings}
 
 -- a label, and the value under it, if it is there
 abbrev pub Field : Type 0

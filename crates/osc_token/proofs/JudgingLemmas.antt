@@ -1,16 +1,14 @@
 -- What claims come to, by what was found in their item.
 use Rattle.std.proofs.Common.{◌≡◌, ◌≢◌, ◌⊎◌, ◌↔◌, ℕ, List, Option, Some, None, Result, Ok, Err, IfOk, IfSome, IsErr, refl, sym, ap, ◌∙◌, subst}
 use Rattle.std.specs.Option.{option_and_then}
-use Rattle.osc_model.specs.Grant.{HasBegun, IsNotOver}
+use Rattle.osc_model.specs.{HasBegun, IsNotOver}
 use Rattle.osc_model.specs.Scope.{Scope}
 use Rattle.osc_model.specs.declared.node.Moment.{Moment}
-use Rattle.osc_cbor.specs.Data.{DataItem, unsigned, negative, byte_string, text_string, array, map, tag, bool, null}
-use Rattle.osc_cbor.specs.Parts.{as_bytes, value}
-use Rattle.osc_cbor.specs.Spelling.{IsWhole}
-use Rattle.osc_scope.specs.Entries.{Entry, IsScope, scope_of}
+use Rattle.osc_cbor.specs.{DataItem, unsigned, negative, byte_string, text_string, array, map, tag, bool, null, as_bytes, value, IsWhole}
+use Rattle.osc_scope.specs.{Entry, IsScope, scope_of}
 use Rattle.osc_scope.specs.declared.error.ScopeError.{ScopeError}
 use Rattle.osc_scope.specs.declared.error.ScopeError.TheVariants.{Memory}
-use Rattle.osc_token.specs.Claims.{Dated, IsClaims, AreInTime, AreFor, AreBound, HasScope, ComesTo}
+use Rattle.osc_token.specs.{Dated, IsClaims, AreInTime, AreFor, AreBound, HasScope, ComesTo}
 use Rattle.osc_token.specs.Inner.Opening.{answer_of}
 use Rattle.osc_token.specs.Inner.Reading.{IsItem, pairs_in, dates_in, material_in}
 use Rattle.osc_token.specs.declared.claims.Claims.{Claims}

@@ -4,12 +4,10 @@ use Rattle.std.proofs.lemmas.Bool.{lt-ltb}
 use Rattle.std.proofs.lemmas.List.{length-append}
 use Rattle.osc_model.specs.declared.algorithm.Algorithm.{Algorithm}
 use Rattle.osc_model.specs.declared.algorithm.Algorithm.TheVariants.{EightByteTag, SixteenByteTag}
-use Rattle.osc_cbor.specs.Data.{DataItem, unsigned, byte_string, text_string, map, Pairs, no_pairs, pair, pair_count}
-use Rattle.osc_cbor.specs.Head.{head}
-use Rattle.osc_cbor.specs.Spelling.{spelling, pairs_spelling}
-use Rattle.osc_cose.specs.Encrypt0.{parameter}
+use Rattle.osc_cbor.specs.{DataItem, unsigned, byte_string, text_string, map, Pairs, no_pairs, pair, pair_count, head, spelling, pairs_spelling}
+use Rattle.osc_cose.specs.{parameter}
 use Rattle.osc_token.specs.Inner.Lengths.{counted}
-use Rattle.osc_token.specs.Token.{alg_field, claims_item, date, material_item, salt_field}
+use Rattle.osc_token.specs.{alg_field, claims_item, date, material_item, salt_field}
 use Rattle.osc_token.specs.declared.claims.Claims.{Claims}
 use Rattle.osc_token.specs.declared.claims.InputMaterial.{InputMaterial}
 

@@ -1,17 +1,13 @@
 -- Minted claims, read again.
 use Rattle.std.proofs.Common.{◌≡◌, ◌⊎◌, inl, inr, ℕ, ◌≤◌, ◌<◌, ◌^◌, List, [], ◌∷◌, length, Option, Some, None, Ok, refl, sym, ap, subst, arith}
 use Rattle.std.specs.Option.{option_map, ForSome, IfSome}
-use Rattle.osc_model.specs.Grant.{HasBegun, IsNotOver}
+use Rattle.osc_model.specs.{HasBegun, IsNotOver, algorithm_number}
 use Rattle.osc_model.specs.declared.node.Moment.{Moment}
-use Rattle.osc_model.specs.Algorithm.{algorithm_number}
 use Rattle.osc_model.specs.declared.algorithm.Algorithm.{Algorithm}
 use Rattle.osc_model.specs.declared.algorithm.Algorithm.TheVariants.{EightByteTag, SixteenByteTag}
-use Rattle.osc_cbor.specs.Data.{DataItem, unsigned, byte_string, text_string, map}
-use Rattle.osc_cbor.specs.Spelling.{Spells, HasSpelling, spelling}
-use Rattle.osc_scope.specs.Entries.{Entry, IsScope, scope_of}
-use Rattle.osc_token.specs.Claims.{IsMaterial, HasMaterial, ComesTo}
-use Rattle.osc_token.specs.Minted.{HasLawfulParts}
-use Rattle.osc_token.specs.Token.{material_item, claims_item}
+use Rattle.osc_cbor.specs.{DataItem, unsigned, byte_string, text_string, map, Spells, HasSpelling, spelling}
+use Rattle.osc_scope.specs.{Entry, IsScope, scope_of}
+use Rattle.osc_token.specs.{IsMaterial, HasMaterial, ComesTo, HasLawfulParts, material_item, claims_item}
 use Rattle.osc_token.specs.declared.claims.Claims.{Claims}
 use Rattle.osc_token.specs.declared.claims.InputMaterial.{InputMaterial}
 use Rattle.osc_token.proofs.FieldLemmas.{Field, fields, value_at, IsSpelled, are_spelled}

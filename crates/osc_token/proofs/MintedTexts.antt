@@ -3,15 +3,12 @@ use Rattle.std.proofs.Common.{◌≡◌, ◌⊎◌, inl, inr, ℕ, List, [], ◌
 use Rattle.std.specs.Option.{option_map}
 use Rattle.osc_model.specs.Scope.{Scope}
 use Rattle.osc_model.specs.declared.node.Moment.{Moment}
-use Rattle.osc_model.specs.Algorithm.{algorithm_number}
+use Rattle.osc_model.specs.{algorithm_number}
 use Rattle.osc_model.specs.declared.algorithm.Algorithm.{Algorithm}
 use Rattle.osc_model.specs.declared.algorithm.Algorithm.TheVariants.{EightByteTag, SixteenByteTag}
-use Rattle.osc_cbor.specs.Data.{DataItem, unsigned, byte_string, text_string, map, value_under}
-use Rattle.osc_cbor.specs.Parts.{value}
-use Rattle.osc_cbor.specs.Spelling.{Spells}
-use Rattle.osc_scope.specs.Entries.{Entry, IsScope, scope_of}
-use Rattle.osc_token.specs.Claims.{Dated, IsClaims, HasMaterial, HasScope, ComesTo}
-use Rattle.osc_token.specs.Token.{claims_item}
+use Rattle.osc_cbor.specs.{DataItem, unsigned, byte_string, text_string, map, value_under, value, Spells}
+use Rattle.osc_scope.specs.{Entry, IsScope, scope_of}
+use Rattle.osc_token.specs.{Dated, IsClaims, HasMaterial, HasScope, ComesTo, claims_item}
 use Rattle.osc_token.specs.declared.claims.Claims.{Claims}
 use Rattle.osc_token.specs.declared.claims.InputMaterial.{InputMaterial}
 use Rattle.osc_token.specs.declared.error.TokenError.{TokenError}

@@ -1,10 +1,9 @@
 -- Tokens that are minted.
 use Rattle.std.proofs.Common.{◌≡◌, ℕ, ◌<◌, [], length, inl, inr, refl, arith}
-use Rattle.osc_ccm.specs.Limits.{IsTooLong}
-use Rattle.osc_cbor.specs.Head.{head}
-use Rattle.osc_cose.specs.Encrypt0.{enc_structure}
-use Rattle.osc_token.specs.Minted.{most_claims}
-use Rattle.osc_token.specs.Token.{algorithm_header}
+use Rattle.osc_ccm.specs.{IsTooLong}
+use Rattle.osc_cbor.specs.{head}
+use Rattle.osc_cose.specs.{enc_structure}
+use Rattle.osc_token.specs.{most_claims, algorithm_header}
 
 aad_length : length (enc_structure algorithm_header []) ≡ 15
 unfolding enc_structure head

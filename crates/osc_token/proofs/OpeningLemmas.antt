@@ -1,12 +1,11 @@
 -- From a token to what its object holds, and back.
 use Rattle.std.proofs.Common.{◌≡◌, ◌≢◌, ◌↔◌, ℕ, false, List, [], length, Option, Some, None, Result, Ok, Err, IfOk, IfSome, IsErr, ◌⊎◌, inl, inr, refl, sym, ap, ◌∙◌, subst, nat_eq}
 use Rattle.std.proofs.lemmas.Bool.{false≢true}
-use Rattle.osc_cbor.specs.Data.{DataItem}
-use Rattle.osc_cbor.specs.Spelling.{IsWhole}
-use Rattle.osc_cose.specs.Encrypt0.{IsObject}
+use Rattle.osc_cbor.specs.{DataItem, IsWhole}
+use Rattle.osc_cose.specs.{IsObject}
 use Rattle.osc_cose.specs.declared.encrypt0.Encrypt0.{Encrypt0}
 use Rattle.osc_token.specs.Inner.Opening.{HoldsText, answer_of}
-use Rattle.osc_token.specs.Token.{IsToken, without_cwt_tag}
+use Rattle.osc_token.specs.{IsToken, without_cwt_tag}
 
 -- ---- results and bytes
 

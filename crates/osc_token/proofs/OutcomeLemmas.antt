@@ -1,13 +1,12 @@
 -- A text comes to one outcome at most.
 use Rattle.std.proofs.Common.{◌≡◌, ◌⊎◌, inl, inr, ℕ, List, Option, Some, Result, Ok, Err, refl, sym, ap, ◌∙◌, subst}
 use Rattle.std.proofs.lemmas.Option.{same_Some}
-use Rattle.osc_model.specs.Grant.{HasBegun, IsNotOver}
+use Rattle.osc_model.specs.{HasBegun, IsNotOver}
 use Rattle.osc_model.specs.Scope.{Scope}
 use Rattle.osc_model.specs.declared.node.Moment.{Moment}
-use Rattle.osc_cbor.specs.Data.{DataItem, byte_string, text_string, map, Pairs, value_under}
-use Rattle.osc_cbor.specs.Spelling.{IsWhole}
-use Rattle.osc_scope.specs.Entries.{Entry, IsScope, scope_of}
-use Rattle.osc_token.specs.Claims.{Dated, IsClaims, HasMaterial, HasScope, ComesTo}
+use Rattle.osc_cbor.specs.{DataItem, byte_string, text_string, map, Pairs, value_under, IsWhole}
+use Rattle.osc_scope.specs.{Entry, IsScope, scope_of}
+use Rattle.osc_token.specs.{Dated, IsClaims, HasMaterial, HasScope, ComesTo}
 use Rattle.osc_token.specs.Inner.Reading.{pairs_in, dates_in}
 use Rattle.osc_token.specs.declared.claims.Claims.{Claims}
 use Rattle.osc_token.specs.declared.claims.InputMaterial.{InputMaterial}

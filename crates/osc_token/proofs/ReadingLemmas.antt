@@ -2,12 +2,11 @@
 use Rattle.std.proofs.Common.{◌≡◌, ◌⊎◌, inl, inr, ℕ, ◌≤◌, ◌==◌, Bool, true, false, ◌||◌, nat_lt, if◌then◌else◌, List, [], length, Option, Some, None, refl, sym, ap, ◌∙◌, arith, eq-eqb, eqb-true}
 use Rattle.std.specs.Option.{option_map, option_and_then, ForSome, IfSome, IfNone}
 use Rattle.std.proofs.lemmas.Bool.{and_parts, and_from, or_parts, or_from, ltb-false, le-ltb, cond-true, cond-false}
-use Rattle.osc_model.specs.Algorithm.{algorithm_number}
+use Rattle.osc_model.specs.{algorithm_number}
 use Rattle.osc_model.specs.declared.algorithm.Algorithm.{Algorithm}
 use Rattle.osc_model.specs.declared.algorithm.Algorithm.TheVariants.{EightByteTag, SixteenByteTag}
-use Rattle.osc_cbor.specs.Data.{DataItem, unsigned, negative, byte_string, text_string, array, map, tag, bool, null, Pairs, value_under}
-use Rattle.osc_cbor.specs.Parts.{as_unsigned, as_map, value}
-use Rattle.osc_token.specs.Claims.{IsAbsentOr, IsMaterial, HasMaterial}
+use Rattle.osc_cbor.specs.{DataItem, unsigned, negative, byte_string, text_string, array, map, tag, bool, null, Pairs, value_under, as_unsigned, as_map, value}
+use Rattle.osc_token.specs.{IsAbsentOr, IsMaterial, HasMaterial}
 use Rattle.osc_token.specs.Inner.Reading.{pairs_in, date_of, dates_in, sized, is_absent_or, is_hkdf, are_known, algorithm_numbered, alg_of, salt_of, id_context_of, parts_of, material_of, material_in}
 use Rattle.osc_token.specs.declared.claims.InputMaterial.{InputMaterial}
 use Rattle.osc_token.specs.declared.judging.Dates.{Dates}

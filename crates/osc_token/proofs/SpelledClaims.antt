@@ -3,13 +3,11 @@ use Rattle.std.proofs.Common.{◌≡◌, ℕ, ◌+◌, ◌<◌, ◌≤◌, ◌^�
 use Rattle.std.specs.Option.{ForSome}
 use Rattle.osc_model.specs.declared.algorithm.Algorithm.{Algorithm}
 use Rattle.osc_model.specs.declared.algorithm.Algorithm.TheVariants.{EightByteTag, SixteenByteTag}
-use Rattle.osc_cbor.specs.Data.{DataItem, unsigned, byte_string, text_string, map, Pairs, no_pairs, pair, pair_count, HasKey, HasOwnKeys}
-use Rattle.osc_cbor.specs.Spelling.{HasSpelling, PairsHaveSpellings}
-use Rattle.osc_cose.specs.Encrypt0.{parameter}
-use Rattle.osc_token.specs.Token.{date, alg_field, salt_field, material_item, claims_item}
+use Rattle.osc_cbor.specs.{DataItem, unsigned, byte_string, text_string, map, Pairs, no_pairs, pair, pair_count, HasKey, HasOwnKeys, HasSpelling, PairsHaveSpellings}
+use Rattle.osc_cose.specs.{parameter}
+use Rattle.osc_token.specs.{date, alg_field, salt_field, material_item, claims_item, FitTheirTypes}
 use Rattle.osc_token.specs.declared.claims.Claims.{Claims}
 use Rattle.osc_token.specs.declared.claims.InputMaterial.{InputMaterial}
-use Rattle.osc_token.specs.Minted.{FitTheirTypes}
 
 -- ---- pairs whose keys rise
 

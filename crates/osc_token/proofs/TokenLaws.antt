@@ -1,12 +1,10 @@
 -- What is minted is a token, and bytes are one token at most.
 use Rattle.std.proofs.Common.{◌≡◌, ℕ, ◌<◌, ◌^◌, List, [], ◌++◌, length, Some, None, refl, sym, ap, ◌∙◌, subst, arith}
 use Rattle.std.specs.Option.{option_map}
-use Rattle.osc_cbor.specs.Data.{DataItem, unsigned, byte_string, map, array, item, no_items, Pairs, pair, no_pairs, value_under}
-use Rattle.osc_cbor.specs.Spelling.{Spells, HasSpelling, IsWhole, spelling}
-use Rattle.osc_cbor.specs.Head.{head}
-use Rattle.osc_cose.specs.Encrypt0.{IsObject, IsProtected, NamesAlgorithm, object_item, untagged, enc_structure}
+use Rattle.osc_cbor.specs.{DataItem, unsigned, byte_string, map, array, item, no_items, Pairs, pair, no_pairs, value_under, Spells, HasSpelling, IsWhole, spelling, head}
+use Rattle.osc_cose.specs.{IsObject, IsProtected, NamesAlgorithm, object_item, untagged, enc_structure}
 use Rattle.osc_cose.specs.declared.encrypt0.Encrypt0.{Encrypt0}
-use Rattle.osc_token.specs.Token.{IsToken, without_cwt_tag, algorithm_header, token_object}
+use Rattle.osc_token.specs.{IsToken, without_cwt_tag, algorithm_header, token_object}
 use Rattle.osc_token.proofs.OpeningLemmas.{object_of}
 
 -- ---- what is minted

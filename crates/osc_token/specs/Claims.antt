@@ -2,14 +2,12 @@
 -- osc 4 (RFC 8747 section 3.1, RFC 9203 section 3.2.1), scope 9 (RFC 9200 section 5.8.1). Other claims are ignored.
 use Rattle.std.specs.Prelude.{◌≡◌, ◌≢◌, ◌⊎◌, ℕ, ◌≤◌, List, [], length, Option, Some, None, option_map, Result, Ok, Err}
 use Rattle.std.specs.Option.{ForSome}
-use Rattle.osc_model.specs.Algorithm.{algorithm_number}
-use Rattle.osc_model.specs.Grant.{HasBegun, IsNotOver}
+use Rattle.osc_model.specs.{algorithm_number, HasBegun, IsNotOver}
 use Rattle.osc_model.specs.Scope.{Scope}
 use Rattle.osc_model.specs.declared.algorithm.Algorithm.TheVariants.{EightByteTag}
 use Rattle.osc_model.specs.declared.node.Moment.{Moment}
-use Rattle.osc_cbor.specs.Data.{DataItem, unsigned, negative, byte_string, text_string, map, Pairs, value_under}
-use Rattle.osc_cbor.specs.Spelling.{IsWhole}
-use Rattle.osc_scope.specs.Entries.{Entry, IsScope, scope_of}
+use Rattle.osc_cbor.specs.{DataItem, unsigned, negative, byte_string, text_string, map, Pairs, value_under, IsWhole}
+use Rattle.osc_scope.specs.{Entry, IsScope, scope_of}
 use Rattle.osc_token.specs.declared.claims.Claims.{Claims}
 use Rattle.osc_token.specs.declared.claims.InputMaterial.{InputMaterial}
 use Rattle.osc_token.specs.declared.error.TokenError.{TokenError}

@@ -4,3 +4,7 @@ pub mod Token
 pub mod Errors
 pub mod Minted
 pub mod Inner
+pub use Claims.{AreBound, AreFor, AreInTime, ComesTo, Dated, HasMaterial, HasScope, IsAbsentOr, IsClaims, IsMaterial}
+pub use Errors.{token_number}
+pub use Minted.{FitTheirTypes, HasLawfulParts, most_claims}
+pub use Token.{IsToken, alg_field, algorithm_header, claims_item, date, material_item, salt_field, token_name, token_note, token_object, without_cwt_tag}

@@ -5,9 +5,8 @@ use Rattle.osc_model.specs.declared.algorithm.Algorithm.TheVariants.{EightByteTa
 use Rattle.osc_model.specs.declared.context.ContextName.{ContextName}
 use Rattle.osc_model.specs.declared.context.Side.TheVariants.{Server}
 use Rattle.osc_model.specs.declared.step.Note.{Note}
-use Rattle.osc_cbor.specs.Data.{DataItem, unsigned, byte_string, text_string, map, tag, Pairs, no_pairs, pair}
-use Rattle.osc_cbor.specs.Spelling.{IsWhole}
-use Rattle.osc_cose.specs.Encrypt0.{IsObject, NamesAlgorithm, parameter, enc_structure}
+use Rattle.osc_cbor.specs.{DataItem, unsigned, byte_string, text_string, map, tag, Pairs, no_pairs, pair, IsWhole}
+use Rattle.osc_cose.specs.{IsObject, NamesAlgorithm, parameter, enc_structure}
 use Rattle.osc_cose.specs.declared.encrypt0.Encrypt0.{Encrypt0}
 use Rattle.osc_token.specs.declared.claims.Claims.{Claims}
 use Rattle.osc_token.specs.declared.claims.InputMaterial.{InputMaterial}

@@ -1,8 +1,7 @@
 //! What claims and input material have under the labels that are looked for, found in one pass over each.
 
 ghost use Rattle.std.specs.Prelude.{◌≡◌};
-ghost use Rattle.osc_cbor.specs.Data.{value_under};
-ghost use Rattle.osc_cbor.specs.View.{pairs_of};
+ghost use Rattle.osc_cbor.specs.{value_under, pairs_of};
 
 use crate::labels::{
     ALGORITHM, AUDIENCE, CONFIRMATION, EXPIRES, HKDF, ID, ID_CONTEXT, NOT_BEFORE, SALT, SCOPE,
@@ -62,8 +61,7 @@ pub(crate) struct ClaimsRef<'a> {
 impl<'a> Model for ClaimsRef<'a> {
     ghost use Rattle.std.specs.Prelude.{◌≡◌};
     ghost use Rattle.osc_cbor.specs.Inner.Code.{coded_item};
-    ghost use Rattle.osc_cbor.specs.Data.{DataItem};
-    ghost use Rattle.osc_cbor.specs.Parts.{value};
+    ghost use Rattle.osc_cbor.specs.{DataItem, value};
 
     ghost Value = { DataItem };
 
@@ -161,8 +159,7 @@ pub(crate) struct FieldsRef<'a> {
 impl<'a> Model for FieldsRef<'a> {
     ghost use Rattle.std.specs.Prelude.{◌≡◌};
     ghost use Rattle.osc_cbor.specs.Inner.Code.{coded_item};
-    ghost use Rattle.osc_cbor.specs.Data.{DataItem};
-    ghost use Rattle.osc_cbor.specs.Parts.{value};
+    ghost use Rattle.osc_cbor.specs.{DataItem, value};
 
     ghost Value = { DataItem };
 

@@ -1,10 +1,9 @@
 //! Judging claims.
 
 ghost use Rattle.std.specs.Prelude.{◌≡◌, ◌↔◌, ℕ, List, Some, Err, IsTrue, IsFalse, IfOk, IfErr, IsErr, option_copied, option_and_then};
-ghost use Rattle.osc_model.specs.Grant.{HasBegun, IsNotOver};
-ghost use Rattle.osc_cbor.specs.Data.{DataItem, text_string};
+ghost use Rattle.osc_model.specs.{HasBegun, IsNotOver};
+ghost use Rattle.osc_cbor.specs.{DataItem, text_string, IsWhole};
 ghost use Rattle.osc_cbor.specs.Parts as part;
-ghost use Rattle.osc_cbor.specs.Spelling.{IsWhole};
 ghost use Rattle.osc_token.specs.Claims.{ComesTo};
 ghost use Rattle.osc_token.specs.Inner.Judging as spec;
 ghost use Rattle.osc_token.specs.Inner.Opening.{answer_of};

@@ -3,12 +3,12 @@
 ghost use Rattle.std.specs.Prelude.{◌≡◌, ◌≤◌, ◌<◌, ◌^◌, ℕ, List, [], length, Option, Ok, Result};
 ghost use Rattle.std.specs.Option.{ForSome};
 ghost use Rattle.std.specs.Str.{IsUtf8};
-ghost use Rattle.osc_model.specs.Grant.{HasBegun, IsNotOver};
+ghost use Rattle.osc_model.specs.{HasBegun, IsNotOver};
 ghost use Rattle.osc_model.specs.Scope.{Scope as Permissions};
 ghost use Rattle.osc_model.specs.declared.node.Moment.{Moment as AnyMoment};
-ghost use Rattle.osc_cbor.specs.Spelling.{spelling};
-ghost use Rattle.osc_cose.specs.Encrypt0.{enc_structure, object_item};
-ghost use Rattle.osc_scope.specs.Entries.{Entry, IsScope, scope_of};
+ghost use Rattle.osc_cbor.specs.{spelling};
+ghost use Rattle.osc_cose.specs.{enc_structure, object_item};
+ghost use Rattle.osc_scope.specs.{Entry, IsScope, scope_of};
 ghost use Rattle.osc_token.specs.Claims.{ComesTo};
 ghost use Rattle.osc_token.specs.Minted.{FitTheirTypes, HasLawfulParts};
 ghost use Rattle.osc_token.specs.Token.{IsToken, algorithm_header, claims_item, token_object};

@@ -1,9 +1,8 @@
 //! How many bytes the text of claims has, found without writing it. What is too long for a `usize` counts as the greatest one.
 
 ghost use Rattle.std.specs.Prelude.{◌≡◌, ◌≤◌, length};
-ghost use Rattle.osc_cbor.specs.Data.{byte_string, map, no_pairs, pair, text_string, unsigned};
-ghost use Rattle.osc_cbor.specs.Spelling.{pairs_spelling, spelling};
-ghost use Rattle.osc_cose.specs.Encrypt0.{parameter};
+ghost use Rattle.osc_cbor.specs.{byte_string, map, no_pairs, pair, text_string, unsigned, pairs_spelling, spelling};
+ghost use Rattle.osc_cose.specs.{parameter};
 ghost use Rattle.osc_token.specs.Inner.Lengths.{counted};
 ghost use Rattle.osc_token.specs.Token.{alg_field, claims_item, date, material_item, salt_field};
 

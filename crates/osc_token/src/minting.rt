@@ -1,10 +1,8 @@
 //! Minting tokens.
 
 ghost use Rattle.std.specs.Prelude.{◌≡◌, ◌≤◌, ◌<◌, ℕ, List, [], ◌++◌, length, IfOk, OnOk, OnErr, Err};
-ghost use Rattle.osc_cbor.specs.Data.{byte_string, map, pair, unsigned, no_pairs};
-ghost use Rattle.osc_cbor.specs.Spelling.{spelling};
-ghost use Rattle.osc_cbor.specs.View.{view};
-ghost use Rattle.osc_cose.specs.Encrypt0.{enc_structure, object_item};
+ghost use Rattle.osc_cbor.specs.{byte_string, map, pair, unsigned, no_pairs, spelling, view};
+ghost use Rattle.osc_cose.specs.{enc_structure, object_item};
 ghost use Rattle.osc_token.specs.Minted.{most_claims};
 ghost use Rattle.osc_token.specs.Token.{algorithm_header, claims_item, material_item, token_object};
 

@@ -1,9 +1,8 @@
 //! Opening tokens.
 
 ghost use Rattle.std.specs.Prelude.{◌≡◌, ◌≢◌, ◌⊎◌, ◌↔◌, ℕ, List, [], length, IfOk, IfSome, IsErr, Ok, Err, Some, None};
-ghost use Rattle.osc_cbor.specs.Data.{DataItem};
-ghost use Rattle.osc_cbor.specs.Spelling.{IsWhole};
-ghost use Rattle.osc_cose.specs.Encrypt0.{IsObject, NamesAlgorithm, enc_structure as structure};
+ghost use Rattle.osc_cbor.specs.{DataItem, IsWhole};
+ghost use Rattle.osc_cose.specs.{IsObject, NamesAlgorithm, enc_structure as structure};
 ghost use Rattle.osc_cose.specs.declared.encrypt0.Encrypt0.{Encrypt0 as AnyObject};
 ghost use Rattle.osc_token.specs.Inner.Opening.{HoldsText, answer_of, has_tag as is_tagged};
 ghost use Rattle.osc_token.specs.Token.{IsToken, token_name, token_note, without_cwt_tag as unwrapped};

@@ -1,8 +1,7 @@
 //! Reading tokens.
 
 ghost use Rattle.std.specs.Prelude.{◌≡◌, ℕ, List, IfOk, IsErr, Err};
-ghost use Rattle.osc_cbor.specs.Data.{DataItem};
-ghost use Rattle.osc_cbor.specs.Spelling.{IsWhole};
+ghost use Rattle.osc_cbor.specs.{DataItem, IsWhole};
 ghost use Rattle.osc_token.specs.Claims.{ComesTo};
 ghost use Rattle.osc_token.specs.Token.{IsToken};
 

@@ -1,11 +1,8 @@
 //! What a request does.
 ghost use Rattle.std.specs.Prelude.{◌≡◌, ◌≤◌, ◌<◌, false, length, Some, if◌then◌else◌, IsTrue, IsSome, IfOk, OnOk, OnErr, option_copied};
 ghost use Rattle.std.specs.FinMap as map;
-ghost use Rattle.osc_model.specs.Code.{code, method_of};
-ghost use Rattle.osc_model.specs.Tree.{Tree as AnyTree, most_resources, longest_payload};
-ghost use Rattle.osc_model.specs.Reply.{bare, takes_memory};
-ghost use Rattle.osc_model.specs.Checks.{written as new_resource};
-ghost use Rattle.osc_model.specs.Apply.{apply as outcome, read as reading};
+ghost use Rattle.osc_model.specs.{code, method_of, most_resources, longest_payload, bare, takes_memory, written as new_resource, apply as outcome, read as reading};
+ghost use Rattle.osc_model.specs.Tree.{Tree as AnyTree};
 
 use crate::checks::accepted;
 use crate::tags::etag;

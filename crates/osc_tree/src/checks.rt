@@ -2,9 +2,7 @@
 ghost use Rattle.std.specs.Prelude.{◌≡◌, ◌==◌, ◌||◌, ◌&&◌, not, ◌∷◌, [], nat_le, ◌<◌, ◌^◌, length, bytes_eq, is_some, None, Some, IfOk, OnOk, IfErr, option_copied};
 ghost use Rattle.std.specs.FinMap as map;
 ghost use Rattle.std.specs.List.{list_any};
-ghost use Rattle.osc_model.specs.Code.{code, method_of};
-ghost use Rattle.osc_model.specs.Tree.{longest_payload, payload_length as length_of};
-ghost use Rattle.osc_model.specs.Checks.{AllowsWrite, refusal as refuses, method_checks, first_failing, is_matched as matches, is_acceptable as accepts};
+ghost use Rattle.osc_model.specs.{code, method_of, longest_payload, payload_length as length_of, AllowsWrite, refusal as refuses, method_checks, first_failing, is_matched as matches, is_acceptable as accepts};
 
 use crate::tags::etag;
 use crate::tree::{LONGEST_PAYLOAD, Tree};

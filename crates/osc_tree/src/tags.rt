@@ -1,6 +1,6 @@
 //! Entity tags.
 ghost use Rattle.std.specs.Prelude.{◌≡◌, ◌++◌};
-ghost use Rattle.osc_model.specs.Reply.{etag_of, format_bytes};
+ghost use Rattle.osc_model.specs.{etag_of, format_bytes};
 ghost use Rattle.sha2.specs.Sha256.{sha256};
 
 use osc_model::Resource;

@@ -2,8 +2,7 @@
 ghost use Rattle.std.specs.Prelude.{◌≡◌, ◌≤◌, ◌<◌, ◌==◌, false, length, nat_le, option_copied, IfOk, OnOk, OnErr, IsSome, Some};
 ghost use Rattle.std.specs.BTreeMap.{Updates, get_by};
 ghost use Rattle.std.specs.FinMap as map;
-ghost use Rattle.osc_model.specs.Path.{path_cmp};
-ghost use Rattle.osc_model.specs.Tree.{IsWithinLimits, most_resources, longest_payload};
+ghost use Rattle.osc_model.specs.{path_cmp, IsWithinLimits, most_resources, longest_payload};
 
 use osc_model::{Path, Resource, laws};
 use std::alloc::{AllocError, Global};
@@ -32,7 +31,8 @@ impl Drop for Tree {
 
 impl Model for Tree {
     ghost use Rattle.std.specs.FinMap as map;
-    ghost use Rattle.osc_model.specs.Tree.{Tree as Resources, coded_tree, IsWithinLimits};
+    ghost use Rattle.osc_model.specs.{coded_tree, IsWithinLimits};
+    ghost use Rattle.osc_model.specs.Tree.{Tree as Resources};
 
     ghost Value = { Resources };
 

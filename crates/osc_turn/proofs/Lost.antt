@@ -1,8 +1,7 @@
 -- What is lost.
 use Rattle.std.proofs.Common.{◌≡◌, ◌∷◌, [], ℕ, IsSome, List, None, Option, Some, take}
 use Rattle.osc_model.specs.declared.node.Peer.{Peer}
-use Rattle.osc_turn.specs.Ports.{Received, grown, received_in}
-use Rattle.osc_turn.specs.Turns.{HasLost}
+use Rattle.osc_turn.specs.{Received, grown, received_in, HasLost}
 
 -- what a receive gave and nobody took is lost
 pub has_lost : (got : Option (Peer × ℕ)) (buffer : List ℕ) (received received_after : Option (List (Option Received))) (failures failures_after : ℕ) → IsSome got

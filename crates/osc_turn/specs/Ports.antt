@@ -3,7 +3,7 @@ use Rattle.std.specs.Prelude.{◌≡◌, ◌<◌, ◌++◌, ℕ, List, Option, S
 use Rattle.osc_model.specs.declared.node.Draw.{Draw}
 use Rattle.osc_model.specs.declared.node.Moment.{Moment}
 use Rattle.osc_model.specs.declared.node.Peer.{Peer}
-use Rattle.osc_run.specs.Nodes.{Cause, Came, Due}
+use Rattle.osc_run.specs.{Cause, Came, Due}
 use Rattle.osc_turn.specs.declared.port.PortFault.{PortFault}
 
 -- a datagram that came: from whom, and its bytes

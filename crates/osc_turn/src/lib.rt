@@ -2,16 +2,16 @@
 //! here: what a port is stands in its contract. The moment and the draw of each turn are handed in, and `ClockAndRandom` has both, by a clock and a generator.
 #![tactic(auto)]
 
+mod clock_and_random;
 mod error;
 mod pace;
 mod port;
-mod clock_and_random;
 mod turning;
 mod watch;
 
+pub use clock_and_random::{ClockAndRandom, not_before};
 pub use error::TurnError;
 pub use pace::{Pace, paced_turn};
 pub use port::{Port, PortFault};
-pub use clock_and_random::{ClockAndRandom, not_before};
 pub use turning::{Turned, send_all, turn};
 pub use watch::{SystemWatch, Watch};

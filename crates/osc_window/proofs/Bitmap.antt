@@ -4,8 +4,7 @@ use Rattle.std.specs.Int.{bit_at}
 use Rattle.std.specs.List.{All, Contains, range_with_len}
 use Rattle.std.proofs.lemmas.Bool.{eqb-true, eq-eqb, cases_lt, cases_eq}
 use Rattle.std.proofs.lemmas.Nat.Bits.{bit_at-lt}
-use Rattle.osc_window.specs.Bitmap.{is_marked, least_below, numbers_of}
-use Rattle.osc_window.specs.Window.{width, IsFresh, IsRising, IsWindow, with_accepted}
+use Rattle.osc_window.specs.{is_marked, least_below, numbers_of, width, IsFresh, IsRising, IsWindow, with_accepted}
 use Rattle.osc_window.proofs.Lists.{none, first, later, first_or_later, all_from, all_at, from_filter, to_filter}
 use Rattle.osc_window.proofs.Places.{filter_rising}
 use Rattle.osc_window.proofs.Windows.{width_some, accepted_is}

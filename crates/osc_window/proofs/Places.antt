@@ -3,7 +3,7 @@ use Rattle.std.proofs.Common.{◌≡◌, ◌≢◌, ℕ, ◌<◌, ◌≤◌, Boo
 use Rattle.std.specs.List.{All, Contains}
 use Rattle.std.proofs.lemmas.Bool.{ltb-true, ltb-false}
 use Rattle.std.proofs.lemmas.List.Elements.{All-head, All-tail, All-weaker, All-filter, All-cons}
-use Rattle.osc_window.specs.Window.{IsRising, put}
+use Rattle.osc_window.specs.{IsRising, put}
 use Rattle.osc_window.proofs.Lists.{none, first, later, first_or_later, all_from, all_at}
 
 pub put_here : (n : ℕ) (xs : List ℕ) → Contains (put n xs) n

@@ -3,7 +3,7 @@ use Rattle.std.proofs.Common.{◌≡◌, ◌≢◌, ◌↔◌, ℕ, ◌+◌, ◌
 use Rattle.std.specs.List.{All, Contains}
 use Rattle.std.proofs.lemmas.Bool.{ltb-true, lt-ltb, eqb-false, ne_eqb, and_parts, not-true, not_from_false, and_from, cases_lt}
 use Rattle.std.proofs.lemmas.List.Elements.{All-head, All-tail, All-weaker, All-cons, All-nil}
-use Rattle.osc_window.specs.Window.{width, IsFresh, is_fresh, IsRising, IsWindowOf, IsWindow, put, is_near, with_accepted, AreAccepted, window_of}
+use Rattle.osc_window.specs.{width, IsFresh, is_fresh, IsRising, IsWindowOf, IsWindow, put, is_near, with_accepted, AreAccepted, window_of}
 use Rattle.osc_window.proofs.Lists.{none, first, later, first_or_later, all_from, all_at, all_from_test, test_from_all, from_filter, to_filter}
 use Rattle.osc_window.proofs.Places.{put_here, put_there, from_put, all_put, put_rising, filter_rising, same_rising}
 

@@ -1,17 +1,14 @@
 -- What the options of a client say, one by one, and which of them say nothing.
 use Rattle.std.proofs.Common.{◌≡◌, ◌<◌, ℕ, List, Option, Some, None, codes, subst, sym, arith}
 use Rattle.clap.specs.Words.{Row}
-use Rattle.osc_model.specs.Code.{code, method_number}
-use Rattle.osc_model.specs.Path.{IsPath}
+use Rattle.osc_model.specs.{code, method_number, IsPath}
 use Rattle.osc_model.specs.declared.code.Code.{Code}
 use Rattle.osc_model.specs.declared.code.Method.{Method as AnyMethod}
 use Rattle.osc_model.specs.declared.code.Method.TheVariants as method
-use Rattle.osc_script.specs.Values.{SpellsNumber}
-use Rattle.osc_words.specs.ClientWords.{AreClientWords, AreRequest, Says, SaysPatience, SaysPayload, SpellsMethod}
-use Rattle.osc_words.specs.NamedOptions.{value_of}
-use Rattle.osc_words.specs.Options.{is_set}
+use Rattle.osc_script.specs.{SpellsNumber}
+use Rattle.osc_words.specs.{AreClientWords, AreRequest, SaysPatience, SaysPayload, SpellsMethod, value_of, is_set, IsGiven, SpellsTurns}
+use Rattle.osc_words.specs.ClientWords.{Says}
 use Rattle.osc_words.specs.Inner.Reading.{IsClientRefusal, IsRefusalOf}
-use Rattle.osc_words.specs.Values.{IsGiven, SpellsTurns}
 use Rattle.osc_words.specs.declared.client_option.ClientOption.{ClientOption}
 use Rattle.osc_words.specs.declared.client_option.ClientOption.TheVariants.{Turns, Timeout, Method, Path, Payload, Text, PayloadFile, Format, Config}
 use Rattle.osc_words.specs.declared.client_words.ClientWords.{ClientWords}

@@ -10,7 +10,7 @@ use Rattle.clap.specs.Kinds.{Kinds, check_kinds, or_else}
 use Rattle.clap.specs.Faults.{check_fault, defaults_fault, entered_fault, level_fault, settle_fault, walk_fault}
 use Rattle.clap.specs.Simple.{label_of, rows_at, argument_words, names_of}
 use Rattle.clap.specs.Walk.{Held, Names, answers_to, finished, nothing_held, settled, stop_after, walk, walk_from}
-use Rattle.osc_words.specs.Command.{program}
+use Rattle.osc_words.specs.{program}
 use Rattle.osc_words.specs.Inner.Reading.{IsKnown, is_subcommand}
 use Rattle.osc_words.proofs.NoHelp.{is_no_help, walk_goes_on}
 

@@ -5,7 +5,7 @@ use Rattle.std.proofs.lemmas.Str.{IsUtf8-from_ascii}
 use Rattle.std.proofs.lemmas.Str.Ascii.{IsAscii-from_all}
 use Rattle.hex.specs.Hex.{is_hex_digit}
 use Rattle.hex.proofs.HexLemmas.{decode_of-ok}
-use Rattle.osc_script.specs.Values.{SpellsHexWithin}
+use Rattle.osc_script.specs.{SpellsHexWithin}
 
 digit_is_ascii : (b : ℕ) → is_hex_digit b ≡ true → b < 128
 digit_is_ascii b digit = grind arith

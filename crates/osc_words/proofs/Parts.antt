@@ -2,10 +2,8 @@
 use Rattle.std.proofs.Common.{List, subst, sym}
 use Rattle.clap.specs.Words.{Row}
 use Rattle.osc_words.specs.Options.{value_of}
-use Rattle.osc_script.specs.Values.{SpellsHexWithin}
-use Rattle.osc_words.specs.Values.{IsGiven}
-use Rattle.osc_words.specs.Sources.{IsSource}
-use Rattle.osc_words.specs.TokenWords.{SaysClaims, Says, AreClaims}
+use Rattle.osc_script.specs.{SpellsHexWithin}
+use Rattle.osc_words.specs.{IsGiven, IsSource, SaysClaims, Says, AreClaims}
 use Rattle.osc_words.specs.declared.hidden_option.HiddenOption.TheVariants as hidden
 use Rattle.osc_words.specs.declared.named_option.NamedOption.TheVariants as named
 use Rattle.osc_words.specs.declared.token_option.TokenOption.{TokenOption}

@@ -3,17 +3,10 @@ use Rattle.std.proofs.Common.{◌≡◌, ◌∙◌, ℕ, true, false, List, Opti
 use Rattle.std.specs.Prelude.{IfOk, MatchResult}
 use Rattle.std.specs.Str.{bytes_eq}
 use Rattle.clap.specs.Words.{Row, Text}
-use Rattle.osc_script.specs.Values.{SpellsHexWithin}
-use Rattle.osc_words.specs.Choices.{AreSome, IsNotOne, command_of}
-use Rattle.osc_words.specs.ClientWords.{AreClientWords, IsPayload}
-use Rattle.osc_words.specs.Command.{AreWords, AsksByMethod, HasNotOne}
-use Rattle.osc_words.specs.NamedOptions.{value_of}
+use Rattle.osc_script.specs.{SpellsHexWithin}
+use Rattle.osc_words.specs.{AreSome, IsNotOne, command_of, AreClientWords, IsPayload, AreWords, AsksByMethod, HasNotOne, value_of, file_of, given_of, IsExpiry, IsPatience, AreTokenWords, IsGiven}
 use Rattle.osc_words.specs.Options.{value_of as option_value}
 use Rattle.osc_words.specs.Inner.Reading.{IsRefusalIn}
-use Rattle.osc_words.specs.Sources.{file_of, given_of}
-use Rattle.osc_words.specs.Times.{IsExpiry, IsPatience}
-use Rattle.osc_words.specs.TokenWords.{AreTokenWords}
-use Rattle.osc_words.specs.Values.{IsGiven}
 use Rattle.osc_words.specs.declared.choice.Choice.{Choice}
 use Rattle.osc_words.specs.declared.choice.Choice.TheVariants.{Hidden, Patience, Payload, Expiry}
 use Rattle.osc_words.specs.declared.client_option.ClientOption.TheVariants as client

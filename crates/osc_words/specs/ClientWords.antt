@@ -1,13 +1,12 @@
 -- What the values of the options of `osc client` stand for.
 use Rattle.std.specs.Prelude.{◌≡◌, ℕ, false, List, [], Option, Some, None, codes, unwrap_or}
 use Rattle.clap.specs.Words.{Row}
-use Rattle.osc_model.specs.Code.{code, method_number}
-use Rattle.osc_model.specs.Path.{IsPath}
+use Rattle.osc_model.specs.{code, method_number, IsPath}
 use Rattle.osc_model.specs.declared.code.Code.{Code}
 use Rattle.osc_model.specs.declared.code.Method.{Method as AnyMethod}
 use Rattle.osc_model.specs.declared.request.Request.{Request}
-use Rattle.osc_scope.specs.Text.{name_of}
-use Rattle.osc_script.specs.Values.{SpellsHex, SpellsShortNumber}
+use Rattle.osc_scope.specs.{name_of}
+use Rattle.osc_script.specs.{SpellsHex, SpellsShortNumber}
 use Rattle.osc_words.specs.NamedOptions.{value_of}
 use Rattle.osc_words.specs.Options.{is_set}
 use Rattle.osc_words.specs.Times.{IsPatience}

@@ -4,7 +4,7 @@ use Rattle.clap.specs.Words.{App, IsAmong, Row, Text, fault_of, kind_of, new_app
 use Rattle.clap.specs.declared.error.Error.{Error}
 use Rattle.clap.specs.declared.error.kind.ErrorKind.{ErrorKind}
 use Rattle.clap.specs.declared.error.kind.ErrorKind.TheVariants as kind
-use Rattle.osc_script.specs.Values.{SpellsNumber}
+use Rattle.osc_script.specs.{SpellsNumber}
 use Rattle.osc_script.specs.declared.client_name.ClientName.{ClientName}
 use Rattle.osc_words.specs.ClientOptions as of_client
 use Rattle.osc_words.specs.ClientWords as client

@@ -11,3 +11,13 @@ pub mod NamedOptions
 pub mod NodeWords
 pub mod Command
 pub mod Inner
+pub use Choices.{AreSome, IsNotOne, command_of}
+pub use ClientWords.{AreClientWords, AreRequest, IsPayload, SaysPatience, SaysPayload, SpellsMethod}
+pub use Command.{AreWords, AsksByMethod, HasNotOne, client_app, client_options, lab_app, node_app, program, token_options}
+pub use Filled.{with_secret}
+pub use NamedOptions.{value_of}
+pub use Options.{is_set, name_of, option_rule, value_rule}
+pub use Sources.{Holds, IsSource, file_of, file_option_of, given_of}
+pub use Times.{IsExpiry, IsPatience}
+pub use TokenWords.{AreClaims, AreTokenWords, Says, SaysClaims}
+pub use Values.{IsGiven, SpellsTurns}

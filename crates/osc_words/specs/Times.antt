@@ -1,6 +1,6 @@
 -- How long: what the options spell that bound a time.
 use Rattle.std.specs.Prelude.{◌≡◌, ◌==◌, ◌<◌, ◌^◌, ◌-◌, ◌*◌, ◌+◌, ◌++◌, ◌∷◌, [], ℕ, List, Option, Some, None, if◌then◌else◌, min}
-use Rattle.osc_script.specs.Values.{SpellsNumber}
+use Rattle.osc_script.specs.{SpellsNumber}
 use Rattle.osc_words.specs.declared.token_words.Expiry.{Expiry}
 use Rattle.osc_words.specs.declared.token_words.Expiry.TheVariants.{At, After}
 

@@ -1,8 +1,8 @@
 -- What the values of the options of `osc token` stand for.
 use Rattle.std.specs.Prelude.{◌≡◌, List, [], Some, unwrap_or, codes}
 use Rattle.clap.specs.Words.{Row}
-use Rattle.osc_model.specs.Algorithm.{algorithm_number}
-use Rattle.osc_script.specs.Values.{SpellsHexWithin, SpellsNumber, SpellsScope}
+use Rattle.osc_model.specs.{algorithm_number}
+use Rattle.osc_script.specs.{SpellsHexWithin, SpellsNumber, SpellsScope}
 use Rattle.osc_words.specs.Options.{value_of}
 use Rattle.osc_words.specs.Sources.{file_of, given_of}
 use Rattle.osc_words.specs.Times.{IsExpiry}

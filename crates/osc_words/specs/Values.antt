@@ -1,7 +1,6 @@
 -- What the values of options spell.
 use Rattle.std.specs.Prelude.{◌≡◌, ℕ, ◌^◌, ◌-◌, List, Option, Some, None}
-use Rattle.osc_script.specs.Node.{client_name}
-use Rattle.osc_script.specs.Values.{SpellsNumber}
+use Rattle.osc_script.specs.{client_name, SpellsNumber}
 use Rattle.osc_script.specs.declared.client_name.ClientName.{ClientName}
 
 -- a number of turns; where there is no text, as many as a number of 64 bits counts

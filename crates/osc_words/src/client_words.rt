@@ -1,8 +1,8 @@
 //! What the options of `osc client` stand for.
 ghost use Rattle.std.specs.Prelude.{◌≡◌, MatchResult, Some};
 ghost use Rattle.clap.specs.Words.{found_of, rows_of};
-ghost use Rattle.osc_model.specs.Path.{IsPath};
-ghost use Rattle.osc_script.specs.Values.{SpellsShortNumber};
+ghost use Rattle.osc_model.specs.{IsPath};
+ghost use Rattle.osc_script.specs.{SpellsShortNumber};
 ghost use Rattle.osc_words.specs.ClientWords as spec;
 ghost use Rattle.osc_words.specs.NamedOptions.{value_of};
 ghost use Rattle.osc_words.specs.Inner.Reading.{IsClientRefusal, IsRefusalOf};

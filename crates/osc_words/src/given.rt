@@ -1,7 +1,7 @@
 //! The values that options were given.
 ghost use Rattle.std.specs.Prelude.{◌≡◌, IfOk, MatchResult, Some, None, option_map};
 ghost use Rattle.clap.specs.Words.{found_of, rows_of};
-ghost use Rattle.osc_script.specs.Values.{SpellsNumber};
+ghost use Rattle.osc_script.specs.{SpellsNumber};
 ghost use Rattle.osc_words.specs.NamedOptions.{value_of};
 ghost use Rattle.osc_words.specs.Options as options_spec;
 ghost use Rattle.osc_words.specs.Inner.Reading.{IsRefusalOf};

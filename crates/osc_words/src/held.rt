@@ -1,6 +1,6 @@
 //! What files hold that the key and the secret stand in.
 ghost use Rattle.std.specs.Prelude.{◌≡◌, IfOk};
-ghost use Rattle.osc_script.specs.Values.{Reads, SpellsHexWithin};
+ghost use Rattle.osc_script.specs.{Reads, SpellsHexWithin};
 ghost use Rattle.osc_words.specs.Sources as spec;
 
 use osc_model::Bytes;

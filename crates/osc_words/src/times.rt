@@ -1,6 +1,6 @@
 //! Times that the values of options spell.
 ghost use Rattle.std.specs.Prelude.{◌≡◌};
-ghost use Rattle.osc_script.specs.Values.{Reads};
+ghost use Rattle.osc_script.specs.{Reads};
 ghost use Rattle.osc_words.specs.Times as spec;
 
 use osc_script::values;

@@ -1,8 +1,8 @@
 //! What the options of `osc token` stand for.
 ghost use Rattle.std.specs.Prelude.{◌≡◌, MatchResult, [], codes, unwrap_or};
 ghost use Rattle.clap.specs.Words.{found_of, rows_of};
-ghost use Rattle.osc_model.specs.Algorithm.{algorithm_number};
-ghost use Rattle.osc_script.specs.Values.{SpellsHexWithin, SpellsNumber, SpellsScope};
+ghost use Rattle.osc_model.specs.{algorithm_number};
+ghost use Rattle.osc_script.specs.{SpellsHexWithin, SpellsNumber, SpellsScope};
 ghost use Rattle.osc_words.specs.Options.{value_of};
 ghost use Rattle.osc_words.specs.Inner.Reading.{IsInOne, IsNotOneOf, IsRefusal, IsRefusalOf};
 ghost use Rattle.osc_words.specs.Sources.{IsSource};

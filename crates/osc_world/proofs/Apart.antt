@@ -6,15 +6,15 @@ use Rattle.std.proofs.lemmas.Bool.{le-ltb, lt-ltb}
 use Rattle.std.proofs.lemmas.List.Folds.{list_any-append}
 use Rattle.std.proofs.lemmas.Option.{same_Some, slice_get_within}
 use Rattle.osc_model.specs.declared.node.Peer.{Peer}
-use Rattle.osc_message.specs.Confirmables.{same_peer}
-use Rattle.osc_ccm.specs.Ciphers.{Sealings, Tags}
+use Rattle.osc_message.specs.{same_peer}
+use Rattle.osc_ccm.specs.{Sealings, Tags}
 use Rattle.osc_model.specs.declared.step.Step.{Step}
-use Rattle.osc_client.specs.State.{State as Client, skipped_to}
+use Rattle.osc_client.specs.{skipped_to}
+use Rattle.osc_client.specs.State.{State as Client}
 use Rattle.osc_model.specs.StepNotes.{StepNotes}
-use Rattle.osc_run.specs.Notes.{Noted}
+use Rattle.osc_run.specs.{Noted}
 use Rattle.osc_proxy.specs.State.{State as Proxy}
-use Rattle.osc_world.specs.Nodes.{Deed, Nothing, OfServer, OfClient, OfProxy, NodeStates, StandApart, is_among, node_at, number_at, places, skipped, skipped_at}
-use Rattle.osc_world.specs.Steps.{NodeTakes, Takes, a_node, no_node}
+use Rattle.osc_world.specs.{Deed, Nothing, OfServer, OfClient, OfProxy, NodeStates, StandApart, is_among, node_at, number_at, places, skipped, skipped_at, NodeTakes, Takes, a_node, no_node}
 use Rattle.osc_world.specs.declared.nodes.Placed.{Placed}
 use Rattle.osc_world.specs.declared.nodes.Taken.{Taken}
 use Rattle.osc_world.specs.declared.nodes.Whose.TheVariants as whose

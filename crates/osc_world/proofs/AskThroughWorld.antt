@@ -2,8 +2,8 @@
 use Rattle.std.proofs.Common.{◌≡◌, ◌∙◌, sym, ap, subst, refl, ℕ, suc, ◌+◌, ◌-◌, ◌≤◌, Bool, true, false, List, [], ◌∷◌, ◌++◌, length, map, Option, Some, None, arith, append-nil}
 use Rattle.std.specs.Prelude.{◌≢◌, slice_get, slice_set, option_to_list}
 use Rattle.std.proofs.lemmas.Option.{same_Some}
-use Rattle.osc_model.specs.Apply.{apply_read}
-use Rattle.osc_model.specs.StepNotes.{StepNotes, quiet}
+use Rattle.osc_model.specs.{apply_read, quiet}
+use Rattle.osc_model.specs.StepNotes.{StepNotes}
 use Rattle.osc_model.specs.declared.node.Draw.{Draw}
 use Rattle.osc_model.specs.declared.node.Moment.{Moment}
 use Rattle.osc_model.specs.declared.node.Peer.{Peer}
@@ -12,38 +12,22 @@ use Rattle.osc_model.specs.declared.step.ClientResult.TheVariants as result
 use Rattle.osc_model.specs.declared.step.Datagram.{Datagram}
 use Rattle.osc_model.specs.declared.step.Entry.{Entry}
 use Rattle.osc_model.specs.declared.step.Step.{Step}
-use Rattle.osc_coap.specs.Message.{Message, spelling}
-use Rattle.osc_message.specs.Confirmables.{same_peer}
-use Rattle.osc_message.specs.Sending.{datagram, empty_acknowledgement}
-use Rattle.osc_ccm.specs.Ciphers.{Sealings, Tags}
-use Rattle.osc_authz.specs.Begun.{ClientContextState}
+use Rattle.osc_coap.specs.{spelling}
+use Rattle.osc_coap.specs.Message.{Message}
+use Rattle.osc_message.specs.{same_peer, datagram, empty_acknowledgement}
+use Rattle.osc_ccm.specs.{Sealings, Tags}
+use Rattle.osc_authz.specs.{ClientContextState, taking}
 use Rattle.osc_authz.specs.SecurityContext.{SecurityContext}
-use Rattle.osc_authz.specs.Table.{taking}
-use Rattle.osc_run.specs.ClientKinds.{request_note}
-use Rattle.osc_run.specs.History.{history}
-use Rattle.osc_run.specs.Notes.{Noted, by_client, by_proxy, by_server}
-use Rattle.osc_run.specs.ServerKinds.{Replies as AppliesTo}
-use Rattle.osc_options.specs.Texts.{read_request}
+use Rattle.osc_run.specs.{request_note, history, Noted, by_client, by_proxy, by_server, Replies as AppliesTo}
+use Rattle.osc_options.specs.{read_request}
 use Rattle.osc_server.specs.State.{State as Server}
-use Rattle.osc_client.specs.Lawful.{IsLawfulClient}
-use Rattle.osc_client.specs.Sending.{Asked, Asks}
+use Rattle.osc_client.specs.{IsLawfulClient, Asked, Asks}
 use Rattle.osc_client.specs.State.{State as Client}
-use Rattle.osc_proxy.specs.Hearing.{Hears as ProxyHears}
+use Rattle.osc_proxy.specs.{Hears as ProxyHears, IsAtRest, IsLawfulProxy}
 use Rattle.osc_proxy.specs.State.{State as Proxy}
-use Rattle.osc_proxy.specs.ThereAndBack.{IsAtRest, IsLawfulProxy}
-use Rattle.osc_rounds.specs.AskRound.{IsLawfulServer, asked_text}
-use Rattle.osc_rounds.specs.AskRoundThrough.{IsAnsweredAndEnds, IsAskedAndServedThrough, IsBroughtBackAndAnswered, IsPassedOnAndServed, IsServedAndBroughtBack, IsSettledAndServed, OnItsWay, forwarded_on, id_back, passage_of}
-use Rattle.osc_rounds.specs.Asked.{OpenedRequest}
-use Rattle.osc_rounds.specs.Ready.{Hops, IsThrough, MayAsk}
-use Rattle.osc_rounds.specs.RoundNotes.{AreAmongQuiet, AreNotesOfRequest}
-use Rattle.osc_world.specs.Lawful.{AreLawfulClients, AreLawfulProxies}
-use Rattle.osc_world.specs.Log.{sent_from}
-use Rattle.osc_world.specs.Nodes.{NodeStates, StandApart}
-use Rattle.osc_world.specs.Queue.{queue}
-use Rattle.osc_world.specs.Quiet.{AreWhole, Deliveries, Rounds, next_draw}
-use Rattle.osc_world.specs.Ready.{AskedRequest, ClientRound, GoesTheSameWay, HasAnswered, HoldsStill, IsRound, KeepsThePremise, LeavesUnheard, Way, asking, hops_through, round_of}
+use Rattle.osc_rounds.specs.{IsLawfulServer, asked_text, IsAnsweredAndEnds, IsAskedAndServedThrough, IsBroughtBackAndAnswered, IsPassedOnAndServed, IsServedAndBroughtBack, IsSettledAndServed, OnItsWay, forwarded_on, id_back, passage_of, OpenedRequest, Hops, IsThrough, MayAsk, AreAmongQuiet, AreNotesOfRequest}
+use Rattle.osc_world.specs.{AreLawfulClients, AreLawfulProxies, sent_from, NodeStates, StandApart, queue, AreWhole, Deliveries, Rounds, next_draw, AskedRequest, ClientRound, GoesTheSameWay, HasAnswered, HoldsStill, IsRound, KeepsThePremise, LeavesUnheard, Way, asking, hops_through, round_of, Happens, State}
 use Rattle.osc_world.specs.Ready as ready_as
-use Rattle.osc_world.specs.Worlds.{Happens, State}
 use Rattle.osc_world.specs.declared.nodes.Placed.{Placed}
 use Rattle.osc_world.proofs.AskWorld.{AnswersStraight, KeepsByNotes, answered_straight, left_unheard, opened_of}
 use Rattle.osc_world.proofs.Asked.{IsAsked, is_asked, lawful_after, one_goes_out}

@@ -2,7 +2,7 @@
 use Rattle.std.proofs.Common.{◌≡◌, ◌∙◌, sym, ap, subst, refl, ℕ, suc, ◌+◌, ◌%◌, Bool, true, false, List, [], ◌∷◌, ◌++◌, map, Option, Some, None, append-nil}
 use Rattle.std.specs.Prelude.{◌≢◌, slice_get, slice_set, option_to_list}
 use Rattle.std.proofs.lemmas.Option.{same_Some}
-use Rattle.osc_model.specs.Apply.{apply_read}
+use Rattle.osc_model.specs.{apply_read}
 use Rattle.osc_model.specs.declared.node.Draw.{Draw}
 use Rattle.osc_model.specs.declared.node.Moment.{Moment}
 use Rattle.osc_model.specs.declared.node.Peer.{Peer}
@@ -11,40 +11,22 @@ use Rattle.osc_model.specs.declared.step.ClientResult.TheVariants as result
 use Rattle.osc_model.specs.declared.step.Datagram.{Datagram}
 use Rattle.osc_model.specs.declared.step.Entry.{Entry}
 use Rattle.osc_model.specs.declared.step.Step.{Step}
-use Rattle.osc_coap.specs.Message.{spelling}
-use Rattle.osc_dedup.specs.Table.{looked}
-use Rattle.osc_message.specs.Confirmables.{same_peer}
-use Rattle.osc_message.specs.Endpoint.{own_id}
-use Rattle.osc_message.specs.Sending.{datagram}
-use Rattle.osc_ccm.specs.Ciphers.{Sealings, Tags}
-use Rattle.osc_authz.specs.Begun.{ClientContextState}
+use Rattle.osc_coap.specs.{spelling}
+use Rattle.osc_dedup.specs.{looked}
+use Rattle.osc_message.specs.{same_peer, own_id, datagram}
+use Rattle.osc_ccm.specs.{Sealings, Tags}
+use Rattle.osc_authz.specs.{ClientContextState, In, IsTable, contexts, taking}
 use Rattle.osc_authz.specs.SecurityContext.{SecurityContext}
-use Rattle.osc_authz.specs.Members.{In}
-use Rattle.osc_authz.specs.Table.{IsTable, contexts, taking}
 use Rattle.osc_authz.specs.declared.token_entry.TokenEntry.{TokenEntry}
-use Rattle.osc_run.specs.ClientKinds.{request_note}
-use Rattle.osc_run.specs.History.{history}
-use Rattle.osc_run.specs.Notes.{Noted, by_client, by_server}
+use Rattle.osc_run.specs.{request_note, history, Noted, by_client, by_server, Replies as AppliesTo, Minted}
 use Rattle.osc_run.specs.Premise.{Premise}
-use Rattle.osc_run.specs.ServerKinds.{Replies as AppliesTo}
-use Rattle.osc_run.specs.States.{Minted}
-use Rattle.osc_options.specs.Texts.{read_request}
-use Rattle.osc_server.specs.Hearing.{Hears as ServerHears}
+use Rattle.osc_options.specs.{read_request}
+use Rattle.osc_server.specs.{Hears as ServerHears}
 use Rattle.osc_server.specs.State.{State as Server}
-use Rattle.osc_client.specs.Lawful.{IsLawfulClient}
-use Rattle.osc_client.specs.Sending.{Asked, Asks}
+use Rattle.osc_client.specs.{IsLawfulClient, Asked, Asks}
 use Rattle.osc_client.specs.State.{State as Client}
-use Rattle.osc_rounds.specs.AskRound.{IsAskedAndAnswered, IsLawfulServer, IsServedAndAnswered, StraightRequest, asked_text}
-use Rattle.osc_rounds.specs.Asked.{IsAnswered, OpenedRequest}
-use Rattle.osc_rounds.specs.Ready.{IsStraight, MayAsk}
-use Rattle.osc_rounds.specs.RoundNotes.{AreAmongQuiet, AreNotesOfRequest}
-use Rattle.osc_world.specs.Lawful.{AreLawfulClients}
-use Rattle.osc_world.specs.Log.{sent_from}
-use Rattle.osc_world.specs.Nodes.{NodeStates, StandApart}
-use Rattle.osc_world.specs.Queue.{queue}
-use Rattle.osc_world.specs.Quiet.{Deliveries, Rounds}
-use Rattle.osc_world.specs.Ready.{AskedRequest, GoesTheSameWay, HasAnswered, HoldsStill, IsRound, KeepsThePremise, LeavesUnheard, asking}
-use Rattle.osc_world.specs.Worlds.{Happens, State}
+use Rattle.osc_rounds.specs.{IsAskedAndAnswered, IsLawfulServer, IsServedAndAnswered, StraightRequest, asked_text, IsAnswered, OpenedRequest, IsStraight, MayAsk, AreAmongQuiet, AreNotesOfRequest}
+use Rattle.osc_world.specs.{AreLawfulClients, sent_from, NodeStates, StandApart, queue, Deliveries, Rounds, AskedRequest, GoesTheSameWay, HasAnswered, HoldsStill, IsRound, KeepsThePremise, LeavesUnheard, asking, Happens, State}
 use Rattle.osc_world.specs.declared.nodes.Placed.{Placed}
 use Rattle.osc_world.proofs.Asked.{IsAsked, is_asked, lawful_after}
 use Rattle.osc_world.proofs.Deliveries.{still_minted}

@@ -5,23 +5,15 @@ use Rattle.std.proofs.lemmas.Bool.{ne_eqb}
 use Rattle.osc_model.specs.declared.step.ClientResult.TheVariants as result
 use Rattle.osc_model.specs.declared.step.Step.{Step}
 use Rattle.osc_coap.specs.Message.{Message}
-use Rattle.osc_message.specs.Sending.{datagram}
-use Rattle.osc_authz.specs.Begun.{ClientContextState}
-use Rattle.osc_context.specs.Nonce.{greatest_number}
-use Rattle.osc_ccm.specs.Ciphers.{Sealings, Tags}
-use Rattle.osc_run.specs.Notes.{by_client}
-use Rattle.osc_client.specs.Lawful.{IsLawfulClient}
-use Rattle.osc_client.specs.Sending.{Asked, Asks, IsHindered, asks, hindered}
+use Rattle.osc_message.specs.{datagram}
+use Rattle.osc_authz.specs.{ClientContextState}
+use Rattle.osc_context.specs.{greatest_number}
+use Rattle.osc_ccm.specs.{Sealings, Tags}
+use Rattle.osc_run.specs.{by_client}
+use Rattle.osc_client.specs.{IsLawfulClient, Asked, Asks, IsHindered, asks, hindered}
 use Rattle.osc_client.specs.Sending as sending
 use Rattle.osc_client.specs.State.{State as Client}
-use Rattle.osc_world.specs.Lawful.{AreLawfulClients}
-use Rattle.osc_world.specs.Log.{sent_by, sent_from, steps_with}
-use Rattle.osc_world.specs.Nodes.{Ask, Deed, NodeStates, OfClient, deed_of}
-use Rattle.osc_world.specs.Queue.{queue}
-use Rattle.osc_world.specs.Quiet.{Deliveries}
-use Rattle.osc_world.specs.Ready.{AskedRequest, asking}
-use Rattle.osc_world.specs.Steps.{ClientDoes, Takes}
-use Rattle.osc_world.specs.Worlds.{State}
+use Rattle.osc_world.specs.{AreLawfulClients, sent_by, sent_from, steps_with, Ask, Deed, NodeStates, OfClient, deed_of, queue, Deliveries, AskedRequest, asking, ClientDoes, Takes, State}
 use Rattle.osc_world.specs.declared.log.SentDatagram.{SentDatagram}
 use Rattle.osc_world.specs.declared.nodes.Placed.{Placed}
 use Rattle.osc_world.specs.declared.nodes.Taken.{Taken}

@@ -1,32 +1,27 @@
 -- Where a world begins, a client that was enrolled may exchange, straight or through a proxy that was added.
 use Rattle.std.proofs.Common.{◌≡◌, ◌∙◌, sym, ap, subst, refl, ℕ, ◌+◌, ◌^◌, ◌<◌, ◌≤◌, List, [], length, None, Some, arith}
 use Rattle.std.specs.Prelude.{slice_get}
-use Rattle.osc_model.specs.Grant.{HasBegun, IsNotOver}
+use Rattle.osc_model.specs.{HasBegun, IsNotOver}
 use Rattle.osc_model.specs.declared.algorithm.Algorithm.TheVariants.{EightByteTag}
 use Rattle.osc_model.specs.declared.node.Moment.{Moment}
 use Rattle.osc_model.specs.declared.node.Peer.{Peer}
-use Rattle.osc_ccm.specs.Limits.{most_tag}
-use Rattle.osc_cbor.specs.Spelling.{spelling}
-use Rattle.osc_cose.specs.Encrypt0.{enc_structure}
+use Rattle.osc_ccm.specs.{most_tag, Sealings, IsLongerBy}
+use Rattle.osc_cbor.specs.{spelling}
+use Rattle.osc_cose.specs.{enc_structure}
 use Rattle.osc_authz.specs.HoldsToken.{HoldsToken}
-use Rattle.osc_authz.specs.Welcome.{IsWelcome}
-use Rattle.osc_client.specs.Route.{HostAndPort}
-use Rattle.osc_dedup.specs.Table.{looked}
-use Rattle.osc_message.specs.Endpoint.{EndpointState}
-use Rattle.osc_proxy.specs.Targets.{peer_of}
-use Rattle.osc_proxy.specs.ThereAndBack.{answer_id}
+use Rattle.osc_authz.specs.{IsWelcome}
+use Rattle.osc_client.specs.{HostAndPort}
+use Rattle.osc_dedup.specs.{looked}
+use Rattle.osc_message.specs.{EndpointState}
+use Rattle.osc_proxy.specs.{peer_of, answer_id}
 use Rattle.osc_proxy.specs.declared.targets.Target.{Target}
-use Rattle.osc_rounds.specs.Ready.{MayExchange}
-use Rattle.osc_token.specs.Minted.{FitTheirTypes, HasLawfulParts}
-use Rattle.osc_token.specs.Token.{algorithm_header, claims_item}
+use Rattle.osc_rounds.specs.{MayExchange}
+use Rattle.osc_token.specs.{FitTheirTypes, HasLawfulParts, algorithm_header, claims_item}
 use Rattle.osc_token.specs.declared.claims.Claims.{Claims}
-use Rattle.osc_ccm.specs.Ciphers.{Sealings, IsLongerBy}
 use Rattle.osc_proxy.specs.State.{State as Proxy}
 use Rattle.osc_world.specs.declared.nodes.Placed.{Placed}
-use Rattle.osc_world.specs.Ready.{ClientRound, IsReady}
+use Rattle.osc_world.specs.{ClientRound, IsReady, FitAToken, Beginning, Enrols, begun, new_proxy}
 use Rattle.osc_world.specs.Ready as ready_as
-use Rattle.osc_world.specs.Refusals.{FitAToken}
-use Rattle.osc_world.specs.Starts.{Beginning, Enrols, begun, new_proxy}
 use Rattle.osc_world.specs.declared.start.Holder.{Holder}
 
 fit : (claims : Claims) → HasLawfulParts claims → FitTheirTypes claims

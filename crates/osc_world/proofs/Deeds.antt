@@ -3,10 +3,10 @@ use Rattle.std.proofs.Common.{◌≡◌, ◌∙◌, ◌≤◌, ◌<◌, sym, ap,
 use Rattle.std.specs.Prelude.{slice_get, ◌==◌, nat_le}
 use Rattle.std.proofs.lemmas.Bool.{le-leb, ne_eqb}
 use Rattle.osc_model.specs.declared.request.Request.{Request}
-use Rattle.osc_context.specs.Nonce.{greatest_number}
-use Rattle.osc_run.specs.Nodes.{Came}
+use Rattle.osc_context.specs.{greatest_number}
+use Rattle.osc_run.specs.{Came}
 use Rattle.osc_world.specs.Inner.Tasks.{hearer, whose_step}
-use Rattle.osc_world.specs.Nodes.{Ask, Deed, NodeStates, Nothing, OfClient, Take, TellLie, deed_by, deed_for, deed_of, delivering}
+use Rattle.osc_world.specs.{Ask, Deed, NodeStates, Nothing, OfClient, Take, TellLie, deed_by, deed_for, deed_of, delivering}
 use Rattle.osc_world.specs.declared.event.Event.{Event}
 use Rattle.osc_world.specs.declared.event.What.TheVariants as what
 use Rattle.osc_world.specs.declared.log.SentDatagram.{SentDatagram}

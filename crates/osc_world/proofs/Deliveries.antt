@@ -6,20 +6,15 @@ use Rattle.std.proofs.lemmas.List.Elements.{filter-append}
 use Rattle.osc_model.specs.StepNotes.{StepNotes}
 use Rattle.osc_model.specs.declared.node.Peer.{Peer}
 use Rattle.osc_model.specs.declared.step.Step.{Step}
-use Rattle.osc_message.specs.Confirmables.{same_peer}
-use Rattle.osc_ccm.specs.Ciphers.{Sealings, Tags}
-use Rattle.osc_run.specs.Nodes.{Came}
-use Rattle.osc_run.specs.Notes.{Noted, by_client, by_proxy, by_server}
+use Rattle.osc_message.specs.{same_peer}
+use Rattle.osc_ccm.specs.{Sealings, Tags}
+use Rattle.osc_run.specs.{Came, Noted, by_client, by_proxy, by_server}
 use Rattle.osc_server.specs.Steps as of_server
-use Rattle.osc_proxy.specs.State.{State as Proxy, restarted as proxy_again}
+use Rattle.osc_proxy.specs.{restarted as proxy_again}
+use Rattle.osc_proxy.specs.State.{State as Proxy}
 use Rattle.osc_proxy.specs.Steps as of_proxy
 use Rattle.osc_client.specs.State.{State as Client}
-use Rattle.osc_world.specs.Log.{delivered, sent_by, sent_from, settled, settled_at, steps_with}
-use Rattle.osc_world.specs.Nodes.{Deed, Do, StandApart, Take, Task, deed_by, deed_of, delivering, node_at}
-use Rattle.osc_world.specs.Queue.{Delivery, IsHeardByClient, IsHeardByProxy, IsHeardByServer, IsKeptOf, came_by, queue}
-use Rattle.osc_world.specs.Quiet.{Deliveries, OneMore, Rounds, delivery, next_draw, waiting_first}
-use Rattle.osc_world.specs.Steps.{ClientDoes, Does, ServerTakes, Takes}
-use Rattle.osc_world.specs.Worlds.{Happens, State}
+use Rattle.osc_world.specs.{delivered, sent_by, sent_from, settled, settled_at, steps_with, Deed, Do, StandApart, Take, Task, deed_by, deed_of, delivering, node_at, Delivery, IsHeardByClient, IsHeardByProxy, IsHeardByServer, IsKeptOf, came_by, queue, Deliveries, OneMore, Rounds, delivery, next_draw, waiting_first, ClientDoes, Does, ServerTakes, Takes, Happens, State}
 use Rattle.osc_world.specs.declared.event.Event.{Event}
 use Rattle.osc_world.specs.declared.log.SentDatagram.{SentDatagram}
 use Rattle.osc_world.specs.declared.nodes.Placed.{Placed}

@@ -2,19 +2,16 @@
 use Rattle.std.proofs.Common.{◌≡◌, ◌⊎◌, ℕ, zero, suc, List, [], ◌∷◌, ◌++◌, length, map, refl, ap, sym, ◌∙◌, subst, Option, Some, None, inl, inr, ⊎_elim}
 use Rattle.std.specs.Prelude.{slice_get, option_map}
 use Rattle.std.proofs.lemmas.Option.{slice_get-map, same_Some}
-use Rattle.osc_authz.specs.Members.{In}
-use Rattle.osc_authz.specs.Contexts.{of_tokens}
+use Rattle.osc_authz.specs.{In, of_tokens}
 use Rattle.osc_model.specs.Scope.{Scope}
 use Rattle.osc_model.specs.Tree.{Tree}
 use Rattle.osc_model.specs.declared.node.Peer.{Peer}
-use Rattle.osc_ccm.specs.Ciphers.{Sealings}
-use Rattle.osc_run.specs.Runs.{Holds, IsNewClient, IsStart, IsTextOf}
-use Rattle.osc_run.specs.States.{ClientState, Minted}
-use Rattle.osc_client.specs.State.{State as Client, core, outstanding}
+use Rattle.osc_ccm.specs.{Sealings}
+use Rattle.osc_run.specs.{Holds, IsNewClient, IsStart, IsTextOf, ClientState, Minted}
+use Rattle.osc_client.specs.{core, outstanding}
+use Rattle.osc_client.specs.State.{State as Client}
 use Rattle.osc_proxy.specs.State.{State as Proxy}
-use Rattle.osc_world.specs.Nodes.{NodeStates}
-use Rattle.osc_world.specs.Starts.{AreEnrolled, Beginning, Enrols, IsEnrolled}
-use Rattle.osc_world.specs.Worlds.{run_with}
+use Rattle.osc_world.specs.{NodeStates, AreEnrolled, Beginning, Enrols, IsEnrolled, run_with}
 use Rattle.osc_world.specs.declared.nodes.Placed.{Placed}
 use Rattle.osc_world.specs.declared.start.Holder.{Holder}
 

@@ -2,41 +2,28 @@
 use Rattle.std.proofs.Common.{◌≡◌, ◌∙◌, sym, ap, subst, refl, ℕ, suc, ◌+◌, ◌-◌, ◌≤◌, Bool, true, false, List, [], ◌∷◌, ◌++◌, length, map, Some, None, arith}
 use Rattle.std.specs.Prelude.{◌≢◌, slice_get, slice_set}
 use Rattle.std.proofs.lemmas.Option.{same_Some}
-use Rattle.osc_model.specs.StepNotes.{quiet}
+use Rattle.osc_model.specs.{quiet}
 use Rattle.osc_model.specs.declared.node.Draw.{Draw}
 use Rattle.osc_model.specs.declared.node.Moment.{Moment}
 use Rattle.osc_model.specs.declared.node.Peer.{Peer}
 use Rattle.osc_model.specs.declared.step.ClientResult.TheVariants as result
 use Rattle.osc_model.specs.declared.step.Datagram.{Datagram}
 use Rattle.osc_model.specs.declared.step.Step.{Step}
-use Rattle.osc_coap.specs.Message.{Message, spelling}
-use Rattle.osc_message.specs.Confirmables.{same_peer}
-use Rattle.osc_message.specs.Sending.{empty_acknowledgement}
-use Rattle.osc_run.specs.Notes.{Noted, by_client, by_proxy, by_server}
-use Rattle.osc_run.specs.Premise.{HasFreshDraws}
+use Rattle.osc_coap.specs.{spelling}
+use Rattle.osc_coap.specs.Message.{Message}
+use Rattle.osc_message.specs.{same_peer, empty_acknowledgement}
+use Rattle.osc_run.specs.{Noted, by_client, by_proxy, by_server, HasFreshDraws}
 use Rattle.osc_server.specs.State.{State as Server}
-use Rattle.osc_client.specs.Lawful.{IsLawfulClient}
-use Rattle.osc_client.specs.Sending.{Exchanges, post_by}
+use Rattle.osc_client.specs.{IsLawfulClient, Exchanges, post_by}
 use Rattle.osc_client.specs.State.{State as Client}
-use Rattle.osc_proxy.specs.Hearing.{Hears as ProxyHears}
+use Rattle.osc_proxy.specs.{Hears as ProxyHears, IsAtRest, IsLawfulProxy}
 use Rattle.osc_proxy.specs.State.{State as Proxy}
-use Rattle.osc_proxy.specs.ThereAndBack.{IsAtRest, IsLawfulProxy}
-use Rattle.osc_rounds.specs.ExchangeRound.{IsHeld}
-use Rattle.osc_rounds.specs.ExchangeRoundThrough.{IsAgreedAndBroughtBack, IsBroughtBackAndMade, IsMadeAndEnds, IsPassedOnAndAgreed, IsPostedAndAgreedThrough, IsSettledAndAgreed, PostOnItsWay, forwarded_post, post_id_back, post_passage}
-use Rattle.osc_rounds.specs.ProxiedExchange.{claims_text}
-use Rattle.osc_rounds.specs.Ready.{Hops, IsThrough, MayExchange}
-use Rattle.osc_rounds.specs.RoundNotes.{AreAmongQuiet, AreNotesOfAgreement, AreNotesOfExchange, Draws}
-use Rattle.osc_scope.specs.Entries.{Entry}
+use Rattle.osc_rounds.specs.{IsHeld, IsAgreedAndBroughtBack, IsBroughtBackAndMade, IsMadeAndEnds, IsPassedOnAndAgreed, IsPostedAndAgreedThrough, IsSettledAndAgreed, PostOnItsWay, forwarded_post, post_id_back, post_passage, claims_text, Hops, IsThrough, MayExchange, AreAmongQuiet, AreNotesOfAgreement, AreNotesOfExchange, Draws}
+use Rattle.osc_scope.specs.{Entry}
 use Rattle.osc_token.specs.declared.claims.Claims.{Claims}
-use Rattle.osc_ccm.specs.Ciphers.{Sealings, Tags}
-use Rattle.osc_world.specs.Lawful.{AreLawfulClients, AreLawfulProxies}
-use Rattle.osc_world.specs.Log.{sent_from}
-use Rattle.osc_world.specs.Nodes.{NodeStates, StandApart}
-use Rattle.osc_world.specs.Queue.{queue}
-use Rattle.osc_world.specs.Quiet.{AreWhole, Deliveries, Rounds, next_draw}
-use Rattle.osc_world.specs.Ready.{AreMinted, BegunExchange, ClientRound, GoesTheSameWay, HasMade, IsRound, KeepsThePremise, LeavesUnheard, Way, beginning, hops_through, round_of}
+use Rattle.osc_ccm.specs.{Sealings, Tags}
+use Rattle.osc_world.specs.{AreLawfulClients, AreLawfulProxies, sent_from, NodeStates, StandApart, queue, AreWhole, Deliveries, Rounds, next_draw, AreMinted, BegunExchange, ClientRound, GoesTheSameWay, HasMade, IsRound, KeepsThePremise, LeavesUnheard, Way, beginning, hops_through, round_of, Happens, State}
 use Rattle.osc_world.specs.Ready as ready_as
-use Rattle.osc_world.specs.Worlds.{Happens, State}
 use Rattle.osc_world.specs.declared.nodes.Placed.{Placed}
 use Rattle.osc_world.proofs.Asked.{lawful_after}
 use Rattle.osc_world.proofs.Deliveries.{still_minted}

@@ -2,41 +2,30 @@
 use Rattle.std.proofs.Common.{◌≡◌, ◌∙◌, sym, ap, subst, refl, ℕ, suc, ◌+◌, ◌%◌, Bool, true, false, List, [], ◌∷◌, ◌++◌, map, Some, None}
 use Rattle.std.specs.Prelude.{◌≢◌, slice_get, slice_set}
 use Rattle.std.proofs.lemmas.Option.{same_Some}
-use Rattle.osc_model.specs.StepNotes.{StepNotes, quiet}
+use Rattle.osc_model.specs.{quiet}
+use Rattle.osc_model.specs.StepNotes.{StepNotes}
 use Rattle.osc_model.specs.declared.node.Draw.{Draw}
 use Rattle.osc_model.specs.declared.node.Moment.{Moment}
 use Rattle.osc_model.specs.declared.node.Peer.{Peer}
 use Rattle.osc_model.specs.declared.step.ClientResult.TheVariants as result
 use Rattle.osc_model.specs.declared.step.Datagram.{Datagram}
 use Rattle.osc_model.specs.declared.step.Step.{Step}
-use Rattle.osc_coap.specs.Message.{Message, spelling}
-use Rattle.osc_dedup.specs.Table.{looked}
-use Rattle.osc_message.specs.Confirmables.{same_peer}
-use Rattle.osc_message.specs.Endpoint.{own_id}
-use Rattle.osc_message.specs.Sending.{datagram}
+use Rattle.osc_coap.specs.{spelling}
+use Rattle.osc_coap.specs.Message.{Message}
+use Rattle.osc_dedup.specs.{looked}
+use Rattle.osc_message.specs.{same_peer, own_id, datagram}
 use Rattle.osc_authz.specs.SecurityContext.{SecurityContext}
-use Rattle.osc_run.specs.Notes.{Noted, by_client, by_server}
-use Rattle.osc_run.specs.Premise.{HasFreshDraws, IsMinted, Premise}
-use Rattle.osc_run.specs.States.{Minted}
-use Rattle.osc_server.specs.Hearing.{Hears as ServerHears}
+use Rattle.osc_run.specs.{Noted, by_client, by_server, HasFreshDraws, IsMinted, Minted}
+use Rattle.osc_run.specs.Premise.{Premise}
+use Rattle.osc_server.specs.{Hears as ServerHears}
 use Rattle.osc_server.specs.State.{State as Server}
-use Rattle.osc_client.specs.Lawful.{IsLawfulClient}
-use Rattle.osc_client.specs.Sending.{Exchanges}
+use Rattle.osc_client.specs.{IsLawfulClient, Exchanges}
 use Rattle.osc_client.specs.State.{State as Client}
-use Rattle.osc_rounds.specs.ExchangeRound.{IsAgreedAndMade, IsBegunAndMade, IsHeld, IsMade, StraightPost}
-use Rattle.osc_rounds.specs.ProxiedExchange.{claims_text}
-use Rattle.osc_rounds.specs.Ready.{IsStraight, MayExchange}
-use Rattle.osc_rounds.specs.RoundNotes.{AreAmongQuiet, AreNotesOfExchange, Draws}
-use Rattle.osc_scope.specs.Entries.{Entry}
+use Rattle.osc_rounds.specs.{IsAgreedAndMade, IsBegunAndMade, IsHeld, IsMade, StraightPost, claims_text, IsStraight, MayExchange, AreAmongQuiet, AreNotesOfExchange, Draws}
+use Rattle.osc_scope.specs.{Entry}
 use Rattle.osc_token.specs.declared.claims.Claims.{Claims}
-use Rattle.osc_ccm.specs.Ciphers.{Sealings, Tags}
-use Rattle.osc_world.specs.Lawful.{AreLawfulClients}
-use Rattle.osc_world.specs.Log.{sent_from}
-use Rattle.osc_world.specs.Nodes.{NodeStates, StandApart}
-use Rattle.osc_world.specs.Queue.{queue}
-use Rattle.osc_world.specs.Quiet.{AreWhole, Deliveries, Rounds}
-use Rattle.osc_world.specs.Ready.{AreMinted, BegunExchange, GoesTheSameWay, HasMade, IsRound, KeepsThePremise, LeavesUnheard, beginning}
-use Rattle.osc_world.specs.Worlds.{Happens, State}
+use Rattle.osc_ccm.specs.{Sealings, Tags}
+use Rattle.osc_world.specs.{AreLawfulClients, sent_from, NodeStates, StandApart, queue, AreWhole, Deliveries, Rounds, AreMinted, BegunExchange, GoesTheSameWay, HasMade, IsRound, KeepsThePremise, LeavesUnheard, beginning, Happens, State}
 use Rattle.osc_world.specs.declared.nodes.Placed.{Placed}
 use Rattle.osc_world.proofs.Asked.{lawful_after}
 use Rattle.osc_world.proofs.Deliveries.{still_minted}

@@ -5,17 +5,13 @@ use Rattle.std.proofs.lemmas.List.{map-set}
 use Rattle.std.proofs.lemmas.Option.{slice_get-map}
 use Rattle.osc_model.specs.Tree.{Tree}
 use Rattle.osc_model.specs.declared.node.Moment.{Moment}
-use Rattle.osc_ccm.specs.Ciphers.{Sealings, Tags}
-use Rattle.osc_run.specs.Notes.{Noted, by_server, by_client, by_proxy}
-use Rattle.osc_run.specs.Runs.{IsReached, WorldStep, OfServer as ByTheServer, OfClient as ByTheClient, OfProxy as ByTheProxy, Skipped}
-use Rattle.osc_run.specs.States.{ClientState, Minted, WorldState}
-use Rattle.osc_server.specs.State.{core as core_of_server}
-use Rattle.osc_client.specs.State.{State as Client, core as core_of_client}
-use Rattle.osc_world.specs.Log.{LogState, IsKept, delivered, sent_by, steps_with, recorded}
+use Rattle.osc_ccm.specs.{Sealings, Tags}
+use Rattle.osc_run.specs.{Noted, by_server, by_client, by_proxy, IsReached, WorldStep, OfServer as ByTheServer, OfClient as ByTheClient, OfProxy as ByTheProxy, Skipped, ClientState, Minted, WorldState}
+use Rattle.osc_server.specs.{core as core_of_server}
+use Rattle.osc_client.specs.{core as core_of_client}
+use Rattle.osc_client.specs.State.{State as Client}
+use Rattle.osc_world.specs.{LogState, IsKept, delivered, sent_by, steps_with, recorded, NodeStates, deed_of, Takes, State, Happens, Happen, run_with, world_of}
 use Rattle.osc_world.specs.Inner.Kinds.{IsSkip, IsStep, OfNobody, OfServer, OfClient, OfProxy, Skips, Stays}
-use Rattle.osc_world.specs.Nodes.{NodeStates, deed_of}
-use Rattle.osc_world.specs.Steps.{Takes}
-use Rattle.osc_world.specs.Worlds.{State, Happens, Happen, run_with, world_of}
 use Rattle.osc_world.specs.declared.event.Event.{Event}
 use Rattle.osc_world.specs.declared.log.Record.{Record}
 use Rattle.osc_world.specs.declared.log.SentDatagram.{SentDatagram}

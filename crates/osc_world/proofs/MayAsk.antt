@@ -5,18 +5,16 @@ use Rattle.std.proofs.lemmas.List.Elements.{All-nil}
 use Rattle.osc_model.specs.declared.node.Draw.{Draw}
 use Rattle.osc_model.specs.declared.node.Moment.{Moment}
 use Rattle.osc_model.specs.declared.node.Peer.{Peer}
-use Rattle.osc_dedup.specs.Table.{looked}
-use Rattle.osc_message.specs.Endpoint.{own_id}
-use Rattle.osc_context.specs.Nonce.{greatest_number}
-use Rattle.osc_window.specs.Window.{IsFresh}
-use Rattle.osc_authz.specs.Contexts.{IsLive}
-use Rattle.osc_rounds.specs.Asked.{OpenedRequest}
-use Rattle.osc_rounds.specs.Ready.{MayAsk}
-use Rattle.osc_scope.specs.Entries.{Entry}
+use Rattle.osc_dedup.specs.{looked}
+use Rattle.osc_message.specs.{own_id}
+use Rattle.osc_context.specs.{greatest_number}
+use Rattle.osc_window.specs.{IsFresh}
+use Rattle.osc_authz.specs.{IsLive}
+use Rattle.osc_rounds.specs.{OpenedRequest, MayAsk}
+use Rattle.osc_scope.specs.{Entry}
 use Rattle.osc_client.specs.State.{State as Client}
-use Rattle.osc_world.specs.Ready.{ClientRound, GoesTheSameWay, HasAnswered, HasMade, IsReady, IsRound, LeavesUnheard}
+use Rattle.osc_world.specs.{ClientRound, GoesTheSameWay, HasAnswered, HasMade, IsReady, IsRound, LeavesUnheard, State}
 use Rattle.osc_world.specs.Ready as ready_as
-use Rattle.osc_world.specs.Worlds.{State}
 use Rattle.osc_world.specs.declared.nodes.Placed.{Placed}
 
 next_differs : (id : ℕ) → (id + 1) % 65536 ≢ id

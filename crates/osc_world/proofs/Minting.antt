@@ -1,8 +1,7 @@
 -- What is minted, once one grant more is.
 use Rattle.std.proofs.Common.{◌≡◌, refl, inl, inr, ℕ, List, [], ◌∷◌, ◌++◌}
-use Rattle.osc_authz.specs.Members.{In}
-use Rattle.osc_run.specs.Premise.{IsMinted}
-use Rattle.osc_run.specs.States.{Minted}
+use Rattle.osc_authz.specs.{In}
+use Rattle.osc_run.specs.{IsMinted, Minted}
 
 here_last : (all : List Minted) (one : Minted) → In one (all ++ one ∷ [])
 here_last [] one = inl refl

@@ -5,19 +5,13 @@ use Rattle.osc_model.specs.declared.node.Draw.{Draw}
 use Rattle.osc_model.specs.declared.node.Moment.{Moment}
 use Rattle.osc_model.specs.declared.step.ClientResult.TheVariants as result
 use Rattle.osc_model.specs.declared.step.Step.{Step}
-use Rattle.osc_message.specs.Sending.{datagram}
-use Rattle.osc_ccm.specs.Ciphers.{Sealings, Tags}
-use Rattle.osc_run.specs.Notes.{by_client}
-use Rattle.osc_client.specs.Sending.{Exchanges, begins, busy, post_by}
+use Rattle.osc_message.specs.{datagram}
+use Rattle.osc_ccm.specs.{Sealings, Tags}
+use Rattle.osc_run.specs.{by_client}
+use Rattle.osc_client.specs.{Exchanges, begins, busy, post_by}
 use Rattle.osc_client.specs.Sending as sending
 use Rattle.osc_client.specs.State.{State as Client}
-use Rattle.osc_world.specs.Log.{sent_by, sent_from, steps_with}
-use Rattle.osc_world.specs.Nodes.{Begin, OfClient}
-use Rattle.osc_world.specs.Queue.{queue}
-use Rattle.osc_world.specs.Quiet.{Deliveries}
-use Rattle.osc_world.specs.Ready.{BegunExchange, beginning}
-use Rattle.osc_world.specs.Steps.{ClientDoes, Takes}
-use Rattle.osc_world.specs.Worlds.{State}
+use Rattle.osc_world.specs.{sent_by, sent_from, steps_with, Begin, OfClient, queue, Deliveries, BegunExchange, beginning, ClientDoes, Takes, State}
 use Rattle.osc_world.specs.declared.log.SentDatagram.{SentDatagram}
 use Rattle.osc_world.specs.declared.nodes.Placed.{Placed}
 use Rattle.osc_world.specs.declared.nodes.Taken.{Taken}

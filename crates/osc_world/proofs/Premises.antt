@@ -1,17 +1,16 @@
 -- What is assumed of a run goes on over the three steps of a round.
 use Rattle.std.proofs.Common.{◌≡◌, ◌∙◌, sym, ap, subst, refl, ℕ, List, [], ◌∷◌, Option, Some, None, inr}
-use Rattle.osc_model.specs.StepNotes.{StepNotes, quiet}
+use Rattle.osc_model.specs.{quiet}
+use Rattle.osc_model.specs.StepNotes.{StepNotes}
 use Rattle.osc_model.specs.declared.step.Note.{Note}
 use Rattle.osc_model.specs.declared.step.Step.{Step}
-use Rattle.osc_ccm.specs.Ciphers.{Sealings, Tags}
-use Rattle.osc_client.specs.Sending.{Asked, Asks, asks, hindered}
+use Rattle.osc_ccm.specs.{Sealings, Tags}
+use Rattle.osc_client.specs.{Asked, Asks, asks, hindered}
 use Rattle.osc_client.specs.State.{State as Client}
-use Rattle.osc_rounds.specs.RoundNotes.{AreAmongQuiet}
-use Rattle.osc_run.specs.Notes.{Noted}
-use Rattle.osc_run.specs.Premise.{HasFreshDraws, Premise}
-use Rattle.osc_run.specs.States.{Minted}
-use Rattle.osc_world.specs.Ready.{KeepsThePremise}
-use Rattle.osc_world.specs.Worlds.{State}
+use Rattle.osc_rounds.specs.{AreAmongQuiet}
+use Rattle.osc_run.specs.{Noted, HasFreshDraws, Minted}
+use Rattle.osc_run.specs.Premise.{Premise}
+use Rattle.osc_world.specs.{KeepsThePremise, State}
 
 -- three steps, and no others
 pub these_three : (a b c : Noted) → AreAmongQuiet (a ∷ b ∷ c ∷ []) (a ∷ b ∷ c ∷ [])

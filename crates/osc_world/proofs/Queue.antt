@@ -6,7 +6,7 @@ use Rattle.std.proofs.lemmas.Bool.{lt-ltb, le-ltb}
 use Rattle.std.proofs.lemmas.Option.{slice_get_within}
 use Rattle.osc_model.specs.declared.node.Peer.{Peer}
 use Rattle.osc_model.specs.declared.step.Datagram.{Datagram}
-use Rattle.osc_world.specs.Log.{sent_from}
+use Rattle.osc_world.specs.{sent_from}
 use Rattle.osc_world.specs.declared.log.SentDatagram.{SentDatagram}
 
 abbrev pub waits : SentDatagram → Bool

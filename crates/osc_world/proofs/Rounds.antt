@@ -2,9 +2,8 @@
 use Rattle.std.proofs.Common.{◌≡◌, ◌≤◌, ◌+◌, ◌∙◌, ℕ, zero, suc, Bool, true, false, not, List, length, refl, ap, sym, subst, Option, Some, None, Result, Ok, Err, arith}
 use Rattle.std.specs.Prelude.{OnErr, is_none, is_some}
 use Rattle.std.proofs.lemmas.List.{length-append}
-use Rattle.osc_ccm.specs.Ciphers.{Sealings, Tags}
-use Rattle.osc_world.specs.Quiet.{Deliveries, OneMore, Rounds, delivery, next_draw, waiting_first}
-use Rattle.osc_world.specs.Worlds.{State, Happens}
+use Rattle.osc_ccm.specs.{Sealings, Tags}
+use Rattle.osc_world.specs.{Deliveries, OneMore, Rounds, delivery, next_draw, waiting_first, State, Happens}
 use Rattle.osc_world.specs.declared.event.Event.{Event}
 
 -- an event leaves one

@@ -2,7 +2,7 @@
 use Rattle.std.proofs.Common.{◌≡◌, List, [], ◌∷◌, ◌++◌, length, map, refl, arith, ap, sym, ◌∙◌, append_assoc}
 use Rattle.osc_model.specs.declared.node.Peer.{Peer}
 use Rattle.osc_model.specs.declared.step.Datagram.{Datagram}
-use Rattle.osc_world.specs.Log.{sent_from}
+use Rattle.osc_world.specs.{sent_from}
 use Rattle.osc_world.specs.declared.log.SentDatagram.{SentDatagram}
 
 pub sent_more : (at : Peer) (old new : List SentDatagram) (one : SentDatagram) (datagram : Datagram) (rest later : List Datagram)

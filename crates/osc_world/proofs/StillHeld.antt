@@ -4,15 +4,12 @@ use Rattle.std.specs.Prelude.{◌≢◌, nat_lt}
 use Rattle.std.specs.List.{All}
 use Rattle.std.proofs.lemmas.List.Elements.{All-cons, All-filter, All-head, All-tail}
 use Rattle.osc_model.specs.declared.node.Moment.{Moment}
-use Rattle.osc_window.specs.Window.{IsFresh, is_near, put, width, with_accepted}
-use Rattle.osc_authz.specs.Contexts.{HasTaken, OfToken, confirmed_by, of_token, of_tokens}
-use Rattle.osc_authz.specs.Desk.{DeskState}
+use Rattle.osc_window.specs.{IsFresh, is_near, put, width, with_accepted}
+use Rattle.osc_authz.specs.{HasTaken, OfToken, confirmed_by, of_token, of_tokens, DeskState, In, IsTable, accepted, contexts, listed, taking}
 use Rattle.osc_authz.specs.SecurityContext.{SecurityContext}
-use Rattle.osc_authz.specs.Members.{In}
-use Rattle.osc_authz.specs.Table.{IsTable, accepted, contexts, listed, taking}
 use Rattle.osc_authz.specs.declared.token_entry.TokenEntry.{TokenEntry}
 use Rattle.osc_server.specs.State.{State as Server}
-use Rattle.osc_world.specs.Ready.{HoldsStill}
+use Rattle.osc_world.specs.{HoldsStill}
 
 -- where a context of a table takes a number
 abbrev pub TakesNumbers : Type 0

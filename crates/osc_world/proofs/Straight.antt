@@ -7,19 +7,14 @@ use Rattle.osc_model.specs.declared.node.Moment.{Moment}
 use Rattle.osc_model.specs.declared.node.Peer.{Peer}
 use Rattle.osc_model.specs.declared.step.Datagram.{Datagram}
 use Rattle.osc_model.specs.declared.step.Step.{Step}
-use Rattle.osc_message.specs.Confirmables.{same_peer}
-use Rattle.osc_ccm.specs.Ciphers.{Sealings, Tags}
-use Rattle.osc_run.specs.Notes.{Noted, by_client, by_server}
-use Rattle.osc_server.specs.Hearing.{Hears as ServerHears}
+use Rattle.osc_message.specs.{same_peer}
+use Rattle.osc_ccm.specs.{Sealings, Tags}
+use Rattle.osc_run.specs.{Noted, by_client, by_server}
+use Rattle.osc_server.specs.{Hears as ServerHears}
 use Rattle.osc_server.specs.State.{State as Server}
-use Rattle.osc_client.specs.Hearing.{Hears as ClientHears}
+use Rattle.osc_client.specs.{Hears as ClientHears}
 use Rattle.osc_client.specs.State.{State as Client}
-use Rattle.osc_world.specs.Log.{sent_from}
-use Rattle.osc_world.specs.Nodes.{NodeStates, StandApart}
-use Rattle.osc_world.specs.Queue.{IsHeardByClient, IsHeardByServer, queue}
-use Rattle.osc_world.specs.Quiet.{Deliveries, Rounds, next_draw}
-use Rattle.osc_world.specs.Ready.{IsRound}
-use Rattle.osc_world.specs.Worlds.{Happens, State}
+use Rattle.osc_world.specs.{sent_from, NodeStates, StandApart, IsHeardByClient, IsHeardByServer, queue, Deliveries, Rounds, next_draw, IsRound, Happens, State}
 use Rattle.osc_world.specs.declared.log.SentDatagram.{SentDatagram}
 use Rattle.osc_world.specs.declared.nodes.Placed.{Placed}
 use Rattle.osc_world.proofs.Deliveries.{client_hears, delivery_of, over, server_hears, still}

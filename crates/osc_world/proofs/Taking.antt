@@ -8,23 +8,20 @@ use Rattle.osc_model.specs.declared.node.Moment.{Moment}
 use Rattle.osc_model.specs.declared.node.Peer.{Peer}
 use Rattle.osc_model.specs.declared.step.Datagram.{Datagram}
 use Rattle.osc_model.specs.declared.step.Step.{Step}
-use Rattle.osc_ccm.specs.Ciphers.{Sealings}
-use Rattle.osc_run.specs.ProxyKinds.{ProxyStep}
-use Rattle.osc_run.specs.ClientKinds.{ClientStep, ClientRestarted, IsSkipped}
-use Rattle.osc_run.specs.Notes.{Noted, by_server, by_client, by_proxy}
-use Rattle.osc_run.specs.ServerKinds.{ServerStep, ServerRestarted}
-use Rattle.osc_server.specs.State.{State as Server, core as core_of_server}
+use Rattle.osc_ccm.specs.{Sealings}
+use Rattle.osc_run.specs.{ProxyStep, ClientStep, ClientRestarted, IsSkipped, Noted, by_server, by_client, by_proxy, ServerStep, ServerRestarted}
+use Rattle.osc_server.specs.{core as core_of_server}
+use Rattle.osc_server.specs.State.{State as Server}
 use Rattle.osc_server.specs.Steps as of_server
-use Rattle.osc_client.specs.Sending.{restarted}
-use Rattle.osc_client.specs.State.{State as Client, core as core_of_client}
+use Rattle.osc_client.specs.{restarted, core as core_of_client}
+use Rattle.osc_client.specs.State.{State as Client}
 use Rattle.osc_client.specs.Steps as of_client
-use Rattle.osc_proxy.specs.State.{State as Proxy, restarted as proxy_again}
+use Rattle.osc_proxy.specs.{restarted as proxy_again}
+use Rattle.osc_proxy.specs.State.{State as Proxy}
 use Rattle.osc_proxy.specs.Steps as of_proxy
 use Rattle.osc_world.specs.Inner.Kinds.{IsSkip, Skips, IsStep, OfServer, OfClient, OfProxy}
 use Rattle.osc_world.specs.Inner.Tasks.{most_of, task_of}
-use Rattle.osc_world.specs.Log.{sent_from}
-use Rattle.osc_world.specs.Nodes.{NodeStates}
-use Rattle.osc_world.specs.Steps.{Does, NodeTakes, ServerTakes, a_node, no_node}
+use Rattle.osc_world.specs.{sent_from, NodeStates, Does, NodeTakes, ServerTakes, a_node, no_node}
 use Rattle.osc_world.specs.declared.event.Event.{Event}
 use Rattle.osc_world.specs.declared.jobs.Job.{Job}
 use Rattle.osc_world.specs.declared.jobs.Job.TheVariants.{Hear, Tick, StartAgain}

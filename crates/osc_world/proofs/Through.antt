@@ -2,27 +2,23 @@
 -- six deliveries.
 use Rattle.std.proofs.Common.{◌≡◌, ◌∙◌, ap, sym, subst, ℕ, suc, ◌+◌, ◌≤◌, ◌<◌, Bool, true, false, List, [], ◌∷◌, ◌++◌, length, map, Some, None, refl, inl, inr, arith}
 use Rattle.std.specs.Prelude.{slice_get, slice_set}
-use Rattle.osc_model.specs.StepNotes.{quiet}
+use Rattle.osc_model.specs.{quiet}
 use Rattle.osc_model.specs.declared.node.Draw.{Draw}
 use Rattle.osc_model.specs.declared.node.Moment.{Moment}
 use Rattle.osc_model.specs.declared.node.Peer.{Peer}
 use Rattle.osc_model.specs.declared.step.Datagram.{Datagram}
 use Rattle.osc_model.specs.declared.step.Step.{Step}
-use Rattle.osc_message.specs.Confirmables.{same_peer}
-use Rattle.osc_ccm.specs.Ciphers.{Sealings, Tags}
-use Rattle.osc_run.specs.Notes.{Noted, by_client, by_proxy, by_server}
-use Rattle.osc_server.specs.Hearing.{Hears as ServerHears}
+use Rattle.osc_message.specs.{same_peer}
+use Rattle.osc_ccm.specs.{Sealings, Tags}
+use Rattle.osc_run.specs.{Noted, by_client, by_proxy, by_server}
+use Rattle.osc_server.specs.{Hears as ServerHears}
 use Rattle.osc_server.specs.State.{State as Server}
-use Rattle.osc_client.specs.Hearing.{Hears as ClientHears}
+use Rattle.osc_client.specs.{Hears as ClientHears}
 use Rattle.osc_client.specs.State.{State as Client}
-use Rattle.osc_proxy.specs.Hearing.{Hears as ProxyHears}
+use Rattle.osc_proxy.specs.{Hears as ProxyHears}
 use Rattle.osc_proxy.specs.State.{State as Proxy}
-use Rattle.osc_rounds.specs.RoundNotes.{AreAmongQuiet}
-use Rattle.osc_world.specs.Log.{sent_from}
-use Rattle.osc_world.specs.Nodes.{NodeStates, StandApart}
-use Rattle.osc_world.specs.Queue.{IsHeardByClient, IsHeardByProxy, IsHeardByServer, queue}
-use Rattle.osc_world.specs.Quiet.{AreWhole, Deliveries, Rounds, next_draw, waiting_first}
-use Rattle.osc_world.specs.Worlds.{Happens, State}
+use Rattle.osc_rounds.specs.{AreAmongQuiet}
+use Rattle.osc_world.specs.{sent_from, NodeStates, StandApart, IsHeardByClient, IsHeardByProxy, IsHeardByServer, queue, AreWhole, Deliveries, Rounds, next_draw, waiting_first, Happens, State}
 use Rattle.osc_world.specs.declared.log.SentDatagram.{SentDatagram}
 use Rattle.osc_world.specs.declared.nodes.Placed.{Placed}
 use Rattle.osc_world.proofs.Deliveries.{client_hears, delivery_of, over, proxy_hears, server_hears, still}

@@ -5,7 +5,7 @@ use Rattle.std.proofs.lemmas.Bool.{cases_lt}
 use Rattle.std.proofs.lemmas.List.Sums.{fails_before_first, passes_at_first, prefix_len-le-length}
 use Rattle.osc_model.specs.declared.node.Peer.{Peer}
 use Rattle.osc_model.specs.declared.step.Datagram.{Datagram}
-use Rattle.osc_world.specs.Log.{first_waiting, sent_from, settled, settled_at}
+use Rattle.osc_world.specs.{first_waiting, sent_from, settled, settled_at}
 use Rattle.osc_world.specs.declared.log.SentDatagram.{SentDatagram}
 
 abbrev waits : SentDatagram → Bool

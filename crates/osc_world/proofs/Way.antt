@@ -1,23 +1,20 @@
 -- A client that hears something, begins an exchange or asks, reaches its server the same way; and its next message ID.
 use Rattle.std.proofs.Common.{◌≡◌, ◌∙◌, sym, ap, refl, ℕ, ◌+◌, ◌%◌, Bool, true, false, List, [], ◌∷◌, Some}
-use Rattle.osc_model.specs.Arrival.{Arrival, read_as}
+use Rattle.osc_model.specs.{read_as}
+use Rattle.osc_model.specs.Arrival.{Arrival}
 use Rattle.osc_model.specs.declared.node.Draw.{Draw}
 use Rattle.osc_model.specs.declared.node.Moment.{Moment}
 use Rattle.osc_model.specs.declared.step.Datagram.{Datagram}
 use Rattle.osc_model.specs.declared.step.Step.{Step}
-use Rattle.osc_message.specs.Endpoint.{EndpointState, own_id, settled}
-use Rattle.osc_message.specs.Heard.{heard}
+use Rattle.osc_message.specs.{EndpointState, own_id, settled, heard}
 use Rattle.osc_message.specs.declared.handling.Handling.TheVariants as handling
 use Rattle.osc_coap.specs.Message.{Message}
 use Rattle.osc_message.specs.declared.heard.Heard.{Heard}
 use Rattle.osc_message.specs.declared.heard.Heard.TheVariants as heard_as
-use Rattle.osc_ccm.specs.Ciphers.{Sealings, Tags}
-use Rattle.osc_client.specs.Case.{case_of, is_ended}
-use Rattle.osc_client.specs.Hearing.{Hears}
-use Rattle.osc_client.specs.Sending.{Asked, Asks, Exchanges, asks, begins, busy, hindered}
+use Rattle.osc_ccm.specs.{Sealings, Tags}
+use Rattle.osc_client.specs.{case_of, is_ended, Hears, Asked, Asks, Exchanges, asks, begins, busy, hindered, Answers, AnswersNew, Settles}
 use Rattle.osc_client.specs.Sending as sending
 use Rattle.osc_client.specs.State.{State as Client}
-use Rattle.osc_client.specs.Table.{Answers, AnswersNew, Settles}
 use Rattle.osc_client.specs.declared.case.Case.{Case}
 use Rattle.osc_client.specs.declared.case.Case.TheVariants.{Refused, Unused, Counted}
 

@@ -1,7 +1,7 @@
 -- What is true of each client and each proxy of a world.
 use Rattle.std.specs.Prelude.{◌≡◌, ℕ, List, Some, slice_get}
-use Rattle.osc_client.specs.Lawful.{IsLawfulClient}
-use Rattle.osc_proxy.specs.ThereAndBack.{IsLawfulProxy}
+use Rattle.osc_client.specs.{IsLawfulClient}
+use Rattle.osc_proxy.specs.{IsLawfulProxy}
 use Rattle.osc_proxy.specs.State.{State as Proxy}
 use Rattle.osc_client.specs.State.{State as Client}
 use Rattle.osc_world.specs.declared.nodes.Placed.{Placed}

@@ -4,14 +4,13 @@ use Rattle.std.specs.List.{IsDistinct, list_any}
 use Rattle.osc_model.specs.declared.node.Draw.{Draw}
 use Rattle.osc_model.specs.declared.node.Moment.{Moment}
 use Rattle.osc_model.specs.declared.node.Peer.{Peer}
-use Rattle.osc_context.specs.Nonce.{greatest_number}
-use Rattle.osc_message.specs.Confirmables.{same_peer}
-use Rattle.osc_run.specs.Nodes.{Cause, Came, Due}
+use Rattle.osc_context.specs.{greatest_number}
+use Rattle.osc_message.specs.{same_peer}
+use Rattle.osc_run.specs.{Cause, Came, Due}
 use Rattle.osc_run.specs.declared.noted.Actor.{Actor}
 use Rattle.osc_run.specs.declared.noted.Actor.TheVariants as actor
-use Rattle.osc_client.specs.Sending.{Asked}
-use Rattle.osc_client.specs.Lying.{Lie}
-use Rattle.osc_client.specs.State.{State as Client, skipped_to}
+use Rattle.osc_client.specs.{Asked, Lie, skipped_to}
+use Rattle.osc_client.specs.State.{State as Client}
 use Rattle.osc_server.specs.State.{State as Server}
 use Rattle.osc_proxy.specs.State.{State as Proxy}
 use Rattle.osc_world.specs.declared.event.Event.{Event}

@@ -6,13 +6,13 @@ use Rattle.osc_model.specs.declared.node.Draw.{Draw}
 use Rattle.osc_model.specs.declared.node.Moment.{Moment}
 use Rattle.osc_model.specs.declared.node.Peer.{Peer}
 use Rattle.osc_model.specs.declared.step.Step.{Step}
-use Rattle.osc_ccm.specs.Ciphers.{Sealings}
-use Rattle.osc_run.specs.Notes.{Noted, by_client, by_proxy, by_server}
-use Rattle.osc_server.specs.Hearing.{Hears as ServerHears}
+use Rattle.osc_ccm.specs.{Sealings}
+use Rattle.osc_run.specs.{Noted, by_client, by_proxy, by_server}
+use Rattle.osc_server.specs.{Hears as ServerHears}
 use Rattle.osc_server.specs.State.{State as Server}
-use Rattle.osc_client.specs.Hearing.{Hears as ClientHears}
+use Rattle.osc_client.specs.{Hears as ClientHears}
 use Rattle.osc_client.specs.State.{State as Client}
-use Rattle.osc_proxy.specs.Hearing.{Hears as ProxyHears}
+use Rattle.osc_proxy.specs.{Hears as ProxyHears}
 use Rattle.osc_proxy.specs.State.{State as Proxy}
 use Rattle.osc_world.specs.Log.{sent_from}
 use Rattle.osc_world.specs.Nodes.{StandApart}

@@ -1,36 +1,28 @@
 -- Quiet rounds that end well: what comes of an exchange, and of a request, where nothing is lost.
 use Rattle.std.specs.Prelude.{◌≡◌, ◌≢◌, ◌≤◌, ◌<◌, ◌+◌, ◌%◌, ℕ, Bool, true, false, length, List, [], ◌∷◌, ◌++◌, Some, None, slice_get}
 use Rattle.osc_model.specs.Refusals as refusal
-use Rattle.osc_model.specs.Apply.{apply_read}
+use Rattle.osc_model.specs.{apply_read}
 use Rattle.osc_model.specs.StepNotes.{StepNotes}
 use Rattle.osc_model.specs.declared.node.Draw.{Draw}
 use Rattle.osc_model.specs.declared.node.Moment.{Moment}
 use Rattle.osc_model.specs.declared.reply.Reply.{Reply}
 use Rattle.osc_model.specs.declared.step.ClientResult.TheVariants as result
-use Rattle.osc_cbor.specs.Spelling.{spelling}
-use Rattle.osc_dedup.specs.Table.{looked}
-use Rattle.osc_message.specs.Endpoint.{own_id}
-use Rattle.osc_window.specs.Window.{IsFresh}
-use Rattle.osc_authz.specs.Begun.{ClientContextState}
+use Rattle.osc_cbor.specs.{spelling}
+use Rattle.osc_dedup.specs.{looked}
+use Rattle.osc_message.specs.{own_id}
+use Rattle.osc_window.specs.{IsFresh}
+use Rattle.osc_authz.specs.{ClientContextState, In, contexts}
 use Rattle.osc_authz.specs.SecurityContext.{SecurityContext}
-use Rattle.osc_authz.specs.Members.{In}
-use Rattle.osc_authz.specs.Table.{contexts}
-use Rattle.osc_run.specs.History.{history}
-use Rattle.osc_run.specs.Notes.{Noted, by_client, by_server}
-use Rattle.osc_run.specs.Premise.{HasFreshDraws, IsMinted, Premise}
-use Rattle.osc_run.specs.ServerKinds.{Replies as AppliesTo}
-use Rattle.osc_options.specs.Texts.{read_request}
-use Rattle.osc_rounds.specs.AskRound.{asked_text}
-use Rattle.osc_rounds.specs.Asked.{OpenedRequest}
-use Rattle.osc_rounds.specs.ExchangeRound.{IsHeld}
-use Rattle.osc_rounds.specs.Ready.{Hops, IsStraight, IsThrough, MayAsk, MayExchange}
-use Rattle.osc_rounds.specs.RoundNotes.{AreAmongQuiet}
+use Rattle.osc_run.specs.{history, Noted, by_client, by_server, HasFreshDraws, IsMinted, Replies as AppliesTo}
+use Rattle.osc_run.specs.Premise.{Premise}
+use Rattle.osc_options.specs.{read_request}
+use Rattle.osc_rounds.specs.{asked_text, OpenedRequest, IsHeld, Hops, IsStraight, IsThrough, MayAsk, MayExchange, AreAmongQuiet}
 use Rattle.osc_server.specs.State.{State as Server}
-use Rattle.osc_client.specs.Sending.{Asked}
-use Rattle.osc_scope.specs.Entries.{Entry}
-use Rattle.osc_token.specs.Token.{claims_item}
+use Rattle.osc_client.specs.{Asked}
+use Rattle.osc_scope.specs.{Entry}
+use Rattle.osc_token.specs.{claims_item}
 use Rattle.osc_token.specs.declared.claims.Claims.{Claims}
-use Rattle.osc_ccm.specs.Ciphers.{Sealings, Tags}
+use Rattle.osc_ccm.specs.{Sealings, Tags}
 use Rattle.osc_proxy.specs.State.{State as Proxy}
 use Rattle.osc_client.specs.State.{State as Client}
 use Rattle.osc_world.specs.Quiet.{Deliveries, next_draw, waiting_first}

@@ -1,14 +1,13 @@
 -- Who can be enrolled, and why a client or a proxy can't be taken in.
 use Rattle.std.specs.Prelude.{◌≡◌, ◌≤◌, true, false, List, length, ⊤}
 use Rattle.std.specs.Option.{ForSome}
-use Rattle.osc_cbor.specs.Spelling.{spelling}
-use Rattle.osc_scope.specs.Entries.{Entry, IsScope}
-use Rattle.osc_token.specs.Minted.{most_claims}
-use Rattle.osc_token.specs.Token.{claims_item}
+use Rattle.osc_cbor.specs.{spelling}
+use Rattle.osc_scope.specs.{Entry, IsScope}
+use Rattle.osc_token.specs.{most_claims, claims_item}
 use Rattle.osc_token.specs.declared.claims.Claims.{Claims}
 use Rattle.osc_token.specs.declared.claims.InputMaterial.{InputMaterial}
 use Rattle.osc_model.specs.declared.node.Peer.{Peer}
-use Rattle.osc_authz.specs.Granted.{IsSecret, IsShort}
+use Rattle.osc_authz.specs.{IsSecret, IsShort}
 use Rattle.osc_authz.specs.declared.error.GrantError.{GrantError}
 use Rattle.osc_authz.specs.declared.error.GrantError.TheVariants as grant
 use Rattle.osc_world.specs.declared.error.EnrollError.{EnrollError}

@@ -4,20 +4,20 @@ use Rattle.osc_model.specs.Scope.{Scope}
 use Rattle.osc_model.specs.Tree.{Tree}
 use Rattle.osc_model.specs.declared.algorithm.Algorithm.TheVariants.{EightByteTag}
 use Rattle.osc_model.specs.declared.node.Peer.{Peer}
-use Rattle.osc_cbor.specs.Spelling.{spelling}
-use Rattle.osc_cose.specs.Encrypt0.{enc_structure, object_item}
-use Rattle.osc_scope.specs.Entries.{Entry, IsScope, scope_of}
-use Rattle.osc_token.specs.Token.{algorithm_header, claims_item, token_object}
+use Rattle.osc_cbor.specs.{spelling}
+use Rattle.osc_cose.specs.{enc_structure, object_item}
+use Rattle.osc_scope.specs.{Entry, IsScope, scope_of}
+use Rattle.osc_token.specs.{algorithm_header, claims_item, token_object}
 use Rattle.osc_token.specs.declared.claims.Claims.{Claims}
 use Rattle.osc_token.specs.declared.claims.InputMaterial.{InputMaterial}
-use Rattle.osc_authz.specs.Members.{In}
+use Rattle.osc_authz.specs.{In}
 use Rattle.osc_authz.specs.declared.granted.ClientDesk.{ClientDesk}
-use Rattle.osc_message.specs.Endpoint.{fresh}
-use Rattle.osc_ccm.specs.Ciphers.{Sealings}
-use Rattle.osc_run.specs.Runs.{IsNewClient, IsTextOf}
-use Rattle.osc_run.specs.States.{Minted}
-use Rattle.osc_client.specs.State.{State as Client, core}
-use Rattle.osc_proxy.specs.Exchanges.{none_open}
+use Rattle.osc_message.specs.{fresh}
+use Rattle.osc_ccm.specs.{Sealings}
+use Rattle.osc_run.specs.{IsNewClient, IsTextOf, Minted}
+use Rattle.osc_client.specs.{core}
+use Rattle.osc_client.specs.State.{State as Client}
+use Rattle.osc_proxy.specs.{none_open}
 use Rattle.osc_proxy.specs.declared.targets.Target.{Target}
 use Rattle.osc_proxy.specs.State.{State as Proxy}
 use Rattle.osc_world.specs.Nodes.{NodeStates, places}

@@ -1,18 +1,17 @@
 -- What a node does at an event.
 use Rattle.std.specs.Prelude.{◌≡◌, ℕ, Bool, true, false, List, [], Option, Some, None, slice_get, slice_set}
-use Rattle.osc_model.specs.Step.{sends}
+use Rattle.osc_model.specs.{sends}
 use Rattle.osc_model.specs.StepNotes.{StepNotes}
 use Rattle.osc_model.specs.declared.step.Step.{Step}
-use Rattle.osc_ccm.specs.Ciphers.{Sealings, Tags}
-use Rattle.osc_run.specs.Nodes.{Cause}
-use Rattle.osc_run.specs.Notes.{Noted, by_server, by_client, by_proxy}
+use Rattle.osc_ccm.specs.{Sealings, Tags}
+use Rattle.osc_run.specs.{Cause, Noted, by_server, by_client, by_proxy}
 use Rattle.osc_server.specs.State.{State as Server}
 use Rattle.osc_server.specs.Steps as of_server
-use Rattle.osc_client.specs.Hearing.{Begins, Requests, TellsLie}
-use Rattle.osc_client.specs.Sending.{restarted}
+use Rattle.osc_client.specs.{Begins, Requests, TellsLie, restarted}
 use Rattle.osc_client.specs.State.{State as Client}
 use Rattle.osc_client.specs.Steps as of_client
-use Rattle.osc_proxy.specs.State.{State as Proxy, restarted as proxy_again}
+use Rattle.osc_proxy.specs.{restarted as proxy_again}
+use Rattle.osc_proxy.specs.State.{State as Proxy}
 use Rattle.osc_proxy.specs.Steps as of_proxy
 use Rattle.osc_world.specs.Nodes.{NodeStates, Task, Take, StartAgain, ClientTask, Begin, Ask, TellLie, Do, Deed, Nothing, OfServer, OfClient, OfProxy}
 use Rattle.osc_world.specs.declared.nodes.Placed.{Placed}

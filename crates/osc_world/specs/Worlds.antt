@@ -1,11 +1,10 @@
 -- What a world is, and how it goes on.
 use Rattle.std.specs.Prelude.{◌≡◌, ℕ, List, [], ◌∷◌, ◌++◌, map, Option}
 use Rattle.osc_model.specs.Tree.{Tree}
-use Rattle.osc_ccm.specs.Ciphers.{Sealings, Tags}
-use Rattle.osc_run.specs.Notes.{Noted}
-use Rattle.osc_run.specs.States.{Minted, WorldState}
-use Rattle.osc_server.specs.State.{core as core_of_server}
-use Rattle.osc_client.specs.State.{core as core_of_client}
+use Rattle.osc_ccm.specs.{Sealings, Tags}
+use Rattle.osc_run.specs.{Noted, Minted, WorldState}
+use Rattle.osc_server.specs.{core as core_of_server}
+use Rattle.osc_client.specs.{core as core_of_client}
 use Rattle.osc_world.specs.Log.{LogState, delivered, sent_by, steps_with, recorded}
 use Rattle.osc_world.specs.Nodes.{NodeStates, deed_of}
 use Rattle.osc_world.specs.Steps.{Takes}

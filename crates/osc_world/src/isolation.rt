@@ -1,11 +1,9 @@
 //! What one client's requests are answered alone.
 ghost use Rattle.std.specs.Prelude.{◌≡◌, ◌++◌, ◌∷◌, List, IfOk, OnOk, map, option_map, ◌==◌, ◌&&◌, bytes_eq};
-ghost use Rattle.osc_model.specs.Apply.{apply_read};
-ghost use Rattle.osc_model.specs.Grant.{grant_of};
-ghost use Rattle.osc_model.specs.Isolation.{alone as answers_alone, entries_under, held_by, machine_answers};
+ghost use Rattle.osc_model.specs.{apply_read, grant_of, alone as answers_alone, entries_under, held_by, machine_answers};
 ghost use Rattle.osc_model.specs.declared.step.Entry.{Entry as Served};
-ghost use Rattle.osc_run.specs.States.{grants_of};
-ghost use Rattle.osc_options.specs.Texts.{read_request};
+ghost use Rattle.osc_run.specs.{grants_of};
+ghost use Rattle.osc_options.specs.{read_request};
 
 use osc_model::{Bytes, ContextName, Entry, Reply};
 use osc_options::request_in;

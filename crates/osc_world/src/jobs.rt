@@ -1,8 +1,7 @@
 //! What a node is to do at an event, and what it does.
 ghost use Rattle.std.specs.Prelude.{◌≡◌, ◌≤◌, IfOk, OnErr, length};
-ghost use Rattle.osc_client.specs.State.{core as core_of_client};
-ghost use Rattle.osc_client.specs.Steps.{most_sent as most_sent_by_client};
-ghost use Rattle.osc_run.specs.ClientKinds.{ClientStep};
+ghost use Rattle.osc_client.specs.{core as core_of_client, most_sent as most_sent_by_client};
+ghost use Rattle.osc_run.specs.{ClientStep};
 ghost use Rattle.osc_world.specs.Inner.Tasks.{MayBeDone, client_task_of, task_of};
 ghost use Rattle.osc_world.specs.Steps.{ClientDoes, Does, is_lie};
 ghost use Rattle.osc_world.specs.declared.event.Event.{Event as AnyEvent};

@@ -1,9 +1,9 @@
 //! The nodes of a world, and the step that one of them takes at an event.
 ghost use Rattle.std.specs.Prelude.{◌≡◌, ◌≤◌, IfOk, OnErr, length, option_map, position, slice_get};
 ghost use Rattle.std.specs.Borrow.{sem};
-ghost use Rattle.osc_client.specs.Steps.{most_sent as most_sent_by_client};
-ghost use Rattle.osc_proxy.specs.Steps.{most_sent as most_sent_by_proxy};
-ghost use Rattle.osc_rounds.specs.AskRound.{IsLawfulServer};
+ghost use Rattle.osc_client.specs.{most_sent as most_sent_by_client};
+ghost use Rattle.osc_proxy.specs.{most_sent as most_sent_by_proxy};
+ghost use Rattle.osc_rounds.specs.{IsLawfulServer};
 ghost use Rattle.osc_world.specs.Inner.Kinds.{IsSkip, IsStep};
 ghost use Rattle.osc_world.specs.Inner.Tasks.{MayBeDone, client_task_of, most_of, most_sent, task_of, whose_step};
 ghost use Rattle.osc_world.specs.Lending.{LendsClient, LendsProxy, LendsServer};
@@ -86,8 +86,7 @@ impl Drop for Nodes {
 impl Model for Nodes {
     ghost use Rattle.osc_world.specs.Nodes.{NodeStates};
     ghost use Rattle.std.specs.Coded.{codes};
-    ghost use Rattle.osc_model.specs.Scope.{coded_scope};
-    ghost use Rattle.osc_model.specs.Tree.{coded_tree};
+    ghost use Rattle.osc_model.specs.{coded_scope, coded_tree};
 
     ghost Value = { NodeStates };
 

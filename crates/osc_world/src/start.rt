@@ -2,14 +2,13 @@
 ghost use Rattle.std.specs.Prelude.{◌≡◌, ◌<◌, ◌^◌, ◌++◌, ℕ, List, [], ◌∷◌, IfErr, IfOk, OnErr, OnOk, length};
 ghost use Rattle.std.specs.List.{list_any};
 ghost use Rattle.std.specs.Option.{ForSome};
-ghost use Rattle.osc_cbor.specs.Spelling.{spelling};
-ghost use Rattle.osc_cose.specs.Encrypt0.{enc_structure, object_item};
-ghost use Rattle.osc_message.specs.Confirmables.{same_peer};
+ghost use Rattle.osc_cbor.specs.{spelling};
+ghost use Rattle.osc_cose.specs.{enc_structure, object_item};
+ghost use Rattle.osc_message.specs.{same_peer};
 ghost use Rattle.osc_model.specs.declared.algorithm.Algorithm.TheVariants.{EightByteTag};
-ghost use Rattle.osc_run.specs.Runs.{IsReached, IsTextOf};
-ghost use Rattle.osc_scope.specs.Entries.{Entry, IsScope, scope_of};
-ghost use Rattle.osc_token.specs.Minted.{FitTheirTypes};
-ghost use Rattle.osc_token.specs.Token.{algorithm_header, claims_item, token_object};
+ghost use Rattle.osc_run.specs.{IsReached, IsTextOf};
+ghost use Rattle.osc_scope.specs.{Entry, IsScope, scope_of};
+ghost use Rattle.osc_token.specs.{FitTheirTypes, algorithm_header, claims_item, token_object};
 ghost use Rattle.osc_world.specs.Nodes.{StandApart, is_among};
 ghost use Rattle.osc_world.specs.Refusals.{FitAToken, HasScope, IsFree, IsLawful, IsRefusal, Refuses, RefusesPlace};
 ghost use Rattle.osc_world.specs.Starts.{Enrols, IsDeskOf, IsEnrolled, begun, new_proxy, places_of};
@@ -77,12 +76,11 @@ pub struct Parts {
 impl Model for Start {
     ghost use Rattle.std.specs.Coded.{codes};
     ghost use Rattle.std.specs.List.{IsDistinct};
-    ghost use Rattle.osc_message.specs.Confirmables.{same_peer};
+    ghost use Rattle.osc_message.specs.{same_peer};
     ghost use Rattle.osc_model.specs.declared.algorithm.Algorithm.TheVariants.{EightByteTag};
-    ghost use Rattle.osc_model.specs.Scope.{coded_scope};
-    ghost use Rattle.osc_model.specs.Tree.{coded_tree};
-    ghost use Rattle.osc_run.specs.Runs.{IsTextOf};
-    ghost use Rattle.osc_token.specs.Minted.{FitTheirTypes};
+    ghost use Rattle.osc_model.specs.{coded_scope, coded_tree};
+    ghost use Rattle.osc_run.specs.{IsTextOf};
+    ghost use Rattle.osc_token.specs.{FitTheirTypes};
     ghost use Rattle.osc_world.specs.Nodes.{places};
     ghost use Rattle.osc_world.specs.Starts.{AreEnrolled, Beginning};
 

@@ -1,16 +1,14 @@
 //! The world.
 ghost use Rattle.std.specs.Prelude.{◌≡◌, ◌≢◌, ◌<◌, ◌↔◌, ◌++◌, ℕ, [], false, IfOk, IsTrue, List, OnErr, OnOk, length, map, option_map, position, reverse, slice_get};
-ghost use Rattle.osc_model.specs.Isolation.{Agree, HaveOwnPaths, alone as answers_alone, answered};
-ghost use Rattle.osc_run.specs.History.{acceptances, history as history_of, questions};
-ghost use Rattle.osc_run.specs.States.{grants_of};
-ghost use Rattle.osc_options.specs.Texts.{read_request};
+ghost use Rattle.osc_model.specs.{Agree, HaveOwnPaths, alone as answers_alone, answered};
+ghost use Rattle.osc_run.specs.{acceptances, history as history_of, questions, grants_of, IsReached, IsStart};
+ghost use Rattle.osc_options.specs.{read_request};
 ghost use Rattle.osc_run.specs.Premise.{Premise};
-ghost use Rattle.osc_rounds.specs.AskRound.{IsLawfulServer};
+ghost use Rattle.osc_rounds.specs.{IsLawfulServer};
 ghost use Rattle.osc_world.specs.Claims.{HasOneHistory, HasOwnAnswers, KeepsItsNonces};
 ghost use Rattle.osc_world.specs.Lawful.{AreLawfulClients, AreLawfulProxies};
 ghost use Rattle.osc_world.specs.Log.{settled, waiting};
 ghost use Rattle.osc_world.specs.Nodes.{StandApart, skipped};
-ghost use Rattle.osc_run.specs.Runs.{IsReached, IsStart};
 ghost use Rattle.osc_world.specs.Quiet.{AreWhole, Rounds, delivery};
 ghost use Rattle.osc_world.specs.Ready.{AnswersWhatWasAsked, MakesWhatWasBegun};
 ghost use Rattle.osc_world.specs.Worlds.{Happen, Happens, run_of, run_with};
@@ -57,14 +55,13 @@ impl Drop for World {
 }
 
 impl Model for World {
-    ghost use Rattle.osc_run.specs.Runs.{IsReached};
+    ghost use Rattle.osc_run.specs.{IsReached};
     ghost use Rattle.osc_world.specs.Nodes.{StandApart};
     ghost use Rattle.osc_world.specs.Quiet.{Rounds, delivery};
     ghost use Rattle.osc_world.specs.Ready.{AnswersWhatWasAsked, MakesWhatWasBegun};
     ghost use Rattle.osc_world.specs.Worlds.{State, run_of, world_of};
     ghost use Rattle.std.specs.Coded.{codes};
-    ghost use Rattle.osc_model.specs.Scope.{coded_scope};
-    ghost use Rattle.osc_model.specs.Tree.{coded_tree};
+    ghost use Rattle.osc_model.specs.{coded_scope, coded_tree};
 
     ghost Value = { State };
 

@@ -1,7 +1,6 @@
 -- The fields of a payload, taken out of its item. No public contract rests on this.
 use Rattle.std.specs.Prelude.{ℕ, nat_le, ◌&&◌, if◌then◌else◌, List, length, Option, Some, None, option_and_then}
-use Rattle.osc_cbor.specs.Data.{DataItem}
-use Rattle.osc_cbor.specs.Parts.{as_bytes, value}
+use Rattle.osc_cbor.specs.{DataItem, as_bytes, value}
 
 abbrev pub bytes_under : ℕ → DataItem → Option (List ℕ)
 bytes_under label d = option_and_then as_bytes (value label d)

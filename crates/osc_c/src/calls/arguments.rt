@@ -2,7 +2,7 @@
 ghost use Rattle.std.specs.Prelude.{◌≡◌, ◌==◌, ◌<◌, ◌≤◌, ◌^◌, if◌then◌else◌, IfOk, IfErr, None, Some};
 ghost use Rattle.osc_c.specs.Arguments.{IsFormat, IsNoFormat, IsUnfit, Tells};
 ghost use Rattle.osc_c.specs.declared.calls.outcome.Outcome.TheVariants.{BadArgument};
-ghost use Rattle.osc_model.specs.Path.{IsPath};
+ghost use Rattle.osc_model.specs.{IsPath};
 
 use crate::calls::outcome::Outcome;
 use osc_model::{Bytes, Moment, Path};

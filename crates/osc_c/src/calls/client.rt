@@ -7,7 +7,7 @@ ghost use Rattle.osc_c.specs.Granted.{IsNoClient};
 ghost use Rattle.osc_c.specs.Last.{HandsOut, nothing};
 ghost use Rattle.osc_c.specs.Results.{TellsResult, learnt_in};
 ghost use Rattle.osc_c.specs.Plain.{draw_of, peer_of};
-ghost use Rattle.osc_client.specs.Sending.{restarted};
+ghost use Rattle.osc_client.specs.{restarted};
 
 use crate::calls::arguments::{moment, tell};
 use crate::calls::granted;

@@ -1,8 +1,8 @@
 //! A device by calls of plain numbers and bytes.
 ghost use Rattle.std.specs.Prelude.{◌≡◌, ◌≢◌, IfErr, IfOk, OnErr};
 ghost use Rattle.osc_device.specs.State.{State};
-ghost use Rattle.osc_client.specs.Sending.{restarted};
-ghost use Rattle.osc_message.specs.Endpoint.{fresh};
+ghost use Rattle.osc_client.specs.{restarted};
+ghost use Rattle.osc_message.specs.{fresh};
 ghost use Rattle.osc_c.specs.Ends.{Ends};
 ghost use Rattle.osc_c.specs.Device.{HeardAt, HeardBy, TellsDeadline, TickedAt, TickedBy, Restarts, is_nowhere};
 ghost use Rattle.osc_c.specs.Last.{HandsOut, nothing};

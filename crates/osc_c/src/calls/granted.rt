@@ -4,7 +4,7 @@ ghost use Rattle.osc_c.specs.Arguments.{IsUnfit};
 ghost use Rattle.osc_c.specs.Plain.{peer_of};
 ghost use Rattle.osc_c.specs.Granted.{IsDesk, IsLawfulGrant, IsNoAlgorithm, IsWay, id_context_of, origin_of};
 ghost use Rattle.osc_c.specs.declared.calls.outcome.Outcome.TheVariants.{BadArgument};
-ghost use Rattle.osc_model.specs.Algorithm.{algorithm_number};
+ghost use Rattle.osc_model.specs.{algorithm_number};
 
 use crate::calls::arguments::{flag, optional};
 use crate::calls::outcome::Outcome;

@@ -1,7 +1,7 @@
 //! What a device does at its own server.
 ghost use Rattle.std.specs.Prelude.{◌≡◌, ◌≢◌, ◌<◌, IfErr, IfOk};
 ghost use Rattle.osc_c.specs.Arguments.{IsUnfit};
-ghost use Rattle.osc_device.specs.Answered.{own_request};
+ghost use Rattle.osc_device.specs.{own_request};
 ghost use Rattle.osc_c.specs.Own.{Asks, AsksBy, ComesTo, IsNoValue, Opens, OpensBy, RemovesBy, asked_for, is_refused_by, last_after};
 ghost use Rattle.osc_c.specs.Inner.Writes.{Reads};
 ghost use Rattle.osc_c.specs.Told.{told_of};

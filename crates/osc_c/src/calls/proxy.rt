@@ -1,11 +1,11 @@
 //! A proxy by calls of plain numbers and bytes.
 ghost use Rattle.std.specs.Prelude.{◌≡◌, ◌↔◌, [], IfOk, IsTrue, OnOk, OnErr};
-ghost use Rattle.osc_client.specs.Route.{IsHost};
+ghost use Rattle.osc_client.specs.{IsHost};
 ghost use Rattle.osc_c.specs.Ends.{Ends};
 ghost use Rattle.osc_c.specs.Last.{HandsOut, nothing};
 ghost use Rattle.osc_c.specs.Plain.{draw_of, peer_of};
 ghost use Rattle.osc_c.specs.Proxy.{AddsTarget, AddsTargetTo, HeardAt, HeardBy, IsRunning, TellsDeadline, TickedAt, TickedBy, proxy_of, restarted_from};
-ghost use Rattle.osc_proxy.specs.Hearing.{Hears};
+ghost use Rattle.osc_proxy.specs.{Hears};
 ghost use Rattle.osc_proxy.specs.Ticks.{Ticks};
 ghost use Rattle.osc_c.specs.declared.calls.proxy.Forwarding.TheVariants.{Setting};
 

@@ -3,7 +3,7 @@ ghost use Rattle.std.specs.Prelude.{◌≡◌};
 ghost use Rattle.std.specs.FinMap as map;
 ghost use Rattle.osc_c.specs.Values.{HasValue, TellsValue, TellsValueAt};
 ghost use Rattle.osc_c.specs.Serving.{HasServed, TellsRefused, TellsServed, bytes_of, first_of, flag_of, method_number_of, plain_refused, plain_served, refused_by_last, served_by_last};
-ghost use Rattle.osc_device.specs.Words.{refused_in, served_in};
+ghost use Rattle.osc_device.specs.{refused_in, served_in};
 
 use crate::calls::arguments;
 use crate::calls::arguments::format_number;

@@ -1,7 +1,7 @@
 //! The targets of a proxy that runs later.
 ghost use Rattle.std.specs.Prelude.{◌≡◌, [], ◌∷◌, ◌++◌, IfOk, OnErr, OnOk};
-ghost use Rattle.osc_message.specs.Endpoint.{fresh};
-ghost use Rattle.osc_proxy.specs.Exchanges.{none_open};
+ghost use Rattle.osc_message.specs.{fresh};
+ghost use Rattle.osc_proxy.specs.{none_open};
 
 use osc_model::{Bytes, Peer};
 use osc_proxy::{Proxy, Target, Targets};

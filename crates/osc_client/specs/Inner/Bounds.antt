@@ -2,15 +2,15 @@
 use Rattle.std.specs.Prelude.{◌≡◌, ◌≢◌, ◌≤◌, true, ℕ, List, [], length, Option, Some, None, IfSome}
 use Rattle.std.specs.List.{AllByRecursion}
 use Rattle.osc_model.specs.declared.node.Peer.{Peer}
-use Rattle.osc_authz.specs.Begun.{ClientContextState}
+use Rattle.osc_authz.specs.{ClientContextState}
 use Rattle.osc_authz.specs.declared.granted.ClientDesk.{ClientDesk}
 use Rattle.osc_coap.specs.Message.{Message}
-use Rattle.osc_message.specs.Confirmables.{Open, is_named}
+use Rattle.osc_message.specs.{Open, is_named}
 use Rattle.osc_model.specs.declared.context.ContextName.{ContextName}
-use Rattle.osc_ccm.specs.Ciphers.{Tags}
-use Rattle.osc_protect.specs.Protection.{plain_bytes, request_length}
+use Rattle.osc_ccm.specs.{Tags}
+use Rattle.osc_protect.specs.{plain_bytes, request_length}
 use Rattle.osc_protect.specs.declared.request.RequestSize.{RequestSize}
-use Rattle.osc_context.specs.Nonce.{greatest_number}
+use Rattle.osc_context.specs.{greatest_number}
 use Rattle.osc_client.specs.Case.{counts}
 use Rattle.osc_client.specs.declared.case.Case.{Case}
 use Rattle.osc_client.specs.declared.case.Case.TheVariants.{Counted}

@@ -2,7 +2,7 @@
 use Rattle.std.specs.Prelude.{◌≡◌, Option, Some, None}
 use Rattle.osc_model.specs.declared.reply.Reply.{Reply}
 use Rattle.osc_model.specs.declared.step.Note.{Note}
-use Rattle.osc_options.specs.Texts.{IsReplyIn}
+use Rattle.osc_options.specs.{IsReplyIn}
 use Rattle.osc_client.specs.declared.answering.Outcome.{Outcome}
 use Rattle.osc_client.specs.declared.answering.Outcome.TheVariants.{Stays, Answers}
 

@@ -1,7 +1,6 @@
 -- The parts of an object, taken out of its item. No public contract rests on this.
 use Rattle.std.specs.Prelude.{ℕ, List, Option, Some, None, option_and_then}
-use Rattle.osc_cbor.specs.Data.{DataItem, Items, no_items, item}
-use Rattle.osc_cbor.specs.Parts.{as_bytes, as_array, as_map}
+use Rattle.osc_cbor.specs.{DataItem, Items, no_items, item, as_bytes, as_array, as_map}
 use Rattle.osc_cose.specs.declared.encrypt0.Encrypt0.{Encrypt0}
 
 -- the items of an array of three

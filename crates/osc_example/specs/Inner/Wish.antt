@@ -2,7 +2,7 @@
 use Rattle.std.specs.Prelude.{◌≡◌, ◌⊎◌, ℕ, List, [], Option, Some, None}
 use Rattle.osc_model.specs.declared.code.Code.{Code}
 use Rattle.osc_model.specs.declared.code.Method.TheVariants.{Put}
-use Rattle.osc_device.specs.Words.{Holder, ServedRequest}
+use Rattle.osc_device.specs.{Holder, ServedRequest}
 use Rattle.osc_example.specs.Inner.Bolt.{wanted_word}
 use Rattle.osc_example.specs.Inner.Place.{text_of}
 use Rattle.osc_example.specs.declared.bolt.Wanted.{Wanted as AnyWanted}

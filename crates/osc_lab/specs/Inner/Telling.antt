@@ -3,16 +3,14 @@ use Rattle.std.specs.Prelude.{◌≡◌, ◌≢◌, ◌⊎◌, ℕ, false, List,
 use Rattle.std.specs.Io.KnownBytes.{Appends}
 use Rattle.osc_model.specs.declared.step.ClientResult.{ClientResult}
 use Rattle.osc_model.specs.declared.step.Step.{Step}
-use Rattle.osc_run.specs.ClientKinds.{ClientStep}
-use Rattle.osc_run.specs.Nodes.{Cause}
-use Rattle.osc_run.specs.Notes.{Noted, by_client}
+use Rattle.osc_run.specs.{ClientStep, Cause, Noted, by_client}
 use Rattle.osc_run.specs.declared.noted.Actor.{Actor}
-use Rattle.osc_client.specs.State.{State as Client, core}
+use Rattle.osc_client.specs.{core}
+use Rattle.osc_client.specs.State.{State as Client}
 use Rattle.osc_script.specs.declared.client_name.ClientName.{ClientName}
-use Rattle.osc_simulation.specs.Simulation.{is_sealing, tag_of}
-use Rattle.osc_world.specs.Nodes.{ClientTask}
-use Rattle.osc_world.specs.Steps.{ClientDoes, is_lie}
-use Rattle.osc_programs.specs.Ended.{IsFault}
+use Rattle.osc_simulation.specs.{is_sealing, tag_of}
+use Rattle.osc_world.specs.{ClientTask, ClientDoes, is_lie}
+use Rattle.osc_programs.specs.{IsFault}
 use Rattle.osc_lab.specs.Lab.{Lab, Learnt, all_told, learnt_in}
 use Rattle.osc_programs.specs.declared.ended.Ended.{Ended}
 use Rattle.osc_programs.specs.declared.ended.Ended.TheVariants.{Failed}

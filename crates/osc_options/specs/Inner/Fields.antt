@@ -1,7 +1,7 @@
 -- The values that a request is made of, as they are found in one pass over options. No public contract rests on this.
 use Rattle.std.specs.Prelude.{◌≡◌, ℕ, List, Option, Some, None, take, map}
 use Rattle.std.specs.Option.{option_map}
-use Rattle.osc_coap.specs.Message.{NumberAndValue}
+use Rattle.osc_coap.specs.{NumberAndValue}
 use Rattle.osc_options.specs.declared.error.PlaintextError.{PlaintextError}
 use Rattle.osc_options.specs.declared.error.PlaintextError.TheVariants.{BadOption, Memory}
 use Rattle.osc_options.specs.declared.fields.Fields.{Fields}

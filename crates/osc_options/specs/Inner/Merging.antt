@@ -1,9 +1,9 @@
 -- Merging from left to right, and options appended: the way from the code to the definitions. No public contract rests on this.
 use Rattle.std.specs.Prelude.{ℕ, Bool, true, false, not, ◌&&◌, ◌==◌, nat_lt, List, ◌++◌, Option, Some, None}
 use Rattle.osc_coap.specs.declared.kind.Kind.{Kind}
-use Rattle.osc_coap.specs.Message.{NumberAndValue, Message}
+use Rattle.osc_coap.specs.{NumberAndValue, payload_of}
+use Rattle.osc_coap.specs.Message.{Message}
 use Rattle.osc_coap.specs.Plaintext.{Plaintext}
-use Rattle.osc_coap.specs.Building.{payload_of}
 use Rattle.osc_options.specs.declared.table.Class.TheVariants.{E, U}
 use Rattle.osc_options.specs.Table.{class_of}
 use Rattle.osc_options.specs.Split.{same_class}

@@ -1,13 +1,12 @@
 -- What goes outside of a sealed reply. No public contract rests on this.
 use Rattle.std.specs.Prelude.{◌≡◌, ℕ, List, None}
-use Rattle.osc_coap.specs.Building.{bare}
+use Rattle.osc_coap.specs.{bare}
 use Rattle.osc_coap.specs.Message.{Message}
 use Rattle.osc_model.specs.declared.context.ContextName.{ContextName}
 use Rattle.osc_model.specs.declared.context.Side.TheVariants.{Server}
-use Rattle.osc_options.specs.Split.{protected}
-use Rattle.osc_ccm.specs.Ciphers.{Sealings}
-use Rattle.osc_context.specs.Algorithm.{algorithm_of}
-use Rattle.osc_context.specs.Derivation.{key_of}
+use Rattle.osc_options.specs.{protected}
+use Rattle.osc_ccm.specs.{Sealings}
+use Rattle.osc_context.specs.{algorithm_of, key_of}
 use Rattle.osc_protect.specs.Aad.{aad_of}
 use Rattle.osc_protect.specs.Protection.{request_nonce, response_value}
 use Rattle.osc_protect.specs.declared.header.Header.{Header}

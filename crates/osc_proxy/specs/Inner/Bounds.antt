@@ -1,9 +1,8 @@
 -- What a case tells of what it names, for the step that answers it.
 use Rattle.std.specs.Prelude.{◌≡◌, ◌<◌, ◌≤◌, ℕ, Bool, true, false, length, Some}
 use Rattle.osc_model.specs.declared.node.Peer.{Peer}
-use Rattle.osc_coap.specs.Code.{is_request_code}
-use Rattle.osc_coap.specs.Length.{datagram_limit}
-use Rattle.osc_coap.specs.Message.{Message as CoapMessage, spelling}
+use Rattle.osc_coap.specs.{is_request_code, datagram_limit, spelling}
+use Rattle.osc_coap.specs.Message.{Message as CoapMessage}
 use Rattle.osc_coap.specs.declared.kind.Kind.{Kind}
 use Rattle.osc_coap.specs.declared.kind.Kind.TheVariants.{Acknowledgement, Reset as ResetKind}
 use Rattle.osc_message.specs.declared.heard.Heard.{Heard}

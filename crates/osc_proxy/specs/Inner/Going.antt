@@ -5,11 +5,9 @@ use Rattle.osc_model.specs.declared.node.Draw.{Draw}
 use Rattle.osc_model.specs.declared.node.Moment.{Moment}
 use Rattle.osc_model.specs.declared.node.Peer.{Peer}
 use Rattle.osc_model.specs.declared.step.Datagram.{Datagram}
-use Rattle.osc_coap.specs.Code.{is_request_code}
-use Rattle.osc_coap.specs.Message.{HasSpelling, Message, spelling}
-use Rattle.osc_message.specs.Confirmables.{same_peer}
-use Rattle.osc_message.specs.Endpoint.{EndpointState}
-use Rattle.osc_message.specs.Sending.{FitsDatagram, IsSendableReply, acknowledgement, sent_to}
+use Rattle.osc_coap.specs.{is_request_code, HasSpelling, spelling}
+use Rattle.osc_coap.specs.Message.{Message}
+use Rattle.osc_message.specs.{same_peer, EndpointState, FitsDatagram, IsSendableReply, acknowledgement, sent_to}
 use Rattle.osc_proxy.specs.Exchanges.{get}
 use Rattle.osc_proxy.specs.Own.{goes_now, has_room, sends_own, with_own}
 use Rattle.osc_proxy.specs.State.{State}

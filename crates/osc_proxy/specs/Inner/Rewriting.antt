@@ -1,6 +1,7 @@
 -- Messages written anew option by option: the way from the code to the definitions.
 use Rattle.std.specs.Prelude.{ℕ, Bool, true, not, List, filter}
-use Rattle.osc_coap.specs.Message.{NumberAndValue, Message}
+use Rattle.osc_coap.specs.{NumberAndValue}
+use Rattle.osc_coap.specs.Message.{Message}
 use Rattle.osc_coap.specs.declared.kind.Kind.{Kind}
 use Rattle.osc_proxy.specs.Forwarding.{is_taken_out}
 use Rattle.osc_proxy.specs.declared.forwarding.Rewriting.{Rewriting}

@@ -3,7 +3,7 @@ use Rattle.std.specs.Prelude.{◌≡◌, ℕ, ◌-◌, ◌≤◌, Bool, true, fa
 use Rattle.std.specs.List.{AllByRecursion}
 use Rattle.std.specs.List.Sorted.{IsPartitionPoint}
 use Rattle.std.specs.Ordering.{is_lt}
-use Rattle.osc_model.specs.Path.{path_cmp}
+use Rattle.osc_model.specs.{path_cmp}
 use Rattle.osc_scope.specs.declared.kept.Place.{Place}
 
 -- the text between two places, with the set of methods

@@ -5,15 +5,14 @@ use Rattle.std.specs.Option.{ForSome}
 use Rattle.std.specs.Str.{bytes_eq, all_ascii_digits}
 use Rattle.std.specs.Str.Parse.{digits_value}
 use Rattle.std.proofs.lemmas.Bool.{ltb-true, leb-true, and_parts}
-use Rattle.osc_model.specs.Path.{IsPath}
-use Rattle.osc_model.specs.Tree.{longest_payload}
+use Rattle.osc_model.specs.{IsPath, longest_payload}
 use Rattle.osc_model.specs.declared.algorithm.Algorithm.{Algorithm}
 use Rattle.osc_model.specs.declared.algorithm.Algorithm.TheVariants.{EightByteTag, SixteenByteTag}
 use Rattle.osc_model.specs.declared.code.Method.{Method}
 use Rattle.osc_model.specs.declared.code.Method.TheVariants as method
 use Rattle.osc_model.specs.declared.node.Moment.{Moment}
 use Rattle.osc_model.specs.declared.request.Request.{Request}
-use Rattle.osc_scope.specs.Text.{name_of as method_name}
+use Rattle.osc_scope.specs.{name_of as method_name}
 use Rattle.osc_script.specs.Line.{plain_request, last_number}
 use Rattle.osc_script.specs.Node.{name_of}
 use Rattle.osc_script.specs.Words.{most_kept}

@@ -3,12 +3,12 @@ use Rattle.std.specs.Prelude.{◌≡◌, ℕ, ◌+◌, ◌<◌, ◌≤◌, ◌==
 use Rattle.std.specs.FinMap as map
 use Rattle.std.specs.List.{All}
 use Rattle.std.specs.Option.{ForSome}
-use Rattle.osc_coap.specs.Message.{Message, Spells, spelling}
-use Rattle.osc_dedup.specs.Table.{Entry}
-use Rattle.osc_model.specs.Apply.{apply_read}
+use Rattle.osc_coap.specs.{Spells, spelling}
+use Rattle.osc_coap.specs.Message.{Message}
+use Rattle.osc_dedup.specs.{Entry}
+use Rattle.osc_model.specs.{apply_read, method_number, longest_payload, payload_length}
 use Rattle.osc_model.specs.Arrival.{Arrival}
-use Rattle.osc_model.specs.Code.{method_number}
-use Rattle.osc_model.specs.Tree.{Tree, longest_payload, payload_length}
+use Rattle.osc_model.specs.Tree.{Tree}
 use Rattle.osc_model.specs.declared.code.Method.TheVariants.{Get}
 use Rattle.osc_model.specs.declared.bytes.Bytes.{Bytes}
 use Rattle.osc_model.specs.declared.code.Code.{Code}
@@ -16,18 +16,17 @@ use Rattle.osc_model.specs.declared.node.Peer.{Peer}
 use Rattle.osc_model.specs.declared.reply.Reply.{Reply}
 use Rattle.osc_model.specs.declared.request.Request.{Request}
 use Rattle.osc_model.specs.declared.step.Datagram.{Datagram}
-use Rattle.osc_context.specs.Algorithm.{algorithm_of}
-use Rattle.osc_authz.specs.Desk.{DeskState}
+use Rattle.osc_context.specs.{algorithm_of}
+use Rattle.osc_authz.specs.{DeskState}
 use Rattle.osc_authz.specs.SecurityContext.{SecurityContext}
-use Rattle.osc_message.specs.Endpoint.{EndpointState, settled}
-use Rattle.osc_message.specs.Sending.{AreSendable, FitsDatagram, datagram, replied}
+use Rattle.osc_message.specs.{EndpointState, settled, AreSendable, FitsDatagram, datagram, replied}
 use Rattle.osc_message.specs.declared.handling.Handling.TheVariants.{Answered}
 use Rattle.osc_message.specs.declared.heard.Heard.{Heard}
 use Rattle.osc_message.specs.declared.heard.Heard.TheVariants as heard
-use Rattle.osc_ccm.specs.Ciphers.{Sealings, Tags}
-use Rattle.osc_protect.specs.Protection.{SealedRequest, IsProtectedResponse}
-use Rattle.osc_run.specs.ServerKinds.{Replies as AppliesTo}
-use Rattle.osc_options.specs.Texts.{read_request, IsWithinRanges}
+use Rattle.osc_ccm.specs.{Sealings, Tags}
+use Rattle.osc_protect.specs.{SealedRequest, IsProtectedResponse}
+use Rattle.osc_run.specs.{Replies as AppliesTo}
+use Rattle.osc_options.specs.{read_request, IsWithinRanges}
 use Rattle.osc_server.specs.Table.{IsOpened, notes_of_request, reply_to}
 use Rattle.osc_server.specs.declared.case.Case.{Case}
 use Rattle.osc_server.specs.declared.case.Case.TheVariants.{OpenGet}

@@ -3,8 +3,7 @@ use Rattle.std.specs.Prelude.{◌≡◌, ◌≤◌, ℕ, suc, length, if◌then�
 use Rattle.std.specs.declared.alloc.Global.{Global}
 use Rattle.toml.specs.Data.{Data, Items, Members, get_member, as_str}
 use Rattle.toml.specs.Parse.{parse_document}
-use Rattle.osc_model.specs.Path.{IsPath}
-use Rattle.osc_model.specs.Tree.{most_resources}
+use Rattle.osc_model.specs.{IsPath, most_resources}
 use Rattle.osc_settings.specs.Document.{ListedAt, StandForEach}
 use Rattle.osc_settings.specs.Faults.{IsArrayAt, IsFaultAt, IsFirstFault, IsKeyFault}
 use Rattle.osc_settings.specs.Keys.{name_of}

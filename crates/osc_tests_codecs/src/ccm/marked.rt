@@ -4,7 +4,7 @@
 ghost use Rattle.std.specs.Prelude.{◌≡◌, ◌↔◌, ℕ, ◌+◌, ◌++◌, List, length, IsTrue};
 ghost use Rattle.std.proofs.Common.{lit≤, ap, sym, ◌∙◌};
 ghost use Rattle.std.proofs.lemmas.List.{append_cancel_right, length-append};
-ghost use Rattle.osc_ccm.specs.Limits.{IsInRange};
+ghost use Rattle.osc_ccm.specs.{IsInRange};
 
 use osc_ccm::{AAD_LIMIT, Aead, OpenError, SealError, TEXT_LIMIT};
 

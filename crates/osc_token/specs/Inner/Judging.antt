@@ -1,9 +1,8 @@
 -- How far claims stand the checks, by their item. No public contract rests on this.
 use Rattle.std.specs.Prelude.{◌≡◌, ℕ, List, Some, option_and_then}
-use Rattle.osc_model.specs.Grant.{HasBegun, IsNotOver}
+use Rattle.osc_model.specs.{HasBegun, IsNotOver}
 use Rattle.osc_model.specs.declared.node.Moment.{Moment}
-use Rattle.osc_cbor.specs.Data.{DataItem, text_string}
-use Rattle.osc_cbor.specs.Parts.{as_bytes, value}
+use Rattle.osc_cbor.specs.{DataItem, text_string, as_bytes, value}
 use Rattle.osc_token.specs.Inner.Reading.{dates_in, material_in}
 use Rattle.osc_token.specs.declared.claims.InputMaterial.{InputMaterial}
 use Rattle.osc_token.specs.declared.judging.Dates.{Dates}

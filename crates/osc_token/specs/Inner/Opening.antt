@@ -1,7 +1,7 @@
 -- Opening a token's object. No public contract rests on this.
 use Rattle.std.specs.Prelude.{◌≡◌, ◌≢◌, ℕ, ◌==◌, Bool, false, List, [], length, Option, Some, None, Result, Ok, Err}
-use Rattle.osc_cbor.specs.Data.{DataItem, tag}
-use Rattle.osc_cose.specs.Encrypt0.{NamesAlgorithm, enc_structure}
+use Rattle.osc_cbor.specs.{DataItem, tag}
+use Rattle.osc_cose.specs.{NamesAlgorithm, enc_structure}
 use Rattle.osc_cose.specs.declared.encrypt0.Encrypt0.{Encrypt0}
 
 -- the item is one under this tag

@@ -3,9 +3,7 @@
 use Rattle.std.specs.Prelude.{◌≡◌, ℕ, ◌==◌, ◌&&◌, ◌||◌, Bool, true, false, nat_lt, if◌then◌else◌, List, [], length, Option, Some, None, option_map, option_and_then}
 use Rattle.osc_model.specs.declared.algorithm.Algorithm.{Algorithm}
 use Rattle.osc_model.specs.declared.algorithm.Algorithm.TheVariants.{EightByteTag, SixteenByteTag}
-use Rattle.osc_cbor.specs.Data.{DataItem, unsigned, negative, byte_string, map, Pairs, no_pairs}
-use Rattle.osc_cbor.specs.Spelling.{IsWhole}
-use Rattle.osc_cbor.specs.Parts.{as_unsigned, as_map, value}
+use Rattle.osc_cbor.specs.{DataItem, unsigned, negative, byte_string, map, Pairs, no_pairs, IsWhole, as_unsigned, as_map, value}
 use Rattle.osc_token.specs.declared.claims.InputMaterial.{InputMaterial}
 use Rattle.osc_token.specs.declared.judging.Dates.{Dates}
 

@@ -2,12 +2,11 @@
 use Rattle.std.specs.Prelude.{◌≡◌, ℕ, Bool, Option, Some, None, slice_get, slice_set}
 use Rattle.osc_model.specs.declared.node.Moment.{Moment}
 use Rattle.osc_model.specs.declared.step.Step.{Step}
-use Rattle.osc_run.specs.ClientKinds.{ClientStep, IsSkipped}
-use Rattle.osc_run.specs.Notes.{by_server, by_client, by_proxy}
-use Rattle.osc_run.specs.ProxyKinds.{ProxyStep}
-use Rattle.osc_run.specs.ServerKinds.{ServerStep}
-use Rattle.osc_server.specs.State.{State as Server, core as core_of_server}
-use Rattle.osc_client.specs.State.{State as Client, core as core_of_client}
+use Rattle.osc_run.specs.{ClientStep, IsSkipped, by_server, by_client, by_proxy, ProxyStep, ServerStep}
+use Rattle.osc_server.specs.{core as core_of_server}
+use Rattle.osc_server.specs.State.{State as Server}
+use Rattle.osc_client.specs.{core as core_of_client}
+use Rattle.osc_client.specs.State.{State as Client}
 use Rattle.osc_proxy.specs.State.{State as Proxy}
 use Rattle.osc_world.specs.Nodes.{NodeStates}
 use Rattle.osc_world.specs.declared.nodes.Placed.{Placed}

@@ -2,8 +2,8 @@
 use Rattle.std.specs.Prelude.{ℕ, ◌+◌, ◌≤◌, ◌<◌, ⊤, List, Option, Some, None, slice_get}
 use Rattle.osc_model.specs.declared.node.Draw.{Draw}
 use Rattle.osc_model.specs.declared.node.Moment.{Moment}
-use Rattle.osc_context.specs.Nonce.{greatest_number}
-use Rattle.osc_run.specs.Nodes.{Came, Due}
+use Rattle.osc_context.specs.{greatest_number}
+use Rattle.osc_run.specs.{Came, Due}
 use Rattle.osc_client.specs.Steps as of_client
 use Rattle.osc_proxy.specs.Steps as of_proxy
 use Rattle.osc_proxy.specs.State.{State as Proxy}

@@ -1,4 +1,4 @@
-use Rattle.osc_aes.specs.KeyExpansion.{key_expansion}
+use Rattle.osc_aes.specs.{key_expansion}
 use Rattle.osc_aes.proofs.KeyLaws.{last_of}
 use Rattle.osc_aes.proofs.cipher.cipher.Goals as goal
 

@@ -1,5 +1,5 @@
 use Rattle.std.proofs.Common.{ℕ, List}
-use Rattle.osc_aes.specs.KeyExpansion.{key_expansion}
+use Rattle.osc_aes.specs.{key_expansion}
 use Rattle.osc_aes.proofs.KeyLaws.{next_round}
 use Rattle.osc_aes.proofs.cipher.nine_rounds_of_two.Goals as goal
 

@@ -1,6 +1,5 @@
 use Rattle.std.proofs.Common.{◌≡◌, ℕ, List, length, map, bit_xor, sym, refl, ap, ◌∙◌, rules, arith}
-use Rattle.osc_aes.specs.Field.{times_x, times_power}
-use Rattle.osc_aes.specs.KeyExpansion.{key_expansion}
+use Rattle.osc_aes.specs.{times_x, times_power, key_expansion}
 use Rattle.osc_aes.specs.Inner.Tower.{byte_of}
 use Rattle.osc_aes.specs.Inner.States.{with_constant, round_key}
 use Rattle.osc_aes.proofs.KeyLaws.{forms_next, round_key-0}

@@ -1,5 +1,5 @@
 use Rattle.std.proofs.Common.{subst, sym}
-use Rattle.osc_aes.specs.Field.{IsInverse}
+use Rattle.osc_aes.specs.{IsInverse}
 use Rattle.osc_aes.proofs.Inverses.{unique, inverse_is}
 use Rattle.osc_aes.proofs.laws.one_inverse.Goals as goal
 

@@ -2,8 +2,7 @@ use Rattle.std.proofs.Common.{◌≡◌, ◌∙◌, sym, ap, refl, inl, inr, ℕ
 use Rattle.std.specs.Prelude.{bytes_eq, find}
 use Rattle.std.proofs.lemmas.Slice.Eq.{bytes_eq-Decides}
 use Rattle.osc_authz.specs.SecurityContext.{SecurityContext}
-use Rattle.osc_authz.specs.Members.{In}
-use Rattle.osc_authz.specs.Table.{contexts, has_id, is_live, is_named, if_meant, with_id}
+use Rattle.osc_authz.specs.{In, contexts, has_id, is_live, is_named, if_meant, with_id}
 use Rattle.osc_authz.proofs.laws.held_contexts_are_meant.Goals as goal
 
 same_bytes : (bytes : List ℕ) → bytes_eq bytes bytes ≡ true

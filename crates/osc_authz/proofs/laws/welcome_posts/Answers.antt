@@ -1,27 +1,18 @@
 use Rattle.std.proofs.Common.{◌≡◌, ◌∙◌, sym, ap, subst, ℕ, ◌<◌, ◌≤◌, ◌^◌, List, [], ◌∷◌, length, Result, Ok, Err, arith}
-use Rattle.osc_model.specs.Draw.{nonce_drawn}
-use Rattle.osc_model.specs.Grant.{HasBegun, IsNotOver}
+use Rattle.osc_model.specs.{nonce_drawn, HasBegun, IsNotOver}
 use Rattle.osc_model.specs.Scope.{Scope}
 use Rattle.osc_model.specs.declared.node.Draw.{Draw}
 use Rattle.osc_model.specs.declared.node.Moment.{Moment}
-use Rattle.osc_cbor.specs.Spelling.{spelling}
-use Rattle.osc_cose.specs.Encrypt0.{enc_structure, object_item}
-use Rattle.osc_scope.specs.Entries.{Entry, IsScope, scope_of}
-use Rattle.osc_token.specs.Claims.{ComesTo}
-use Rattle.osc_token.specs.Minted.{HasLawfulParts}
-use Rattle.osc_token.specs.Token.{IsToken, algorithm_header, claims_item, token_object}
+use Rattle.osc_cbor.specs.{spelling}
+use Rattle.osc_cose.specs.{enc_structure, object_item}
+use Rattle.osc_scope.specs.{Entry, IsScope, scope_of}
+use Rattle.osc_token.specs.{ComesTo, HasLawfulParts, IsToken, algorithm_header, claims_item, token_object}
 use Rattle.osc_token.specs.declared.claims.Claims.{Claims}
 use Rattle.osc_token.specs.declared.error.TokenError.{TokenError}
-use Rattle.osc_authz.specs.Agreement.{Answers, refused, full, agreed}
-use Rattle.osc_authz.specs.Desk.{DeskState}
-use Rattle.osc_authz.specs.Exchange.{IsPost, post_item}
-use Rattle.osc_authz.specs.Post.{IsOpened, Posts}
-use Rattle.osc_authz.specs.Posting.{OpenedToken, offered}
-use Rattle.osc_authz.specs.Table.{IsFull, alive}
+use Rattle.osc_authz.specs.{Answers, refused, full, agreed, DeskState, IsPost, post_item, IsOpened, Posts, OpenedToken, offered, IsFull, alive, IsWelcome}
 use Rattle.osc_authz.specs.declared.granted.ClientDesk.{ClientDesk}
 use Rattle.osc_authz.specs.declared.post.Post.{Post}
 use Rattle.osc_authz.specs.declared.post.PostAnswer.{PostAnswer}
-use Rattle.osc_authz.specs.Welcome.{IsWelcome}
 use Rattle.osc_authz.proofs.laws.welcome_posts.Goals as goal
 
 abbrev granted : Claims → Scope → Result (Claims × Scope) TokenError

@@ -1,5 +1,5 @@
 use Rattle.std.proofs.Common.{refl, arith}
-use Rattle.osc_authz.specs.Exchange.{post_item, answer_item}
+use Rattle.osc_authz.specs.{post_item, answer_item}
 use Rattle.osc_authz.proofs.ExchangeLemmas.{post_pairs, answer_pairs, post_has_spelling, answer_has_spelling}
 use Rattle.osc_authz.proofs.laws.what_is_written.Goals as goal
 

@@ -1,6 +1,6 @@
 use Rattle.std.proofs.Common.{◌≡◌, ℕ, ◌<◌, ◌||◌, drop}
 use Rattle.osc_authz.specs.Inner.Marks.{is_among, is_marked}
-use Rattle.osc_authz.specs.Table.{alive, ids, without_pending}
+use Rattle.osc_authz.specs.{alive, ids, without_pending}
 use Rattle.osc_authz.proofs.marks.mark_staying.Given as goal
 
 -- what is marked or yet to be marked is what was so at first

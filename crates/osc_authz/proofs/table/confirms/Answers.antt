@@ -1,7 +1,7 @@
 use Rattle.std.proofs.Common.{false, sym, ap, ◌∙◌}
 use Rattle.std.specs.Option.{option_map_or}
 use Rattle.osc_authz.specs.declared.token_entry.TokenEntry.{TokenEntry}
-use Rattle.osc_authz.specs.Table.{has_id}
+use Rattle.osc_authz.specs.{has_id}
 use Rattle.osc_authz.proofs.Lookups.{is_placed}
 use Rattle.osc_authz.proofs.PlaceLemmas.{stays_indexed}
 use Rattle.osc_authz.proofs.table.confirms.Goals as goal

@@ -1,5 +1,5 @@
 use Rattle.std.proofs.Common.{sym, ◌∙◌}
-use Rattle.osc_authz.specs.Table.{alive, ids, without_pending}
+use Rattle.osc_authz.specs.{alive, ids, without_pending}
 use Rattle.osc_authz.proofs.MarkLemmas.{least_is_free, one_is_unmarked}
 use Rattle.osc_authz.proofs.table.free_id.Goals as goal
 

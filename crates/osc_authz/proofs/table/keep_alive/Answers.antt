@@ -1,6 +1,6 @@
 use Rattle.std.proofs.Common.{rules}
 use Rattle.std.proofs.lemmas.Fn.{filter_same}
-use Rattle.osc_authz.specs.Table.{holds_live}
+use Rattle.osc_authz.specs.{holds_live}
 use Rattle.osc_authz.proofs.table.keep_alive.Goals as goal
 
 pub returns-clause-items : goal.returns-clause-items

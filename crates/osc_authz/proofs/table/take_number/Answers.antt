@@ -2,9 +2,9 @@ use Rattle.std.proofs.Common.{◌≡◌, ℕ, ◌<◌, true, List, length, get_o
 use Rattle.std.specs.Prelude.{option_and_then, slice_get}
 use Rattle.std.proofs.lemmas.List.{get_or-set_same, length-set}
 use Rattle.std.proofs.lemmas.Option.{slice_get-get_or}
-use Rattle.osc_window.specs.Window.{IsFresh}
+use Rattle.osc_window.specs.{IsFresh}
 use Rattle.osc_authz.specs.SecurityContext.{SecurityContext}
-use Rattle.osc_authz.specs.Table.{confirmed_at, has_id, taking}
+use Rattle.osc_authz.specs.{confirmed_at, has_id, taking}
 use Rattle.osc_authz.specs.declared.token_entry.TokenEntry.{TokenEntry}
 use Rattle.osc_authz.proofs.Lookups.{HoldOf, accepted_here, each_of, found_here, is_placed}
 use Rattle.osc_authz.proofs.table.take_number.Goals as goal

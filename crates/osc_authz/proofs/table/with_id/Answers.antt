@@ -1,6 +1,6 @@
 use Rattle.std.proofs.Common.{◌++◌, sym, ap, ◌∙◌, find}
 use Rattle.osc_authz.specs.declared.token_entry.TokenEntry.{TokenEntry}
-use Rattle.osc_authz.specs.Table.{has_id, listed}
+use Rattle.osc_authz.specs.{has_id, listed}
 use Rattle.osc_authz.proofs.PlaceLemmas.{found_there, found_nowhere}
 use Rattle.osc_authz.proofs.table.with_id.Goals as goal
 

@@ -2,8 +2,7 @@
 use Rattle.std.proofs.Common.{ℤ, rules, subst}
 use Rattle.std.proofs.Math.Facts.{to_z-of_z}
 use Rattle.osc_model.specs.declared.code.Method.TheVariants.{Post}
-use Rattle.osc_c.specs.Own.{AsksBy, Writing}
-use Rattle.osc_c.specs.Ciphers.{sealing, tags}
+use Rattle.osc_c.specs.{AsksBy, Writing, sealing, tags}
 use Rattle.osc_c.proofs.Lending.{tells}
 use Rattle.osc_c.proofs.own.osc_device_append.Goals as goal
 

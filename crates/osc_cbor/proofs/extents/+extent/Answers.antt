@@ -1,9 +1,6 @@
 use Rattle.std.proofs.Common.{◌≡◌, ℕ, List, true, false, refl, sym, subst, ◌∙◌, arith}
 use Rattle.std.proofs.lemmas.Result.{err_from_is_err_and}
-use Rattle.osc_cbor.specs.Data.{unsigned, negative, no_items}
-use Rattle.osc_cbor.specs.Reading.{content_at, push_item, item_at}
-use Rattle.osc_cbor.specs.Same.{has_key}
-use Rattle.osc_cbor.specs.Spelling.{Spells}
+use Rattle.osc_cbor.specs.{unsigned, negative, no_items, content_at, push_item, item_at, has_key, Spells}
 use Rattle.osc_cbor.proofs.FoundLaws.{item_takes}
 use Rattle.osc_cbor.proofs.ReadSteps.{items_more, items_done, pairs_done, pairs_again}
 use Rattle.osc_cbor.proofs.ExtentLaws.{all_left, items_err, key_err, value_err, passed_start, passed_step}

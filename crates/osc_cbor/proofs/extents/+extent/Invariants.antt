@@ -1,7 +1,6 @@
 use Rattle.std.proofs.Common.{◌≡◌, ◌-◌, ◌+◌, ◌*◌}
-use Rattle.osc_cbor.specs.Data.{Items, no_items}
+use Rattle.osc_cbor.specs.{Items, no_items, items_from, item_at}
 use Rattle.osc_cbor.specs.Inner.Ends.{Passed}
-use Rattle.osc_cbor.specs.Reading.{items_from, item_at}
 use Rattle.osc_cbor.proofs.extents.+extent.Given as goal
 
 abbrev pub decreases-behind : goal.decreases-behind

@@ -1,6 +1,6 @@
 use Rattle.std.proofs.Common.{Ok, refl, sym, ap, subst, ◌∙◌, arith}
 use Rattle.std.proofs.lemmas.Result.{err_from_is_err_and}
-use Rattle.osc_cbor.specs.Faults.{Fails}
+use Rattle.osc_cbor.specs.{Fails}
 use Rattle.osc_cbor.proofs.ReadLaws.{rest_within, found_begins, found_only, found_first, same_err}
 use Rattle.osc_cbor.proofs.RefuseLaws.{item_refuses}
 use Rattle.osc_cbor.proofs.ExtentLaws.{never_refused, one_fault}

@@ -1,6 +1,5 @@
 use Rattle.std.proofs.Common.{◌≡◌, drop}
-use Rattle.osc_cbor.specs.Data.{value_under}
-use Rattle.osc_cbor.specs.View.{pairs_view}
+use Rattle.osc_cbor.specs.{value_under, pairs_view}
 use Rattle.osc_cbor.proofs.item.value_in.Given as goal
 
 abbrev pub invariant-loop-key : goal.invariant-loop-key

@@ -1,11 +1,8 @@
 use Rattle.std.proofs.Common.{◌≡◌, ◌-◌, [], ◌∷◌, ◌++◌, ℕ, suc, List, drop, length, Bor, refl, sym, ap, ap₂, subst, ◌∙◌, arith}
 use Rattle.std.proofs.lemmas.Result.{err_from_is_err_and}
-use Rattle.osc_cbor.specs.Data.{unsigned, negative}
-use Rattle.osc_cbor.specs.Head.{head}
-use Rattle.osc_cbor.specs.Spelling.{spelling}
+use Rattle.osc_cbor.specs.{unsigned, negative, head, spelling, Found, content_at, item_at}
 use Rattle.osc_cbor.specs.Inner.Notes.{Passes, AreApart, Repeats, pieces}
 use Rattle.osc_cbor.specs.declared.keys.Key.{Key}
-use Rattle.osc_cbor.specs.Reading.{Found, content_at, item_at}
 use Rattle.osc_cbor.proofs.FoundLaws.{item_takes}
 use Rattle.osc_cbor.proofs.PassLaws.{bytes_behind, text_behind, items_behind, pairs_behind, number_behind, items_start, item_ends, item_passed, items_passed, pairs_start, key_ends, room_ends, key_passed, value_ends, pair_passed, all_passed, they_are_apart, one_repeats}
 use Rattle.osc_cbor.proofs.NumberLaws.{number_passed}

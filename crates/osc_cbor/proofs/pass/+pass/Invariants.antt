@@ -1,5 +1,5 @@
 use Rattle.std.proofs.Common.{◌+◌, ◌*◌}
-use Rattle.osc_cbor.specs.Reading.{item_at}
+use Rattle.osc_cbor.specs.{item_at}
 use Rattle.osc_cbor.proofs.PassLaws.{PassedItems, PassedPairs}
 use Rattle.osc_cbor.proofs.pass.+pass.Given as goal
 

@@ -1,5 +1,5 @@
 use Rattle.std.proofs.Common.{◌≡◌, ◌∷◌, ◌++◌, ◌<◌, ℕ, suc, List, Ok, sym, ap, subst, ◌∙◌, arith}
-use Rattle.osc_cbor.specs.Reading.{item_at}
+use Rattle.osc_cbor.specs.{item_at}
 use Rattle.osc_cbor.proofs.Steps.{AreBytes}
 use Rattle.osc_cbor.proofs.NumberLaws.{inline_number, byte_number}
 use Rattle.osc_cbor.proofs.pass.pass_number.Goals as goal

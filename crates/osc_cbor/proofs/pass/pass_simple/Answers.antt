@@ -1,7 +1,6 @@
 use Rattle.std.proofs.Common.{◌++◌, [], ◌∷◌, ℕ, ◌+◌, true, false, refl, ap, ◌∙◌}
 use Rattle.std.proofs.lemmas.Bool.{ne_eqb}
-use Rattle.osc_cbor.specs.Data.{bool, null}
-use Rattle.osc_cbor.specs.Reading.{simple_at}
+use Rattle.osc_cbor.specs.{bool, null, simple_at}
 use Rattle.osc_cbor.proofs.pass.pass_simple.Goals as goal
 use Rattle.osc_cbor.proofs.pass.pass_simple.Goals.{else-bits-ne20-via-then-bits-ne20+then-bits-ne21+else-bits-ne22, else-bits-ne20-via-then-bits-ne20+else-bits-ne21, else-bits-ne20-via-else-bits-ne20}
 

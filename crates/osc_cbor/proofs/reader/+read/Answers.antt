@@ -1,7 +1,6 @@
 use Rattle.std.proofs.Common.{◌≡◌, sym, ap, ◌∙◌, arith}
 use Rattle.std.proofs.lemmas.Result.{err_from_is_err_and}
-use Rattle.osc_cbor.specs.Reading.{any_item_at}
-use Rattle.osc_cbor.specs.View.{view, items_view, pairs_view}
+use Rattle.osc_cbor.specs.{any_item_at, view, items_view, pairs_view}
 use Rattle.osc_cbor.proofs.Views.{items_view-push, pairs_view-push}
 use Rattle.osc_cbor.proofs.ReadSteps.{items_more, items_refused, items_done, any_pairs_more, any_key_refused, any_value_refused, any_pairs_done, any_item_headed}
 use Rattle.osc_cbor.proofs.reader.+read.Goals as goal

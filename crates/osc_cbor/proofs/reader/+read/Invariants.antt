@@ -1,7 +1,5 @@
 use Rattle.std.proofs.Common.{◌≡◌, ◌-◌, ◌+◌, ◌*◌}
-use Rattle.osc_cbor.specs.Data.{no_items, no_pairs}
-use Rattle.osc_cbor.specs.Reading.{items_from, any_pairs_from, any_item_at}
-use Rattle.osc_cbor.specs.View.{items_view, pairs_view}
+use Rattle.osc_cbor.specs.{no_items, no_pairs, items_from, any_pairs_from, any_item_at, items_view, pairs_view}
 use Rattle.osc_cbor.proofs.reader.+read.Given as goal
 
 abbrev pub decreases-item_of : goal.decreases-item_of

@@ -1,8 +1,6 @@
 use Rattle.std.proofs.Common.{refl, sym, subst, ◌∙◌, arith}
 use Rattle.std.proofs.lemmas.Result.{err_from_is_err_and}
-use Rattle.osc_cbor.specs.Faults.{Fails}
-use Rattle.osc_cbor.specs.Reading.{Refuses}
-use Rattle.osc_cbor.specs.View.{view}
+use Rattle.osc_cbor.specs.{Fails, Refuses, view}
 use Rattle.osc_cbor.proofs.AnyLaws.{same_reading}
 use Rattle.osc_cbor.proofs.ReadLaws.{rest_within, found_begins, found_only, only_memory, found_first, same_err, never_memory}
 use Rattle.osc_cbor.proofs.RefuseLaws.{item_refuses}

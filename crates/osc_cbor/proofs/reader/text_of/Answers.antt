@@ -2,7 +2,7 @@ use Rattle.std.proofs.Common.{◌≡◌, true, false, refl}
 use Rattle.std.proofs.lemmas.Bool.{false_from_ne_true}
 use Rattle.std.proofs.lemmas.Str.{IsUtf8-from_is_utf8, is_utf8-from_IsUtf8}
 use Rattle.std.specs.Str.{is_utf8}
-use Rattle.osc_cbor.specs.Reading.{text_at}
+use Rattle.osc_cbor.specs.{text_at}
 use Rattle.osc_cbor.proofs.reader.text_of.Goals as goal
 
 pub returns-in-Ok : goal.returns-in-Ok

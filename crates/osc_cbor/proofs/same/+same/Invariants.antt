@@ -1,6 +1,5 @@
 use Rattle.std.proofs.Common.{◌≡◌, drop}
-use Rattle.osc_cbor.specs.Same.{same_items, same_pairs}
-use Rattle.osc_cbor.specs.View.{items_view, pairs_view}
+use Rattle.osc_cbor.specs.{same_items, same_pairs, items_view, pairs_view}
 use Rattle.osc_cbor.proofs.same.+same.Given as goal
 
 abbrev pub invariant-same_items-loop-i : goal.invariant-same_items-loop-i

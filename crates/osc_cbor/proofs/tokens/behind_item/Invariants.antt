@@ -1,6 +1,5 @@
 use Rattle.std.proofs.Common.{◌≡◌, ℕ, List, ◌++◌, length}
-use Rattle.osc_cbor.specs.Data.{DataItem}
-use Rattle.osc_cbor.specs.Spelling.{Spells}
+use Rattle.osc_cbor.specs.{DataItem, Spells}
 use Rattle.osc_cbor.specs.Inner.Tokens.{Pending}
 use Rattle.osc_cbor.proofs.tokens.behind_item.Given as goal
 

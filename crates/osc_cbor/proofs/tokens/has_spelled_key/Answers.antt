@@ -1,6 +1,5 @@
 use Rattle.std.proofs.Common.{◌≡◌, ℕ, ◌-◌, ◌+◌, ◌++◌, true, false, List, sym, ap, subst, ◌∙◌, arith}
-use Rattle.osc_cbor.specs.Same.{same}
-use Rattle.osc_cbor.specs.Spelling.{Spells}
+use Rattle.osc_cbor.specs.{same, Spells}
 use Rattle.osc_cbor.specs.Inner.Tokens.{Keys}
 use Rattle.osc_cbor.proofs.TokenLaws.{keys_start, first_pair, keys_done}
 use Rattle.osc_cbor.proofs.tokens.has_spelled_key.Goals as goal

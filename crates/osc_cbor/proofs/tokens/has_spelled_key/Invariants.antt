@@ -1,6 +1,5 @@
 use Rattle.std.proofs.Common.{◌≡◌, ℕ, ◌-◌, List, ◌++◌}
-use Rattle.osc_cbor.specs.Data.{DataItem, Pairs, pair_count}
-use Rattle.osc_cbor.specs.Spelling.{Spells, SpellsPairs}
+use Rattle.osc_cbor.specs.{DataItem, Pairs, pair_count, Spells, SpellsPairs}
 use Rattle.osc_cbor.specs.Inner.Tokens.{Keys}
 use Rattle.osc_cbor.proofs.tokens.has_spelled_key.Given as goal
 

@@ -1,5 +1,5 @@
 use Rattle.std.proofs.Common.{sym, ◌∙◌, eqb-true, eq-eqb}
-use Rattle.osc_cbor.specs.Data.{map}
+use Rattle.osc_cbor.specs.{map}
 use Rattle.osc_cbor.proofs.TokenLaws.{token_kind, token_there, map_of_kind}
 use Rattle.osc_cbor.proofs.tokens.is_spelled_map.Goals as goal
 

@@ -1,7 +1,6 @@
 use Rattle.std.proofs.Common.{sym, subst, ◌∙◌}
 use Rattle.std.proofs.lemmas.Bool.{false≢true}
-use Rattle.osc_cbor.specs.Spelling.{IsWhole}
-use Rattle.osc_cbor.specs.View.{view}
+use Rattle.osc_cbor.specs.{IsWhole, view}
 use Rattle.osc_cbor.proofs.WholeLemmas.{whole_is_read}
 use Rattle.osc_cbor.proofs.whole.read_whole.Goals as goal
 

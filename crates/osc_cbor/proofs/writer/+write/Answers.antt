@@ -1,7 +1,5 @@
 use Rattle.std.proofs.Common.{length, append_assoc, rules}
-use Rattle.osc_cbor.specs.Head.{head}
-use Rattle.osc_cbor.specs.Spelling.{items_spelling, pairs_spelling}
-use Rattle.osc_cbor.specs.View.{items_view, pairs_view}
+use Rattle.osc_cbor.specs.{head, items_spelling, pairs_spelling, items_view, pairs_view}
 use Rattle.osc_cbor.proofs.Views.{item_count-view, pair_count-view}
 use Rattle.osc_cbor.proofs.writer.+write.Goals as goal
 

@@ -1,8 +1,5 @@
 use Rattle.std.proofs.Common.{◌≡◌, ◌++◌, ◌≤◌, take, drop, vec_len}
-use Rattle.osc_cbor.specs.Data.{item_count, pair_count}
-use Rattle.osc_cbor.specs.Head.{head}
-use Rattle.osc_cbor.specs.Spelling.{items_spelling, pairs_spelling}
-use Rattle.osc_cbor.specs.View.{items_view, pairs_view}
+use Rattle.osc_cbor.specs.{item_count, pair_count, head, items_spelling, pairs_spelling, items_view, pairs_view}
 use Rattle.osc_cbor.proofs.writer.+write.Given as goal
 
 abbrev pub invariant-write_items-loop-item : goal.invariant-write_items-loop-item

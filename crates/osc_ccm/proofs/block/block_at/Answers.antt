@@ -1,5 +1,5 @@
 use Rattle.std.proofs.Common.{◌≡◌, length, ap, sym, ◌∙◌, rules}
-use Rattle.osc_ccm.specs.Ccm.{piece}
+use Rattle.osc_ccm.specs.{piece}
 use Rattle.osc_ccm.proofs.BlockLemmas.{filled_whole}
 use Rattle.osc_ccm.proofs.block.block_at.Goals as goal
 

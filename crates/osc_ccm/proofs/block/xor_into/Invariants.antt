@@ -1,5 +1,5 @@
 use Rattle.std.proofs.Common.{◌≡◌, ◌++◌, take, drop}
-use Rattle.osc_ccm.specs.Ccm.{xor}
+use Rattle.osc_ccm.specs.{xor}
 use Rattle.osc_ccm.proofs.block.xor_into.Given as goal
 
 abbrev pub invariant-loop-index : goal.invariant-loop-index

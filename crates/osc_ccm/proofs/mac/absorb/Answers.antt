@@ -1,6 +1,6 @@
 use Rattle.std.proofs.Common.{◌≡◌, length, map, fold, ap, ◌∙◌, arith}
 use Rattle.std.specs.List.{range_with_len}
-use Rattle.osc_ccm.specs.Ccm.{blocks, block_count, mac_step, filled, piece}
+use Rattle.osc_ccm.specs.{blocks, block_count, mac_step, filled, piece}
 use Rattle.osc_ccm.proofs.BlockLemmas.{mac_more}
 use Rattle.osc_ccm.proofs.mac.absorb.Goals as goal
 

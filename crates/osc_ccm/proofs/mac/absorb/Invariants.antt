@@ -1,6 +1,6 @@
 use Rattle.std.proofs.Common.{◌≡◌, map}
 use Rattle.std.specs.List.{fold, range_with_len}
-use Rattle.osc_ccm.specs.Ccm.{filled, piece, mac_step}
+use Rattle.osc_ccm.specs.{filled, piece, mac_step}
 use Rattle.osc_ccm.proofs.mac.absorb.Given as goal
 
 abbrev pub invariant-loop-index : goal.invariant-loop-index

@@ -1,7 +1,7 @@
 use Rattle.std.proofs.Common.{◌≡◌, ◌<◌, ◌-◌, length, take, drop, min, fold, ap, sym, ◌∙◌, arith}
 use Rattle.std.proofs.lemmas.List.{take_rest, drop_min}
 use Rattle.std.proofs.lemmas.Bool.Decides.{nat_tests}
-use Rattle.osc_ccm.specs.Ccm.{blocks, mac_step}
+use Rattle.osc_ccm.specs.{blocks, mac_step}
 use Rattle.osc_ccm.proofs.BlockLemmas.{aad_blocks-cons}
 use Rattle.osc_ccm.proofs.mac.absorb_aad_and_stream.Goals as goal
 

@@ -1,6 +1,6 @@
 use Rattle.std.proofs.Common.{◌≡◌, ◌<◌, ◌+◌, ◌*◌, length, map, fold, ap, sym, refl, ◌∙◌, arith, rules}
 use Rattle.std.specs.List.{range_with_len}
-use Rattle.osc_ccm.specs.Ccm.{xor, blocks, block_count, mac_step, filled, piece, ciphered, key_stream, stream_block}
+use Rattle.osc_ccm.specs.{xor, blocks, block_count, mac_step, filled, piece, ciphered, key_stream, stream_block}
 use Rattle.osc_ccm.proofs.BlockLemmas.{mac_more}
 use Rattle.osc_ccm.proofs.StreamLemmas.{length-key_stream_none, length-key_stream_more, piece-ciphered, length-ciphered}
 use Rattle.osc_ccm.proofs.mac.absorb_ciphered.Goals as goal

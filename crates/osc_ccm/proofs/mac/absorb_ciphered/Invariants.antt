@@ -1,6 +1,6 @@
 use Rattle.std.proofs.Common.{◌≡◌, ◌+◌, ◌*◌, ◌<◌, map, length}
 use Rattle.std.specs.List.{fold, range_with_len}
-use Rattle.osc_ccm.specs.Ccm.{block_count, filled, piece, mac_step, key_stream, stream_block, ciphered}
+use Rattle.osc_ccm.specs.{block_count, filled, piece, mac_step, key_stream, stream_block, ciphered}
 use Rattle.osc_ccm.proofs.mac.absorb_ciphered.Given as goal
 
 abbrev pub invariant-loop-index : goal.invariant-loop-index

@@ -1,6 +1,6 @@
 use Rattle.std.proofs.Common.{◌≡◌, ◌≤◌, ◌+◌, ◌*◌, ◌++◌, length, map, fold, drop, take, ap, sym, ◌∙◌, arith, refl}
 use Rattle.std.specs.List.{range_with_len}
-use Rattle.osc_ccm.specs.Ccm.{xor, blocks, key_stream, ciphered, block_count, mac_step, filled, piece}
+use Rattle.osc_ccm.specs.{xor, blocks, key_stream, ciphered, block_count, mac_step, filled, piece}
 use Rattle.osc_ccm.proofs.BlockLemmas.{mac_more}
 use Rattle.osc_ccm.proofs.StreamLemmas.{length-key_stream_none, key_stream_more, length-key_stream_more, left_same, ciphered_more, ciphered_all}
 use Rattle.osc_ccm.proofs.pass.encrypt_and_absorb.Goals as goal

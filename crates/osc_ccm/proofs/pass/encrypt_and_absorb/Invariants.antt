@@ -1,6 +1,6 @@
 use Rattle.std.proofs.Common.{◌≡◌, ◌++◌, ◌*◌, map, take, drop, length}
 use Rattle.std.specs.List.{fold, range_with_len}
-use Rattle.osc_ccm.specs.Ccm.{xor, filled, piece, mac_step, key_stream}
+use Rattle.osc_ccm.specs.{xor, filled, piece, mac_step, key_stream}
 use Rattle.osc_ccm.proofs.pass.encrypt_and_absorb.Given as goal
 
 abbrev pub invariant-loop-index : goal.invariant-loop-index

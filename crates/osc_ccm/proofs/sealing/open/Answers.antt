@@ -1,6 +1,6 @@
 use Rattle.std.proofs.Common.{◌-◌, ◌≤◌, length, arith, refl}
 use Rattle.osc_ccm.proofs.GenuineLemmas.{none_is_sealed}
-use Rattle.osc_ccm.specs.Limits.{IsInRange}
+use Rattle.osc_ccm.specs.{IsInRange}
 use Rattle.osc_ccm.proofs.sealing.open.Goals as goal
 
 pub returns-then-not-open_text-clause-not_genuine : goal.returns-then-not-open_text-clause-not_genuine

@@ -1,5 +1,5 @@
 use Rattle.std.proofs.Common.{◌≡◌, ◌-◌, length, take, drop, ap, sym, ◌∙◌, refl}
-use Rattle.osc_ccm.specs.Ccm.{ciphered, tag_of}
+use Rattle.osc_ccm.specs.{ciphered, tag_of}
 use Rattle.osc_ccm.proofs.GenuineLemmas.{genuine}
 use Rattle.osc_ccm.proofs.sealing.open_in_one_pass.Goals as goal
 

@@ -1,6 +1,6 @@
 use Rattle.std.proofs.Common.{◌≡◌, ◌≤◌, ℕ, List, ◌+◌, ◌-◌, ◌*◌, length, ap, subst, ◌∙◌, arith, refl}
 use Rattle.std.proofs.lemmas.Bool.Decides.{nat_tests}
-use Rattle.osc_ccm.specs.Ccm.{xor, key_stream, stream_block, ciphered, block_count}
+use Rattle.osc_ccm.specs.{xor, key_stream, stream_block, ciphered, block_count}
 use Rattle.osc_ccm.specs.Inner.Stream.{IsCiphered}
 use Rattle.osc_ccm.proofs.StreamLemmas.{length-key_stream_none, ciphered_all}
 use Rattle.osc_ccm.proofs.stream.cipher_in_place.Goals as goal

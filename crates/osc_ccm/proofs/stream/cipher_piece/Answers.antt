@@ -1,7 +1,6 @@
 use Rattle.std.proofs.Common.{◌≡◌, ℕ, List, ◌≤◌, ◌+◌, ◌*◌, ◌++◌, length, drop, take, ap, sym, ◌∙◌, arith, rules}
 use Rattle.std.proofs.lemmas.List.{length-append, length-take, length-drop}
-use Rattle.osc_ccm.specs.Ccm.{xor, key_stream, stream_block}
-use Rattle.osc_ccm.specs.OneText.{length-xor}
+use Rattle.osc_ccm.specs.{xor, key_stream, stream_block, length-xor}
 use Rattle.osc_ccm.specs.Inner.Stream.{IsCiphered}
 use Rattle.osc_ccm.proofs.StreamLemmas.{key_stream_more, length-key_stream_more, ciphered_more}
 use Rattle.osc_ccm.proofs.stream.cipher_piece.Goals as goal

@@ -1,6 +1,6 @@
 use Rattle.std.proofs.Common.{◌≤◌, ◌*◌, ◌++◌, length, drop, take, ap, ◌∙◌, arith, rules, ◌≡◌}
 use Rattle.std.proofs.lemmas.List.{length-take}
-use Rattle.osc_ccm.specs.Ccm.{xor, filled}
+use Rattle.osc_ccm.specs.{xor, filled}
 use Rattle.osc_ccm.proofs.BlockLemmas.{filled_xor}
 use Rattle.osc_ccm.proofs.stream.ciphered_block.Goals as goal
 

@@ -1,6 +1,6 @@
 use Rattle.std.proofs.Common.{◌≡◌, ◌∙◌, sym, true, refl}
-use Rattle.osc_options.specs.Split.{has_oscore}
-use Rattle.osc_client.specs.Answering.{malformed}
+use Rattle.osc_options.specs.{has_oscore}
+use Rattle.osc_client.specs.{malformed}
 use Rattle.osc_client.proofs.answering.ask_outcome.Goals as goal
 
 pub returns-in-Err-clause-comes : goal.returns-in-Err-clause-comes

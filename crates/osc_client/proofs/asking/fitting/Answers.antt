@@ -1,11 +1,9 @@
 use Rattle.std.proofs.Common.{◌≡◌, ◌≤◌, refl, sym, ap, subst, ◌∙◌}
 use Rattle.osc_coap.specs.Message.{Message}
-use Rattle.osc_options.specs.PlaintextRequests.{request_plaintext}
-use Rattle.osc_options.specs.Split.{unprotected}
-use Rattle.osc_protect.specs.Protection.{longest_message, request_length}
+use Rattle.osc_options.specs.{request_plaintext, unprotected}
+use Rattle.osc_protect.specs.{longest_message, request_length}
 use Rattle.osc_client.specs.Inner.Bounds.{size_for}
-use Rattle.osc_client.specs.Sending.{plain_request}
-use Rattle.osc_client.specs.Route.{through}
+use Rattle.osc_client.specs.{plain_request, through}
 use Rattle.osc_client.proofs.Through.{request_around}
 use Rattle.osc_client.proofs.asking.fitting.Goals as goal
 

@@ -1,7 +1,7 @@
 use Rattle.std.proofs.Common.{rules, ℕ, List, [], ◌∷◌, ◌<◌, ◌≤◌, refl, arith}
 use Rattle.std.specs.Result.{IsOk}
 use Rattle.std.proofs.lemmas.Bool.{leb-true, leb-false}
-use Rattle.osc_protect.specs.Protection.{longest_message}
+use Rattle.osc_protect.specs.{longest_message}
 use Rattle.osc_client.proofs.Posting.{around, as_long, of_each}
 use Rattle.osc_client.proofs.exchanging.each_post_fits.Goals as goal
 

@@ -1,6 +1,6 @@
 use Rattle.std.proofs.Common.{refl, arith}
 use Rattle.std.proofs.lemmas.Bool.{both_ways}
-use Rattle.osc_client.specs.Sending.{post_with}
+use Rattle.osc_client.specs.{post_with}
 use Rattle.osc_client.proofs.Through.{no_shorter, post_order, refused}
 use Rattle.osc_client.proofs.exchanging.post_message.Goals as goal
 

@@ -1,4 +1,4 @@
-use Rattle.osc_client.specs.Sending.{plain_request}
+use Rattle.osc_client.specs.{plain_request}
 use Rattle.osc_client.proofs.Through.{encrypted_same, request_order}
 use Rattle.osc_client.proofs.laws.encrypted_through_a_proxy.Goals as goal
 

@@ -2,14 +2,16 @@ use Rattle.std.proofs.Common.{◌≡◌, ◌∙◌, ◌<◌, ◌≤◌, ◌+◌,
 use Rattle.std.proofs.lemmas.Bool.{cases_lt}
 use Rattle.osc_coap.specs.Message.{Message}
 use Rattle.osc_model.specs.declared.node.Peer.{Peer}
-use Rattle.osc_model.specs.StepNotes.{StepNotes, quiet}
+use Rattle.osc_model.specs.{quiet}
+use Rattle.osc_model.specs.StepNotes.{StepNotes}
 use Rattle.osc_model.specs.declared.step.Datagram.{Datagram}
 use Rattle.osc_model.specs.declared.step.Note.{Note}
-use Rattle.osc_context.specs.Algorithm.{algorithm_of}
-use Rattle.osc_protect.specs.Protection.{IsRequestOf, RoomOf, length_of_request, longest_message}
-use Rattle.osc_run.specs.ClientKinds.{request_note}
-use Rattle.osc_message.specs.Sending.{datagram}
-use Rattle.osc_client.specs.Lying.{Lie, lie_length, lies, too_long}
+use Rattle.osc_context.specs.{algorithm_of}
+use Rattle.osc_protect.specs.{IsRequestOf, RoomOf, length_of_request, longest_message}
+use Rattle.osc_run.specs.{request_note}
+use Rattle.osc_message.specs.{datagram}
+use Rattle.osc_client.specs.{Lie, lie_length, lies}
+use Rattle.osc_client.specs.Lying.{too_long}
 use Rattle.osc_client.proofs.lying.lie_under.Goals as goal
 
 pub returns-in-Ok-clause-lied : goal.returns-in-Ok-clause-lied

@@ -1,6 +1,6 @@
 use Rattle.std.proofs.Common.{◌≡◌, ◌-◌, length, refl, ap, ◌∙◌, arith}
 use Rattle.std.proofs.lemmas.List.{length-append}
-use Rattle.osc_coap.specs.Message.{extension, option_spelling}
+use Rattle.osc_coap.specs.{extension, option_spelling}
 use Rattle.osc_coap.proofs.LengthLaws.{length-extension, length-option_spelling}
 use Rattle.osc_coap.proofs.BuildLaws.{option_appended}
 use Rattle.osc_coap.proofs.body.push_option.Goals as goal

@@ -1,6 +1,6 @@
 use Rattle.std.proofs.Common.{length, refl, ap, arith}
 use Rattle.std.proofs.lemmas.List.{length-append}
-use Rattle.osc_coap.specs.Message.{option_spelling}
+use Rattle.osc_coap.specs.{option_spelling}
 use Rattle.osc_coap.proofs.BuildLaws.{short_spelling, short_appended}
 use Rattle.osc_coap.proofs.body.push_short.Goals as goal
 

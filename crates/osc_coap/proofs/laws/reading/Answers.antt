@@ -1,5 +1,5 @@
 use Rattle.std.proofs.Common.{ap, ◌∙◌}
-use Rattle.osc_coap.specs.Reading.{message_at, plaintext_at}
+use Rattle.osc_coap.specs.{message_at, plaintext_at}
 use Rattle.osc_coap.proofs.MessageLaws.{message_takes, message_again}
 use Rattle.osc_coap.proofs.PlaintextLaws.{plaintext_takes, plaintext_again}
 use Rattle.osc_coap.proofs.laws.reading.Goals as goal

@@ -1,4 +1,4 @@
-use Rattle.osc_context.specs.Derivation.{derived}
+use Rattle.osc_context.specs.{derived}
 use Rattle.osc_context.proofs.laws.derived_lengths.Goals as goal
 
 pub returns-clause-key : goal.returns-clause-key

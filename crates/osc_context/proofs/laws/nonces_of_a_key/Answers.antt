@@ -1,6 +1,5 @@
 use Rattle.std.proofs.Common.{List, ℕ, sym, ap, ◌∙◌}
-use Rattle.osc_context.specs.Derivation.{common_iv_of}
-use Rattle.osc_context.specs.Nonce.{nonce}
+use Rattle.osc_context.specs.{common_iv_of, nonce}
 use Rattle.osc_context.proofs.laws.nonces_of_a_key.Goals as goal
 
 pub returns : goal.returns

@@ -1,8 +1,7 @@
 use Rattle.std.proofs.Common.{◌≡◌, List, ℕ, ◌++◌, sym, ap, ◌∙◌, append_assoc}
 use Rattle.std.proofs.lemmas.List.{append_cancel_left}
-use Rattle.osc_cbor.specs.Data.{byte_string}
-use Rattle.osc_cbor.specs.Spelling.{spelling}
-use Rattle.osc_context.specs.MasterSalt.{master_salt}
+use Rattle.osc_cbor.specs.{byte_string, spelling}
+use Rattle.osc_context.specs.{master_salt}
 use Rattle.osc_context.proofs.SaltLemmas.{content_of}
 use Rattle.osc_context.proofs.laws.one_master_salt.Goals as goal
 

@@ -1,8 +1,7 @@
 use Rattle.std.proofs.Common.{sym, subst, ◌∙◌, option_copied}
 use Rattle.std.proofs.lemmas.Bool.{false≢true}
-use Rattle.osc_cbor.specs.Data.{map}
-use Rattle.osc_cbor.specs.View.{pairs_of}
-use Rattle.osc_cose.specs.Encrypt0.{IsObject}
+use Rattle.osc_cbor.specs.{map, pairs_of}
+use Rattle.osc_cose.specs.{IsObject}
 use Rattle.osc_cose.specs.Inner.Parts.{object_of_parts}
 use Rattle.osc_cose.specs.declared.encrypt0.Encrypt0.{Encrypt0}
 use Rattle.osc_cose.proofs.PartsLemmas.{protected_from_object, object_from_parts}

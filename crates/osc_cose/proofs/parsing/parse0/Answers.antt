@@ -1,5 +1,5 @@
 use Rattle.std.proofs.Common.{sym, subst}
-use Rattle.osc_cose.specs.Encrypt0.{IsObject}
+use Rattle.osc_cose.specs.{IsObject}
 use Rattle.osc_cose.proofs.parsing.parse0.Goals as goal
 
 pub returns-in-Some-clause-only : goal.returns-in-Some-clause-only

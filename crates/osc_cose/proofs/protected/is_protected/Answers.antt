@@ -1,4 +1,4 @@
-use Rattle.osc_cose.specs.Encrypt0.{IsProtected}
+use Rattle.osc_cose.specs.{IsProtected}
 use Rattle.osc_cose.proofs.ProtectedLemmas.{protected_in_map, some_bytes}
 use Rattle.osc_cose.proofs.protected.is_protected.Goals as goal
 

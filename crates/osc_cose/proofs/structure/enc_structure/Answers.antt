@@ -1,5 +1,5 @@
 use Rattle.std.proofs.Common.{ap, arith, length}
-use Rattle.osc_cbor.specs.Head.{head}
+use Rattle.osc_cbor.specs.{head}
 use Rattle.osc_cose.proofs.StructureLemmas.{enc_structure_is, enc_structure_length, appended_parts}
 use Rattle.osc_cose.proofs.structure.enc_structure.Goals as goal
 

@@ -1,6 +1,6 @@
 use Rattle.std.proofs.Common.{◌∙◌}
 use Rattle.indexmap.proofs.CallerLemmas.{insert_entry-new}
-use Rattle.osc_dedup.specs.Keys.{same_key}
+use Rattle.osc_dedup.specs.{same_key}
 use Rattle.osc_dedup.proofs.table.append.Goals as goal
 
 pub returns-clause-appended : goal.returns-clause-appended

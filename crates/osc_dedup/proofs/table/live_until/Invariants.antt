@@ -1,6 +1,6 @@
 use Rattle.std.proofs.Common.{map}
 use Rattle.std.specs.Map.Iter.{deref_pair}
-use Rattle.osc_dedup.specs.Keys.{AllLiveUntil}
+use Rattle.osc_dedup.specs.{AllLiveUntil}
 use Rattle.osc_dedup.proofs.table.live_until.Given as goal
 
 abbrev pub invariant-loop-noted : goal.invariant-loop-noted

@@ -1,6 +1,6 @@
 use Rattle.std.proofs.Common.{◌≡◌, ◌+◌, ◌-◌, length, drop, ap, sym, ◌∙◌, arith, suc}
 use Rattle.indexmap.specs.Layout.{set_value_at, length-set_value_at}
-use Rattle.osc_dedup.specs.Keys.{nothing}
+use Rattle.osc_dedup.specs.{nothing}
 use Rattle.osc_dedup.proofs.Places.{drop_past, one_more_gone, keys_stay}
 use Rattle.osc_dedup.proofs.table.make_place.Goals as goal
 

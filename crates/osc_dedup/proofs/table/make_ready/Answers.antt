@@ -1,6 +1,6 @@
 use Rattle.std.proofs.Common.{◌≡◌, ◌-◌, Some, drop, filter, count_by, length, ap, sym, ◌∙◌, arith}
 use Rattle.std.proofs.lemmas.List.{length-drop, length-map}
-use Rattle.osc_dedup.specs.Keys.{stays, same_key}
+use Rattle.osc_dedup.specs.{stays, same_key}
 use Rattle.osc_dedup.proofs.Keys.{absent_from_end, absent_staying, few_left}
 use Rattle.osc_dedup.proofs.Places.{moved_behind, none_moved, absent_by_keys, live_past}
 use Rattle.osc_dedup.proofs.table.make_ready.Goals as goal

@@ -1,6 +1,6 @@
 use Rattle.std.proofs.Common.{◌≡◌, ◌++◌, ◌-◌, count_by, filter, length, drop, ap, sym, ◌∙◌, arith}
 use Rattle.indexmap.specs.Drain.{drain_rest}
-use Rattle.osc_dedup.specs.Keys.{stays, same_key}
+use Rattle.osc_dedup.specs.{stays, same_key}
 use Rattle.osc_dedup.proofs.Distinct.{filter_kept, filter_gone, drop_fewer, distinct_past, absent_next, whole_range}
 use Rattle.osc_dedup.proofs.Keys.{same_key_equiv}
 use Rattle.osc_dedup.proofs.table.move_staying.Goals as goal

@@ -3,7 +3,7 @@ use Rattle.std.specs.List.{IsDistinct}
 use Rattle.std.specs.Map.{keys_of}
 use Rattle.indexmap.specs.IndexMap.{spare}
 use Rattle.indexmap.specs.Drain.{drain_rest}
-use Rattle.osc_dedup.specs.Keys.{stays, same_key}
+use Rattle.osc_dedup.specs.{stays, same_key}
 use Rattle.osc_dedup.proofs.table.move_staying.Given as goal
 
 abbrev pub invariant-loop-key : goal.invariant-loop-key

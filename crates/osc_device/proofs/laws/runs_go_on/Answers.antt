@@ -1,5 +1,5 @@
 use Rattle.std.proofs.Common.{◌≡◌, sym, subst}
-use Rattle.osc_run.specs.States.{ServerState}
+use Rattle.osc_run.specs.{ServerState}
 use Rattle.osc_device.proofs.Going.{of_round}
 use Rattle.osc_device.proofs.laws.runs_go_on.Goals as goal
 

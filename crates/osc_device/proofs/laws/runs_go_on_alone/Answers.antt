@@ -1,7 +1,7 @@
 use Rattle.std.proofs.Common.{sym, subst, [], ◌∷◌}
 use Rattle.osc_client.specs.State.{State as Client}
-use Rattle.osc_run.specs.Notes.{by_server}
-use Rattle.osc_device.specs.Runs.{GoesOn}
+use Rattle.osc_run.specs.{by_server}
+use Rattle.osc_device.specs.{GoesOn}
 use Rattle.osc_device.proofs.Going.{device, of_client_step, of_server_step, then}
 use Rattle.osc_device.proofs.laws.runs_go_on_alone.Goals as goal
 

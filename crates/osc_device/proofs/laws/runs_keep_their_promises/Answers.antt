@@ -1,5 +1,5 @@
 use Rattle.std.proofs.Common.{◌≡◌, sym, subst}
-use Rattle.osc_run.specs.States.{ServerState}
+use Rattle.osc_run.specs.{ServerState}
 use Rattle.osc_device.proofs.Entering.{of_an_entry}
 use Rattle.osc_device.proofs.laws.runs_keep_their_promises.Goals as goal
 

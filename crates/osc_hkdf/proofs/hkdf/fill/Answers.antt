@@ -1,7 +1,6 @@
 use Rattle.std.proofs.Common.{◌≡◌, ℕ, ◌+◌, ◌*◌, ◌-◌, ◌<◌, ◌≤◌, min, List, [], ◌∷◌, ◌++◌, length, take, refl, sym, ap, ◌∙◌, arith}
-use Rattle.osc_hkdf.specs.Hmac.{hmac_of}
+use Rattle.osc_hkdf.specs.{hmac_of, output_block, output_blocks, expand_of}
 use Rattle.osc_hkdf.specs.Inner.Mac.{Holds}
-use Rattle.osc_hkdf.specs.Hkdf.{output_block, output_blocks, expand_of}
 use Rattle.osc_hkdf.proofs.Output.{begins_inside, all_counted, none_yet, previous_block, output_block-more, one_more, filled}
 use borrow.Rule.Slice.PartMut.{put_mid, same_len_mid}
 use Rattle.osc_hkdf.proofs.hkdf.fill.Goals as goal

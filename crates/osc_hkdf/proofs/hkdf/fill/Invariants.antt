@@ -1,5 +1,5 @@
 use Rattle.std.proofs.Common.{◌≡◌, ℕ, ◌*◌, List, [], length, take}
-use Rattle.osc_hkdf.specs.Hkdf.{output_blocks}
+use Rattle.osc_hkdf.specs.{output_blocks}
 use Rattle.osc_hkdf.specs.Inner.Mac.{Holds}
 use Rattle.osc_hkdf.proofs.hkdf.fill.Given as goal
 

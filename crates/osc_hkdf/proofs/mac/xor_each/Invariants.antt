@@ -1,5 +1,5 @@
 use Rattle.std.proofs.Common.{◌≡◌, ◌++◌, take, drop}
-use Rattle.osc_hkdf.specs.Hmac.{pad}
+use Rattle.osc_hkdf.specs.{pad}
 use Rattle.osc_hkdf.proofs.mac.xor_each.Given as goal
 
 abbrev pub invariant-loop-byte : goal.invariant-loop-byte

@@ -1,4 +1,4 @@
-use Rattle.osc_lab.specs.Lab.{run_of}
+use Rattle.osc_lab.specs.{run_of}
 use Rattle.osc_lab.proofs.laws.labs_have_one_history.Goals as goal
 
 pub returns : goal.returns

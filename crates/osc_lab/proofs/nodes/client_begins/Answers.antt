@@ -1,5 +1,5 @@
 use Rattle.std.proofs.Common.{None, refl}
-use Rattle.osc_lab.specs.Lab.{task_of}
+use Rattle.osc_lab.specs.{task_of}
 use Rattle.osc_lab.proofs.Labs.{always_ok, at_exit, began, not_begun, nothing_learnt, stops_at_once}
 use Rattle.osc_lab.proofs.Appended.{appends_none}
 use Rattle.osc_lab.proofs.nodes.client_begins.Goals as goal

@@ -1,5 +1,5 @@
 use Rattle.std.proofs.Common.{None, Some, refl}
-use Rattle.osc_world.specs.Nodes.{Do, Take}
+use Rattle.osc_world.specs.{Do, Take}
 use Rattle.osc_lab.proofs.Labs.{always_ok, at_exit, behind, nothing_learnt, stops_at_once, turned}
 use Rattle.osc_lab.proofs.Appended.{appends_none}
 use Rattle.osc_lab.proofs.nodes.client_turns_at.Goals as goal

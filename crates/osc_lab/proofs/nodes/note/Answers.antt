@@ -1,5 +1,5 @@
 use Rattle.std.proofs.Common.{◌∙◌, ap, ◌∷◌}
-use Rattle.osc_run.specs.Notes.{Kept, Noted}
+use Rattle.osc_run.specs.{Kept, Noted}
 use Rattle.osc_lab.proofs.Labs.{stops_if}
 use Rattle.osc_lab.proofs.nodes.note.Goals as goal
 

@@ -1,5 +1,5 @@
 use Rattle.std.proofs.Common.{inl, inr, refl}
-use Rattle.osc_turn.specs.Ports.{cause_of}
+use Rattle.osc_turn.specs.{cause_of}
 use Rattle.osc_lab.proofs.Labs.{always_ok, noted_steps, nothing_learnt, taught_nothing}
 use Rattle.osc_lab.proofs.nodes.noted_turn.Goals as goal
 

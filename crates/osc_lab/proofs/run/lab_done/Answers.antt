@@ -1,8 +1,8 @@
 use Rattle.std.proofs.Common.{sym, subst}
 use Rattle.std.specs.FinMap as map
 use Rattle.std.proofs.lemmas.Result.{on_ok_weaker, IfErr-weaker}
-use Rattle.osc_simulation.specs.SetUp.{CanPutAll}
-use Rattle.osc_lab.specs.Lab.{no_script}
+use Rattle.osc_simulation.specs.{CanPutAll}
+use Rattle.osc_lab.specs.{no_script}
 use Rattle.osc_lab.proofs.Labs.{at_exit, printed_by, stopped_by}
 use Rattle.osc_lab.proofs.Appended.{appends_none}
 use Rattle.osc_lab.proofs.Endings.{fault_lab}

@@ -1,7 +1,7 @@
 use Rattle.std.proofs.Common.{◌∙◌, ap}
 use Rattle.std.proofs.lemmas.Result.{on_ok_weaker, IfErr-weaker}
 use Rattle.osc_simulation.specs.Names.{Names}
-use Rattle.osc_lab.specs.Lab.{in_lines, unbegun}
+use Rattle.osc_lab.specs.{in_lines, unbegun}
 use Rattle.osc_lab.proofs.Labs.{at_exit}
 use Rattle.osc_lab.proofs.Appended.{appends_none}
 use Rattle.osc_lab.proofs.run.lab_lines.Goals as goal

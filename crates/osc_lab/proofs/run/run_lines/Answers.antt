@@ -1,5 +1,5 @@
 use Rattle.std.proofs.Common.{[]}
-use Rattle.osc_lab.specs.Lab.{no_line}
+use Rattle.osc_lab.specs.{no_line}
 use Rattle.osc_lab.proofs.Labs.{all_lines, at_exit, one_more_line, stops_in}
 use Rattle.osc_lab.proofs.Appended.{appends_none}
 use Rattle.osc_lab.proofs.run.run_lines.Goals as goal

@@ -1,7 +1,7 @@
 use Rattle.std.proofs.Common.{ℕ, List, take}
 use Rattle.std.specs.Io.KnownBytes.{Appends}
 use Rattle.osc_lab.specs.Inner.Telling.{lab_of}
-use Rattle.osc_lab.specs.Lab.{TellsLines}
+use Rattle.osc_lab.specs.{TellsLines}
 use Rattle.osc_lab.proofs.run.run_lines.Given as goal
 
 -- what came of the lines so far is told

@@ -1,5 +1,5 @@
 use Rattle.std.proofs.Common.{◌+◌, arith, refl}
-use Rattle.osc_lab.specs.Lab.{no_whole_turn, stays}
+use Rattle.osc_lab.specs.{no_whole_turn, stays}
 use Rattle.osc_lab.proofs.Labs.{at_exit, leads_more, one_more_whole, stops_more, tells_more, tells_none}
 use Rattle.osc_lab.proofs.Appended.{appends_none}
 use Rattle.osc_lab.proofs.run.take_whole_turns.Goals as goal

@@ -1,6 +1,6 @@
 use Rattle.std.proofs.Common.{◌≤◌}
 use Rattle.osc_lab.specs.Inner.Telling.{Tells, lab_of}
-use Rattle.osc_lab.specs.Lab.{Leads, WholeTurns, learnt}
+use Rattle.osc_lab.specs.{Leads, WholeTurns, learnt}
 use Rattle.osc_lab.proofs.run.take_whole_turns.Given as goal
 
 -- so many whole turns were taken, and what clients learnt by them is told

@@ -1,8 +1,6 @@
 use Rattle.std.proofs.Common.{◌≡◌, false, not, filter, subst, sym, ap, ◌∙◌, rules}
 use Rattle.std.proofs.lemmas.Fn.{filter_same}
-use Rattle.osc_message.specs.Confirmables.{is_named, acknowledged}
-use Rattle.osc_message.specs.Bounds.{IsSound}
-use Rattle.osc_message.specs.Queue.{AreMarked, messages, marked}
+use Rattle.osc_message.specs.{is_named, acknowledged, IsSound, AreMarked, messages, marked}
 use Rattle.osc_message.proofs.Marks.{filter_messages, marked_filter, messages_marked}
 use Rattle.osc_message.proofs.Sound.{sound_filter}
 use Rattle.osc_message.proofs.confirmable.acknowledge.Goals as goal

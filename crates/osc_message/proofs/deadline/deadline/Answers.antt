@@ -1,8 +1,6 @@
 use Rattle.std.proofs.Common.{◌||◌, not, ◌+◌, take, drop, ap, sym, ◌∙◌, arith}
 use Rattle.std.specs.List.{list_any}
-use Rattle.osc_message.specs.Bounds.{is_reached}
-use Rattle.osc_message.specs.Queue.{messages}
-use Rattle.osc_message.specs.Ticks.{due_of, dues, is_kept}
+use Rattle.osc_message.specs.{is_reached, messages, due_of, dues, is_kept}
 use Rattle.osc_message.proofs.Open.{one_more_idle, all_idle}
 use Rattle.osc_message.proofs.Marks.{bounded_at_place, due_at_place, first_at_place, or_assoc}
 use Rattle.osc_message.proofs.deadline.deadline.Goals as goal

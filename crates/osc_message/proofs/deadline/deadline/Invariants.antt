@@ -1,9 +1,7 @@
 use Rattle.std.proofs.Common.{◌≡◌, ◌||◌, not, take, drop, IfNone}
 use Rattle.std.specs.List.{All, list_any}
 use Rattle.osc_model.specs.declared.node.Moment.{Moment}
-use Rattle.osc_message.specs.Bounds.{is_reached}
-use Rattle.osc_message.specs.Queue.{IsIdle, messages}
-use Rattle.osc_message.specs.Ticks.{dues, is_kept, acts}
+use Rattle.osc_message.specs.{is_reached, IsIdle, messages, dues, is_kept, acts}
 use Rattle.osc_message.proofs.deadline.deadline.Given as goal
 
 abbrev pub invariant-loop-index : goal.invariant-loop-index

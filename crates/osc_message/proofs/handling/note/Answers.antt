@@ -1,5 +1,5 @@
 use Rattle.std.proofs.Common.{subst, sym}
-use Rattle.osc_message.specs.Bounds.{AreShort}
+use Rattle.osc_message.specs.{AreShort}
 use Rattle.osc_message.proofs.Notes.{with_note_short}
 use Rattle.osc_message.proofs.handling.note.Goals as goal
 

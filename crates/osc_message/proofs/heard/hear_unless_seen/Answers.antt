@@ -1,6 +1,6 @@
 use Rattle.std.proofs.Common.{◌≡◌, Some, rules, subst, sym}
-use Rattle.osc_dedup.specs.Table.{looked}
-use Rattle.osc_message.specs.Sending.{IsSendableReply}
+use Rattle.osc_dedup.specs.{looked}
+use Rattle.osc_message.specs.{IsSendableReply}
 use Rattle.osc_message.proofs.Notes.{looked_fits}
 use Rattle.osc_message.proofs.heard.hear_unless_seen.Goals as goal
 

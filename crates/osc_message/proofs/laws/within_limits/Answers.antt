@@ -1,5 +1,5 @@
 use Rattle.std.proofs.Common.{not}
-use Rattle.osc_message.specs.Confirmables.{is_named}
+use Rattle.osc_message.specs.{is_named}
 use Rattle.osc_message.proofs.Limits.{limits_filter, limits_push, limits_ticked}
 use Rattle.osc_message.proofs.laws.within_limits.Goals as goal
 

@@ -1,7 +1,7 @@
 use Rattle.std.proofs.Common.{sym, ◌∙◌, rules, tests}
 use Rattle.std.proofs.lemmas.Iterator.{YieldsList-from_slice}
 use Rattle.std.proofs.lemmas.Iterator.Search.{any_from_yields_List}
-use Rattle.osc_message.specs.Confirmables.{is_to}
+use Rattle.osc_message.specs.{is_to}
 use Rattle.osc_message.proofs.Marks.{any_messages}
 use Rattle.osc_message.proofs.queue.has_open.Goals as goal
 

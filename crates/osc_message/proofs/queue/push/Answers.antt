@@ -1,9 +1,6 @@
 use Rattle.std.proofs.Common.{◌≡◌, not, ◌∷◌, [], ap, sym, subst, arith}
 use Rattle.std.proofs.lemmas.List.{map-append}
-use Rattle.osc_message.specs.Bounds.{IsSound}
-use Rattle.osc_message.specs.Confirmables.{with_open}
-use Rattle.osc_message.specs.Queue.{AreMarked, messages}
-use Rattle.osc_message.specs.Timeout.{timeout_of}
+use Rattle.osc_message.specs.{IsSound, with_open, AreMarked, messages, timeout_of}
 use Rattle.osc_message.proofs.Marks.{marked_push}
 use Rattle.osc_message.proofs.Sound.{sound_push}
 use Rattle.osc_message.proofs.queue.push.Goals as goal

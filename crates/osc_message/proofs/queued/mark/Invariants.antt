@@ -1,5 +1,5 @@
 use Rattle.std.proofs.Common.{◌≡◌, ◌++◌, false, take, drop, vec_len, vec_capacity}
-use Rattle.osc_message.specs.Queue.{marked}
+use Rattle.osc_message.specs.{marked}
 use Rattle.osc_message.proofs.queued.mark.Given as goal
 
 abbrev pub invariant-loop-index : goal.invariant-loop-index

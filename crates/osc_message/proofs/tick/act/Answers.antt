@@ -1,8 +1,6 @@
 use Rattle.std.proofs.Common.{◌≡◌, List, IfSome, ap, length, subst, sym, arith}
 use Rattle.std.proofs.lemmas.List.{length-map}
-use Rattle.osc_message.specs.Bounds.{IsSound}
-use Rattle.osc_message.specs.Queue.{messages}
-use Rattle.osc_message.specs.Ticks.{dues_of, tick_sends}
+use Rattle.osc_message.specs.{IsSound, messages, dues_of, tick_sends}
 use Rattle.osc_message.specs.declared.queued.Queued.{Queued}
 use Rattle.osc_message.proofs.Sound.{due_part, each_due, done_ticked, sound_ticked}
 use Rattle.osc_message.proofs.tick.act.Goals as goal

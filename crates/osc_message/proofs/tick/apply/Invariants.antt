@@ -1,8 +1,6 @@
 use Rattle.std.proofs.Common.{◌≡◌, ◌++◌, ◌+◌, ◌≤◌, length, take, drop, vec_len, vec_capacity}
 use Rattle.std.specs.List.{All, filter_map, zip}
-use Rattle.osc_message.specs.Bounds.{IsBounded}
-use Rattle.osc_message.specs.Queue.{AreMarked, messages}
-use Rattle.osc_message.specs.Ticks.{after}
+use Rattle.osc_message.specs.{IsBounded, AreMarked, messages, after}
 use Rattle.osc_message.proofs.tick.apply.Given as goal
 
 abbrev pub invariant-loop-due : goal.invariant-loop-due

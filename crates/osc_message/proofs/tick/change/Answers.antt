@@ -1,7 +1,7 @@
 use Rattle.std.proofs.Common.{◌≡◌, false, take, drop, ◌∷◌, [], ap, subst, sym, ◌∙◌, arith}
 use Rattle.std.proofs.lemmas.List.{map-append}
 use Rattle.std.specs.List.{remove}
-use Rattle.osc_message.specs.Queue.{AreMarked, messages, marked}
+use Rattle.osc_message.specs.{AreMarked, messages, marked}
 use Rattle.osc_message.proofs.Marks.{marked_set, marked_remove, front_removed, back_removed}
 use Rattle.osc_message.proofs.Walk.{taken_at, dropped_at}
 use Rattle.osc_message.proofs.tick.change.Goals as goal

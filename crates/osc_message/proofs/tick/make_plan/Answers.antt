@@ -1,7 +1,5 @@
 use Rattle.std.proofs.Common.{◌≡◌, ◌∷◌, ◌+◌, List, Some, take, drop, ap, sym, ◌∙◌, arith}
-use Rattle.osc_message.specs.Confirmables.{Open}
-use Rattle.osc_message.specs.Queue.{messages}
-use Rattle.osc_message.specs.Ticks.{dues, datagram_of, given_up_of}
+use Rattle.osc_message.specs.{Open, messages, dues, datagram_of, given_up_of}
 use Rattle.osc_message.specs.declared.due.Due.{Due}
 use Rattle.osc_message.proofs.GivenUp.{few_are_given_up}
 use Rattle.osc_message.proofs.Marks.{bounded_at_place, due_at_place, first_at_place}

@@ -1,7 +1,6 @@
 use Rattle.std.proofs.Common.{◌≡◌, ◌++◌, Some, take, drop, vec_len, vec_capacity, IfSome}
 use Rattle.std.specs.List.{filter_map}
-use Rattle.osc_message.specs.Queue.{messages}
-use Rattle.osc_message.specs.Ticks.{dues, dues_of, datagram_of, given_up_of, tick_sends, tick_gives_up}
+use Rattle.osc_message.specs.{messages, dues, dues_of, datagram_of, given_up_of, tick_sends, tick_gives_up}
 use Rattle.osc_message.proofs.tick.make_plan.Given as goal
 
 abbrev pub invariant-loop-index : goal.invariant-loop-index

@@ -1,6 +1,5 @@
 use Rattle.std.proofs.Common.{◌≡◌, false, ap, sym, ◌∙◌, inl}
-use Rattle.osc_message.specs.Queue.{messages}
-use Rattle.osc_message.specs.Ticks.{acts}
+use Rattle.osc_message.specs.{messages, acts}
 use Rattle.osc_message.proofs.Idle.{idle_sends, idle_gives_up, idle_ticked}
 use Rattle.osc_message.proofs.tick.tick.Goals as goal
 

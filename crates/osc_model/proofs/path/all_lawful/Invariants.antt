@@ -1,6 +1,6 @@
 use Rattle.std.proofs.Common.{◌≡◌, map, drop}
 use Rattle.std.specs.List.{list_all}
-use Rattle.osc_model.specs.Path.{is_segment}
+use Rattle.osc_model.specs.{is_segment}
 use Rattle.osc_model.proofs.path.all_lawful.Given as goal
 
 -- all are segments where the rest are

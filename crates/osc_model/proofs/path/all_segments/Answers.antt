@@ -1,7 +1,7 @@
 use Rattle.std.proofs.Common.{rules, tests, ◌==◌}
 use Rattle.std.proofs.lemmas.Iterator.Search.{all_from_yields_List}
 use Rattle.std.proofs.lemmas.Iterator.Splits.{YieldsList-from_slice_split}
-use Rattle.osc_model.specs.Path.{is_segment}
+use Rattle.osc_model.specs.{is_segment}
 use Rattle.osc_model.proofs.path.all_segments.Goals as goal
 
 pub returns : goal.returns

@@ -1,5 +1,5 @@
 use Rattle.std.proofs.Common.{◌≡◌, ◌+◌, length, map, drop}
-use Rattle.osc_model.specs.Path.{path_text}
+use Rattle.osc_model.specs.{path_text}
 use Rattle.osc_model.proofs.path.text_length.Given as goal
 
 -- what was counted, and then the text of the rest, is the text of all

@@ -1,7 +1,7 @@
 use Rattle.std.proofs.Common.{◌++◌, ◌≤◌, List, ℕ, length, take, map, sym, ap, ◌∙◌, arith}
 use Rattle.std.proofs.lemmas.Bool.Decides.{nat_tests}
 use Rattle.std.proofs.lemmas.List.{length-map}
-use Rattle.osc_options.specs.Requests.{values}
+use Rattle.osc_options.specs.{values}
 use Rattle.osc_options.proofs.OnePassLaws.{nine, values_same}
 use Rattle.osc_options.proofs.fields.add_segment.Goals as goal
 

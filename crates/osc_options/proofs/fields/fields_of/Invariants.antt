@@ -1,6 +1,6 @@
 use Rattle.std.proofs.Common.{◌≡◌, ◌++◌, map, take}
 use Rattle.std.specs.Option.{option_map, option_or}
-use Rattle.osc_options.specs.Requests.{value, values}
+use Rattle.osc_options.specs.{value, values}
 use Rattle.osc_options.proofs.fields.fields_of.Given as goal
 
 -- with those that are left, the values are those of all

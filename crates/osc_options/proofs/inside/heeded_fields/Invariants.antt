@@ -1,8 +1,6 @@
 use Rattle.std.proofs.Common.{◌≡◌, ◌++◌, map, take}
 use Rattle.std.specs.Option.{option_map, option_or}
-use Rattle.osc_options.specs.PlaintextRequests.{unheeded}
-use Rattle.osc_options.specs.Recognised.{recognised}
-use Rattle.osc_options.specs.Requests.{value, values}
+use Rattle.osc_options.specs.{unheeded, recognised, value, values}
 use Rattle.osc_options.proofs.inside.heeded_fields.Given as goal
 
 -- with those that are left, the values are those of all

@@ -1,5 +1,5 @@
 use Rattle.std.proofs.Common.{◌≡◌}
-use Rattle.osc_options.specs.PlaintextRequests.{unheeded}
+use Rattle.osc_options.specs.{unheeded}
 use Rattle.osc_options.proofs.inside.unheeded.Given as goal
 
 abbrev pub invariant-loop-number : goal.invariant-loop-number

@@ -1,9 +1,8 @@
 use Rattle.std.proofs.Common.{◌≡◌, ℕ, false, List, [], ◌∷◌, Some, refl, inl, inr}
 use Rattle.std.specs.Prelude.{filter, not, nat_lt, ◌==◌}
 use Rattle.std.proofs.lemmas.Bool.{cases_Bool}
-use Rattle.osc_coap.specs.Message.{NumberAndValue}
-use Rattle.osc_options.specs.Requests.{value}
-use Rattle.osc_options.specs.Split.{outer_options, of_class, merge}
+use Rattle.osc_coap.specs.{NumberAndValue}
+use Rattle.osc_options.specs.{value, outer_options, of_class, merge}
 use Rattle.osc_options.specs.declared.table.Class.TheVariants.{U}
 use Rattle.osc_options.proofs.laws.option_of_a_protected_message.Goals as goal
 

@@ -1,5 +1,5 @@
 use Rattle.std.proofs.Common.{◌≡◌, length}
-use Rattle.osc_options.specs.Split.{inner_options}
+use Rattle.osc_options.specs.{inner_options}
 use Rattle.osc_options.proofs.parts.take_inner.Given as goal
 
 abbrev pub invariant-loop-number : goal.invariant-loop-number

@@ -1,5 +1,5 @@
 use Rattle.std.proofs.Common.{◌≡◌, length}
-use Rattle.osc_options.specs.Split.{outer_options}
+use Rattle.osc_options.specs.{outer_options}
 use Rattle.osc_options.proofs.parts.take_outer.Given as goal
 
 abbrev pub invariant-loop-number : goal.invariant-loop-number

@@ -1,10 +1,9 @@
 use Rattle.std.proofs.Common.{◌≡◌, ℕ, List, length, refl, sym, ap, subst, ◌∙◌, arith}
 use Rattle.std.proofs.lemmas.Bool.{both_ways}
-use Rattle.osc_coap.specs.Message.{NumberAndValue}
-use Rattle.osc_coap.specs.Plaintext.{Plaintext, plaintext_spelling}
-use Rattle.osc_coap.specs.Building.{last_number, with_inner_option}
+use Rattle.osc_coap.specs.{NumberAndValue, plaintext_spelling, last_number, with_inner_option}
+use Rattle.osc_coap.specs.Plaintext.{Plaintext}
 use Rattle.osc_options.specs.Inner.Merging.{with_inner_options}
-use Rattle.osc_options.specs.Split.{AreInOrder}
+use Rattle.osc_options.specs.{AreInOrder}
 use Rattle.osc_options.proofs.AddLaws.{refused, last_number-push, with_inner_options-more, inner_options_front}
 use Rattle.osc_options.proofs.protection.add_inner_options.Goals as goal
 

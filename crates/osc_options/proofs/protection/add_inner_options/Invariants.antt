@@ -1,7 +1,7 @@
 use Rattle.std.proofs.Common.{◌≡◌, None}
-use Rattle.osc_coap.specs.Building.{last_number}
+use Rattle.osc_coap.specs.{last_number}
 use Rattle.osc_options.specs.Inner.Merging.{with_inner_options}
-use Rattle.osc_options.specs.Split.{AreInOrder}
+use Rattle.osc_options.specs.{AreInOrder}
 use Rattle.osc_options.proofs.protection.add_inner_options.Given as goal
 
 abbrev pub invariant-loop-number : goal.invariant-loop-number

@@ -1,5 +1,5 @@
 use Rattle.std.proofs.Common.{Err, ap, arith, sym, ◌∙◌}
-use Rattle.osc_options.specs.Texts.{or_code}
+use Rattle.osc_options.specs.{or_code}
 use Rattle.osc_options.proofs.Plaintexts.{read_as}
 use Rattle.osc_options.proofs.reading.request_in.Goals as goal
 

@@ -1,5 +1,5 @@
 use Rattle.std.proofs.Common.{◌≡◌}
-use Rattle.osc_options.specs.Requests.{value}
+use Rattle.osc_options.specs.{value}
 use Rattle.osc_options.proofs.recognised.first_value.Given as goal
 
 abbrev pub invariant-loop-found : goal.invariant-loop-found

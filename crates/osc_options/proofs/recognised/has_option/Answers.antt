@@ -1,6 +1,6 @@
 use Rattle.std.proofs.Common.{◌==◌, List, sym, ap, subst, ◌∙◌}
 use Rattle.std.specs.List.{list_any}
-use Rattle.osc_coap.specs.Message.{NumberAndValue, AreOptions}
+use Rattle.osc_coap.specs.{NumberAndValue, AreOptions}
 use Rattle.osc_options.proofs.OnePassLaws.{first_tells}
 use Rattle.osc_options.proofs.recognised.has_option.Goals as goal
 

@@ -1,6 +1,6 @@
 use Rattle.std.proofs.Common.{◌≡◌, ℕ, ◌==◌}
 use Rattle.std.specs.List.{list_any}
-use Rattle.osc_coap.specs.Message.{AreOptions}
+use Rattle.osc_coap.specs.{AreOptions}
 use Rattle.osc_options.proofs.recognised.has_option.Given as goal
 
 abbrev pub invariant-loop-other : goal.invariant-loop-other

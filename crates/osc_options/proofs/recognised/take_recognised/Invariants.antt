@@ -1,5 +1,5 @@
 use Rattle.std.proofs.Common.{◌≡◌, length}
-use Rattle.osc_options.specs.Recognised.{recognised}
+use Rattle.osc_options.specs.{recognised}
 use Rattle.osc_options.proofs.recognised.take_recognised.Given as goal
 
 abbrev pub invariant-loop-number : goal.invariant-loop-number

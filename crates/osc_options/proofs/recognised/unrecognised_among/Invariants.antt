@@ -1,5 +1,5 @@
 use Rattle.std.proofs.Common.{◌≡◌}
-use Rattle.osc_options.specs.Recognised.{unrecognised_critical}
+use Rattle.osc_options.specs.{unrecognised_critical}
 use Rattle.osc_options.proofs.recognised.unrecognised_among.Given as goal
 
 abbrev pub invariant-loop-number : goal.invariant-loop-number

@@ -1,9 +1,8 @@
 use Rattle.std.proofs.Common.{rules, ◌≡◌, ◌≤◌, ℕ, List, length, Option, map, sym, ap, subst, ◌∙◌, arith}
 use Rattle.std.specs.Prelude.{IfSome, is_some}
 use Rattle.std.specs.Option.{option_map}
-use Rattle.osc_model.specs.Path.{path_of}
-use Rattle.osc_options.specs.Recognised.{recognised}
-use Rattle.osc_options.specs.Requests.{uint, value, values}
+use Rattle.osc_model.specs.{path_of}
+use Rattle.osc_options.specs.{recognised, uint, value, values}
 use Rattle.osc_options.proofs.RecognisedLaws.{value_within}
 use Rattle.osc_options.proofs.OnePassLaws.{shown_within, shown_some, same_path}
 use Rattle.osc_options.proofs.request.request_from.Goals as goal

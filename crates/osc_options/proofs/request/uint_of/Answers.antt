@@ -1,8 +1,7 @@
 use Rattle.std.proofs.Common.{◌≡◌, ◌≤◌, ℕ, List, length, Option, ap, sym, subst, ◌∙◌}
 use Rattle.std.specs.Prelude.{IfSome}
 use Rattle.std.specs.Option.{option_map}
-use Rattle.osc_options.specs.Recognised.{recognised}
-use Rattle.osc_options.specs.Requests.{value}
+use Rattle.osc_options.specs.{recognised, value}
 use Rattle.osc_options.proofs.RecognisedLaws.{value_within}
 use Rattle.osc_options.proofs.request.uint_of.Goals as goal
 

@@ -1,8 +1,7 @@
 use Rattle.std.proofs.Common.{◌≡◌, ◌≤◌, ℕ, List, length, Option, rules, sym, ap, subst, ◌∙◌, arith}
 use Rattle.std.specs.Prelude.{IfSome, is_some}
 use Rattle.std.specs.Option.{option_map}
-use Rattle.osc_options.specs.Recognised.{recognised}
-use Rattle.osc_options.specs.Requests.{value}
+use Rattle.osc_options.specs.{recognised, value}
 use Rattle.osc_options.proofs.OnePassLaws.{shown_some, shown_within, value_there}
 use Rattle.osc_options.proofs.RecognisedLaws.{value_within}
 use Rattle.osc_options.proofs.survey.survey_of.Goals as goal

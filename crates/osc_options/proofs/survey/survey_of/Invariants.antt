@@ -1,8 +1,7 @@
 use Rattle.std.proofs.Common.{◌≡◌, ◌==◌, ◌||◌}
 use Rattle.std.specs.List.{list_any}
 use Rattle.std.specs.Option.{option_map, option_or}
-use Rattle.osc_options.specs.Recognised.{has_unrecognised_unsafe, recognised, unrecognised_critical}
-use Rattle.osc_options.specs.Requests.{value}
+use Rattle.osc_options.specs.{has_unrecognised_unsafe, recognised, unrecognised_critical, value}
 use Rattle.osc_options.proofs.survey.survey_of.Given as goal
 
 -- with those that are left, what is known is what all say

@@ -1,7 +1,8 @@
 use Rattle.std.proofs.Common.{◌++◌, length, refl, ap, arith}
 use Rattle.std.proofs.lemmas.Bool.{both_ways}
-use Rattle.osc_coap.specs.Plaintext.{Plaintext, plaintext_spelling}
-use Rattle.osc_options.specs.Requests.{each, none_match_options, path_options, uint_options}
+use Rattle.osc_coap.specs.{plaintext_spelling}
+use Rattle.osc_coap.specs.Plaintext.{Plaintext}
+use Rattle.osc_options.specs.{each, none_match_options, path_options, uint_options}
 use Rattle.osc_options.proofs.AddLaws.{refused}
 use Rattle.osc_options.proofs.WrittenPlaintextLaws.{conditions, grown, tags_front, conditions_front, path_front, format_front, last_tag, last_none_match, last_segment, last_uint}
 use Rattle.osc_options.proofs.written_plaintext.add_options.Goals as goal

@@ -1,9 +1,9 @@
 use Rattle.std.proofs.Common.{ℕ, ◌+◌, List, length, drop, refl, ap, ◌∙◌, arith}
 use Rattle.std.proofs.lemmas.Bool.{both_ways}
-use Rattle.osc_coap.specs.Plaintext.{Plaintext, plaintext_spelling}
-use Rattle.osc_coap.specs.Building.{last_number, with_inner_option}
+use Rattle.osc_coap.specs.{plaintext_spelling, last_number, with_inner_option}
+use Rattle.osc_coap.specs.Plaintext.{Plaintext}
 use Rattle.osc_options.specs.Inner.Merging.{with_inner_options}
-use Rattle.osc_options.specs.Requests.{each}
+use Rattle.osc_options.specs.{each}
 use Rattle.osc_options.proofs.AddLaws.{refused, last_number-push}
 use Rattle.osc_options.proofs.WrittenPlaintextLaws.{IsAt, each_more, each_front}
 use Rattle.osc_options.proofs.written_plaintext.add_tags.Goals as goal

@@ -1,11 +1,9 @@
 use Rattle.std.proofs.Common.{◌≡◌, ◌≤◌, length, sym, ap₂, subst, ◌∙◌}
 use Rattle.std.specs.Result.{IfOk, IsOk}
 use Rattle.std.proofs.lemmas.Option.{same_Some}
-use Rattle.osc_coap.specs.Message.{Message, spelling}
-use Rattle.osc_coap.specs.Building.{bare}
-use Rattle.osc_coap.specs.Length.{datagram_limit}
-use Rattle.osc_options.specs.Requests.{with_request}
-use Rattle.osc_options.specs.Split.{unprotected}
+use Rattle.osc_coap.specs.{spelling, bare, datagram_limit}
+use Rattle.osc_coap.specs.Message.{Message}
+use Rattle.osc_options.specs.{with_request, unprotected}
 use Rattle.osc_options.proofs.written_request.request_message.Goals as goal
 
 pub returns : goal.returns

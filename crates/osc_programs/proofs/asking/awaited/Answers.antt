@@ -1,6 +1,5 @@
 use Rattle.std.proofs.Common.{[], subst, sym}
-use Rattle.osc_programs.specs.Conversation.{Waits, at_once, told}
-use Rattle.osc_programs.specs.Turning.{Running}
+use Rattle.osc_programs.specs.{Waits, at_once, told, Running}
 use Rattle.osc_programs.specs.declared.asking.Outcome.TheVariants.{Told}
 use Rattle.osc_client.specs.State.{State as Client}
 use Rattle.osc_programs.proofs.Taken.{grown_none}

@@ -1,6 +1,6 @@
 use Rattle.std.proofs.Common.{◌≡◌, ◌-◌, ◌≤◌, List}
 use Rattle.osc_model.specs.declared.step.Datagram.{Datagram}
-use Rattle.osc_turn.specs.Ports.{grown}
+use Rattle.osc_turn.specs.{grown}
 use Rattle.osc_programs.proofs.Talking.{GoOn}
 use Rattle.osc_programs.proofs.asking.wait.Given as goal
 

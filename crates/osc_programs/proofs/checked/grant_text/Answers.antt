@@ -1,6 +1,6 @@
 use Rattle.std.proofs.Common.{◌∙◌, ap₂}
 use Rattle.std.proofs.lemmas.Result.{IfOk-weaker}
-use Rattle.osc_programs.specs.Checked.{grant_line}
+use Rattle.osc_programs.specs.{grant_line}
 use Rattle.osc_programs.proofs.checked.grant_text.Goals as goal
 
 pub returns : goal.returns

@@ -1,5 +1,5 @@
 use Rattle.std.proofs.Common.{◌≡◌, ◌++◌, drop, flat_map, codes}
-use Rattle.osc_programs.specs.Checked.{shown_line}
+use Rattle.osc_programs.specs.{shown_line}
 use Rattle.osc_programs.proofs.checked.open_lines.Given as goal
 
 -- the lines so far, and those of what is left

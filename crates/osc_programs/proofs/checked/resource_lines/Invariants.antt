@@ -1,5 +1,5 @@
 use Rattle.std.proofs.Common.{◌≡◌, ◌++◌, drop, flat_map}
-use Rattle.osc_programs.specs.Checked.{resource_line}
+use Rattle.osc_programs.specs.{resource_line}
 use Rattle.osc_programs.proofs.checked.resource_lines.Given as goal
 
 -- the lines so far, and those of what is left

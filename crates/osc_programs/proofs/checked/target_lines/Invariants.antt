@@ -1,5 +1,5 @@
 use Rattle.std.proofs.Common.{◌≡◌, ◌++◌, drop, flat_map}
-use Rattle.osc_programs.specs.Checked.{target_line}
+use Rattle.osc_programs.specs.{target_line}
 use Rattle.osc_programs.proofs.checked.target_lines.Given as goal
 
 -- the lines so far, and those of what is left

@@ -1,6 +1,6 @@
 use Rattle.std.proofs.Common.{◌∙◌}
 use Rattle.std.proofs.lemmas.Result.{IfOk-weaker}
-use Rattle.osc_simulation.specs.Text.{code_text}
+use Rattle.osc_simulation.specs.{code_text}
 use Rattle.osc_programs.proofs.Printing.{refused_pieces}
 use Rattle.osc_programs.proofs.log.refused_line.Goals as goal
 

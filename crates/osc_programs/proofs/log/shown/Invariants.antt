@@ -1,5 +1,5 @@
 use Rattle.std.proofs.Common.{◌≡◌, ◌++◌, drop, map}
-use Rattle.osc_programs.specs.Log.{shown_byte}
+use Rattle.osc_programs.specs.{shown_byte}
 use Rattle.osc_programs.proofs.log.shown.Given as goal
 
 -- the bytes so far, and those that are left

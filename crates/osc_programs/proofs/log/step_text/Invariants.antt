@@ -1,5 +1,5 @@
 use Rattle.std.proofs.Common.{◌≡◌, ◌++◌, drop, flat_map}
-use Rattle.osc_programs.specs.Log.{line_text}
+use Rattle.osc_programs.specs.{line_text}
 use Rattle.osc_programs.proofs.log.step_text.Given as goal
 
 -- the lines so far, and those of the datagrams that are left

@@ -1,5 +1,5 @@
 use Rattle.std.proofs.Common.{◌++◌, drop, map, ap, ◌∙◌}
-use Rattle.osc_programs.specs.Log.{refusals_after, sent, told_by, with_line}
+use Rattle.osc_programs.specs.{refusals_after, sent, told_by, with_line}
 use Rattle.osc_programs.proofs.Reports.{told_next, counts_next, told_last, counts_last}
 use Rattle.osc_programs.proofs.log.told_text.Goals as goal
 

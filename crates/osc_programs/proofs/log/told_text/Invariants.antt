@@ -1,5 +1,5 @@
 use Rattle.std.proofs.Common.{◌≡◌, ◌++◌, drop, map}
-use Rattle.osc_programs.specs.Log.{refusals_after, reports_of, sent, told_by}
+use Rattle.osc_programs.specs.{refusals_after, reports_of, sent, told_by}
 use Rattle.osc_programs.proofs.log.told_text.Given as goal
 
 -- what was told so far, and what will be of the datagrams that are left

@@ -1,6 +1,6 @@
 use Rattle.std.proofs.Common.{subst}
-use Rattle.osc_settings.specs.Faults.{IsFaultOfProxy}
-use Rattle.osc_programs.specs.Unread.{IsWhy}
+use Rattle.osc_settings.specs.{IsFaultOfProxy}
+use Rattle.osc_programs.specs.{IsWhy}
 use Rattle.osc_programs.proofs.WhyUnread.{tells_why}
 use Rattle.osc_programs.proofs.reading.proxy_settings.Goals as goal
 

@@ -1,6 +1,6 @@
 use Rattle.std.proofs.Common.{◌≡◌, map, take}
 use Rattle.std.specs.FinSet as set
-use Rattle.osc_model.specs.Scope.{exactly}
+use Rattle.osc_model.specs.{exactly}
 use Rattle.osc_model.specs.declared.code.Method.TheVariants.{Get}
 use Rattle.osc_programs.proofs.running.open_scope.Given as goal
 

@@ -1,7 +1,7 @@
 use Rattle.std.proofs.Common.{◌∙◌, ap₂, sym}
 use Rattle.std.proofs.lemmas.List.Sums.{fold_more}
 use Rattle.std.specs.FinMap as map
-use Rattle.osc_programs.specs.Serving.{with_resource}
+use Rattle.osc_programs.specs.{with_resource}
 use Rattle.osc_programs.proofs.running.tree_of.Goals as goal
 
 pub loop-resource-preserved : goal.loop-resource-preserved

@@ -1,5 +1,5 @@
 use Rattle.std.proofs.Common.{◌≡◌, take}
-use Rattle.osc_programs.specs.Serving.{tree_of}
+use Rattle.osc_programs.specs.{tree_of}
 use Rattle.osc_programs.proofs.running.tree_of.Given as goal
 
 -- the resources so far are in the tree

@@ -1,5 +1,5 @@
 use Rattle.std.proofs.Common.{◌≡◌, ◌⊎◌, inl, inr, sym, subst}
-use Rattle.osc_programs.specs.Ended.{EndsSim}
+use Rattle.osc_programs.specs.{EndsSim}
 use Rattle.osc_programs.specs.declared.ended.Ended.{Ended}
 use Rattle.osc_programs.specs.declared.ended.Ended.TheVariants.{Failed, OutOfMemory}
 use Rattle.osc_programs.proofs.simulate.run.Goals as goal

@@ -1,6 +1,6 @@
 use Rattle.std.proofs.Common.{◌∙◌, [], refl, ap, sym, subst, inl, Err}
 use Rattle.std.specs.Io.KnownBytes.{Appends}
-use Rattle.osc_simulation.specs.Trace.{bad_line_text}
+use Rattle.osc_simulation.specs.{bad_line_text}
 use Rattle.osc_simulation.specs.declared.error.TraceError.{TraceError}
 use Rattle.osc_simulation.specs.declared.error.TraceError.TheVariants.{BadLine}
 use Rattle.osc_programs.proofs.Appended.{appends_more}

@@ -1,6 +1,6 @@
 use Rattle.std.proofs.Common.{◌∙◌, [], ap, refl}
-use Rattle.osc_turn.specs.Pace.{busy_after, must_tick}
-use Rattle.osc_programs.specs.Log.{lost_text}
+use Rattle.osc_turn.specs.{busy_after, must_tick}
+use Rattle.osc_programs.specs.{lost_text}
 use Rattle.osc_programs.specs.Turning as spec
 use Rattle.osc_programs.proofs.Taken.{came_in, grown_none, not_due}
 use Rattle.osc_programs.proofs.turns.one_turn.Goals as goal

@@ -1,5 +1,5 @@
 use Rattle.std.proofs.Common.{◌∙◌, ap}
-use Rattle.osc_turn.specs.Pace.{busy_after, must_tick}
+use Rattle.osc_turn.specs.{busy_after, must_tick}
 use Rattle.osc_programs.proofs.Taken.{came_in}
 use Rattle.osc_programs.proofs.turns.take_turn.Goals as goal
 

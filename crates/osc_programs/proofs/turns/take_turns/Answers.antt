@@ -1,5 +1,5 @@
 use Rattle.std.proofs.Common.{◌∙◌, ◌++◌, ap, arith, inl, inr, refl, subst, sym}
-use Rattle.osc_programs.specs.Log.{Tells}
+use Rattle.osc_programs.specs.{Tells}
 use Rattle.osc_programs.specs.Turning as spec
 use Rattle.osc_programs.proofs.Taken.{grown_none, grown_more, fault_turns, no_end, one_more, tells_more, tells_none}
 use Rattle.osc_programs.proofs.turns.take_turns.Goals as goal

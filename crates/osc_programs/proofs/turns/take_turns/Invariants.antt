@@ -1,7 +1,7 @@
 use Rattle.std.proofs.Common.{◌≡◌, ◌≤◌, ℕ, List, None}
 use Rattle.osc_model.specs.declared.step.Datagram.{Datagram}
-use Rattle.osc_turn.specs.Ports.{grown}
-use Rattle.osc_programs.specs.Log.{Tells}
+use Rattle.osc_turn.specs.{grown}
+use Rattle.osc_programs.specs.{Tells}
 use Rattle.osc_programs.specs.Turning as spec
 use Rattle.osc_programs.proofs.turns.take_turns.Given as goal
 

@@ -1,7 +1,7 @@
 use Rattle.std.proofs.Common.{length, ap, arith}
-use Rattle.osc_model.specs.Algorithm.{algorithm_number}
-use Rattle.osc_cbor.specs.Head.{head}
-use Rattle.osc_context.specs.Algorithm.{algorithm_of}
+use Rattle.osc_model.specs.{algorithm_number}
+use Rattle.osc_cbor.specs.{head}
+use Rattle.osc_context.specs.{algorithm_of}
 use Rattle.osc_protect.proofs.AadLemmas.{algorithm_short}
 use Rattle.osc_protect.proofs.aad.append_algorithm.Goals as goal
 

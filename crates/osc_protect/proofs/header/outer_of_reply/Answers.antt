@@ -1,6 +1,6 @@
 use Rattle.std.proofs.Common.{◌+◌, arith}
-use Rattle.osc_coap.specs.Building.{bare}
-use Rattle.osc_protect.specs.Protection.{response_value}
+use Rattle.osc_coap.specs.{bare}
+use Rattle.osc_protect.specs.{response_value}
 use Rattle.std.specs.Prelude.{None}
 use Rattle.osc_protect.proofs.LengthLemmas.{least_protected}
 use Rattle.osc_protect.proofs.header.outer_of_reply.Goals as goal

@@ -1,7 +1,7 @@
 use Rattle.std.proofs.Common.{ℕ, ◌≤◌, ◌==◌, if◌then◌else◌, true, false, List, [], ◌∷◌, ◌++◌, length, Option, Some, None, arith, length-append}
 use Rattle.std.specs.Prelude.{IfSome}
-use Rattle.osc_context.specs.Nonce.{partial_iv}
-use Rattle.osc_protect.specs.Value.{Compressed, value_spelling, flag_bits, kid_context_bytes}
+use Rattle.osc_context.specs.{partial_iv}
+use Rattle.osc_protect.specs.{Compressed, value_spelling, flag_bits, kid_context_bytes}
 use Rattle.osc_protect.proofs.ValuePartialIv.{partial_iv-short}
 use Rattle.osc_protect.proofs.laws.lengths_of_values.Goals as goal
 

@@ -1,7 +1,6 @@
 use Rattle.std.proofs.Common.{◌≡◌, ◌∙◌, sym, ap, subst, ℕ, List, Some}
 use Rattle.std.proofs.lemmas.Option.{same_Some}
-use Rattle.osc_protect.specs.Protection.{SealedRequest}
-use Rattle.osc_protect.specs.Value.{Compressed, SpellsValue}
+use Rattle.osc_protect.specs.{SealedRequest, Compressed, SpellsValue}
 use Rattle.osc_protect.proofs.laws.one_request.Goals as goal
 
 abbrev said_by : SealedRequest → Compressed

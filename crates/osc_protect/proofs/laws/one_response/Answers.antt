@@ -1,6 +1,6 @@
 use Rattle.std.proofs.Common.{◌≡◌, ◌∙◌, sym, ap, subst, ℕ, List}
 use Rattle.std.proofs.lemmas.Option.{same_Some}
-use Rattle.osc_protect.specs.Value.{Compressed, SpellsValue}
+use Rattle.osc_protect.specs.{Compressed, SpellsValue}
 use Rattle.osc_protect.proofs.laws.one_response.Goals as goal
 
 pub returns : goal.returns

@@ -1,7 +1,7 @@
 use Rattle.std.proofs.Common.{ℕ, ◌+◌, ◌≤◌, List, length, arith, replicate}
 use Rattle.std.proofs.lemmas.List.{length-replicate}
-use Rattle.osc_context.specs.Algorithm.{algorithm_of}
-use Rattle.osc_protect.specs.Protection.{plain_bytes, request_value, response_value}
+use Rattle.osc_context.specs.{algorithm_of}
+use Rattle.osc_protect.specs.{plain_bytes, request_value, response_value}
 use Rattle.osc_protect.proofs.laws.protected_messages_are_longer.Goals as goal
 
 -- so many bytes and a tag are no fewer

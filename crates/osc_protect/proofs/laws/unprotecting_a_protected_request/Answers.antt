@@ -1,7 +1,7 @@
 use Rattle.std.proofs.Common.{ap, ◌∙◌}
 use Rattle.osc_coap.specs.Message.{Message}
-use Rattle.osc_options.specs.Split.{plaintext_of, unprotected}
-use Rattle.osc_protect.specs.Protection.{request_value}
+use Rattle.osc_options.specs.{plaintext_of, unprotected}
+use Rattle.osc_protect.specs.{request_value}
 use Rattle.osc_protect.proofs.LawMessages.{request_says}
 use Rattle.osc_protect.proofs.laws.unprotecting_a_protected_request.Goals as goal
 

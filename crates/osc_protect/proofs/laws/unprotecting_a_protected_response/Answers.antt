@@ -1,7 +1,7 @@
 use Rattle.std.proofs.Common.{ap, ◌∙◌}
 use Rattle.osc_coap.specs.Message.{Message}
-use Rattle.osc_options.specs.Split.{plaintext_of, unprotected}
-use Rattle.osc_protect.specs.Protection.{response_value}
+use Rattle.osc_options.specs.{plaintext_of, unprotected}
+use Rattle.osc_protect.specs.{response_value}
 use Rattle.osc_protect.proofs.LawMessages.{response_says}
 use Rattle.osc_protect.proofs.laws.unprotecting_a_protected_response.Goals as goal
 

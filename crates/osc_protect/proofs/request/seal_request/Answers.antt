@@ -1,10 +1,9 @@
 use Rattle.std.proofs.Common.{◌≡◌, ◌+◌, ◌≤◌, List, ℕ, length, ap, sym, subst, ◌∙◌, arith}
 use Rattle.std.specs.Result.{IfOk, IsOk}
-use Rattle.osc_coap.specs.Message.{spelling}
-use Rattle.osc_coap.specs.Plaintext.{plaintext_spelling}
+use Rattle.osc_coap.specs.{spelling, plaintext_spelling}
 use Rattle.osc_model.specs.declared.context.Side.TheVariants.{Client}
-use Rattle.osc_context.specs.Algorithm.{algorithm_of}
-use Rattle.osc_protect.specs.Protection.{HasRoomFor, IsProtectedRequest, IsRequestOf, length_of_request, longest_message, note_of, plain_bytes, request_length, request_nonce, request_value}
+use Rattle.osc_context.specs.{algorithm_of}
+use Rattle.osc_protect.specs.{HasRoomFor, IsProtectedRequest, IsRequestOf, length_of_request, longest_message, note_of, plain_bytes, request_length, request_nonce, request_value}
 use Rattle.osc_protect.proofs.LengthLemmas.{least_protected}
 use Rattle.osc_protect.proofs.SealLaws.{if_ok, request_sealed, request_size, request_text, text_of, whole}
 use Rattle.osc_protect.proofs.request.seal_request.Goals as goal

@@ -1,10 +1,10 @@
 use Rattle.std.proofs.Common.{◌≡◌, ◌≤◌, List, ℕ, None, subst}
 use Rattle.std.specs.Result.{IfOk, IsOk}
 use Rattle.osc_model.specs.declared.context.Side.TheVariants.{Server}
-use Rattle.osc_context.specs.Algorithm.{algorithm_of}
-use Rattle.osc_options.specs.Texts.{reply_text}
+use Rattle.osc_context.specs.{algorithm_of}
+use Rattle.osc_options.specs.{reply_text}
 use Rattle.osc_protect.specs.Inner.Outside.{IsSealedOutside}
-use Rattle.osc_protect.specs.Protection.{IsProtectedResponse, longest_message, note_of, reply_with_header, request_nonce}
+use Rattle.osc_protect.specs.{IsProtectedResponse, longest_message, note_of, reply_with_header, request_nonce}
 use Rattle.osc_protect.proofs.SealLaws.{if_ok, reply_sealed, reply_size, reply_text_is}
 use Rattle.osc_protect.proofs.response.seal_reply.Goals as goal
 

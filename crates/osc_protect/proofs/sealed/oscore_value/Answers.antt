@@ -1,6 +1,6 @@
 use Rattle.std.proofs.Common.{List, sym, ap, subst, ◌∙◌}
-use Rattle.osc_coap.specs.Message.{NumberAndValue, AreOptions}
-use Rattle.osc_options.specs.Requests.{value}
+use Rattle.osc_coap.specs.{NumberAndValue, AreOptions}
+use Rattle.osc_options.specs.{value}
 use Rattle.osc_protect.proofs.OrderLaws.{no_value_from}
 use Rattle.osc_protect.proofs.sealed.oscore_value.Goals as goal
 

@@ -1,6 +1,6 @@
 use Rattle.std.proofs.Common.{◌≡◌, ℕ}
-use Rattle.osc_coap.specs.Message.{AreOptions}
-use Rattle.osc_options.specs.Requests.{value}
+use Rattle.osc_coap.specs.{AreOptions}
+use Rattle.osc_options.specs.{value}
 use Rattle.osc_protect.proofs.sealed.oscore_value.Given as goal
 
 abbrev pub invariant-loop-number : goal.invariant-loop-number

@@ -1,5 +1,5 @@
 use Rattle.std.proofs.Common.{◌+◌, length, arith}
-use Rattle.osc_protect.specs.Protection.{plain_bytes}
+use Rattle.osc_protect.specs.{plain_bytes}
 use Rattle.osc_protect.proofs.LengthLemmas.{least_protected}
 use Rattle.osc_protect.proofs.sealing.split.Goals as goal
 

@@ -1,5 +1,5 @@
 use Rattle.std.proofs.Common.{sym, ap, ◌∙◌}
-use Rattle.osc_protect.specs.Protection.{response_value}
+use Rattle.osc_protect.specs.{response_value}
 use Rattle.osc_protect.proofs.ValueWriting.{response_value-some, response_value-none}
 use Rattle.osc_protect.proofs.value.response_option.Goals as goal
 

@@ -1,5 +1,5 @@
 use Rattle.std.proofs.Common.{refl, sym, ap, true, false, ◌∙◌, ◌≡◌}
-use Rattle.osc_coap.specs.Code.{is_request_code, is_response_code}
+use Rattle.osc_coap.specs.{is_request_code, is_response_code}
 use Rattle.osc_proxy.proofs.case.case_of.Goals as goal
 
 -- of what is no request nothing is asked but that something is named, or nothing

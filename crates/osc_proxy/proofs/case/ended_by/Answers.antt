@@ -1,7 +1,8 @@
 use Rattle.std.proofs.Common.{◌≡◌, ℕ, Option, Some, None, sym}
 use Rattle.std.specs.Prelude.{IfSome}
 use Rattle.osc_model.specs.declared.node.Peer.{Peer}
-use Rattle.osc_proxy.specs.Exchanges.{Table, first_key, is_named}
+use Rattle.osc_proxy.specs.{first_key, is_named}
+use Rattle.osc_proxy.specs.Exchanges.{Table}
 use Rattle.osc_proxy.specs.Inner.Bounds.{IsNamed}
 use Rattle.osc_proxy.proofs.Keys.{first_is_there}
 use Rattle.osc_proxy.proofs.case.ended_by.Goals as goal

@@ -1,5 +1,5 @@
 use Rattle.std.proofs.Common.{sym, ◌∙◌}
-use Rattle.osc_proxy.specs.Exchanges.{answers}
+use Rattle.osc_proxy.specs.{answers}
 use Rattle.osc_proxy.proofs.Keys.{first_is_there}
 use Rattle.osc_proxy.proofs.case.response_case.Goals as goal
 

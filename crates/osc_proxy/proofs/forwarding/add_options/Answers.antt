@@ -1,9 +1,9 @@
 use Rattle.std.proofs.Common.{◌≡◌, ℕ, List, length, refl, sym, ap, subst, ◌∙◌, arith}
 use Rattle.std.proofs.lemmas.Bool.{both_ways}
-use Rattle.osc_coap.specs.Message.{NumberAndValue, Message, spelling}
-use Rattle.osc_coap.specs.Building.{last_number, with_option}
+use Rattle.osc_coap.specs.{NumberAndValue, spelling, last_number, with_option}
+use Rattle.osc_coap.specs.Message.{Message}
 use Rattle.osc_options.specs.Inner.Merging.{with_options}
-use Rattle.osc_options.specs.Split.{AreInOrder}
+use Rattle.osc_options.specs.{AreInOrder}
 use Rattle.osc_proxy.specs.Inner.Rewriting.{staying}
 use Rattle.osc_proxy.proofs.AddLaws.{refused, last_number-push, with_options-more, options_front}
 use Rattle.osc_proxy.proofs.OptionLaws.{one_stays}

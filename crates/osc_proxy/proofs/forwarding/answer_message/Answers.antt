@@ -1,7 +1,7 @@
 use Rattle.std.proofs.Common.{◌≤◌, length, subst, rules}
 use Rattle.std.specs.Result.{IsOk}
-use Rattle.osc_coap.specs.Length.{datagram_limit}
-use Rattle.osc_coap.specs.Message.{Message, spelling}
+use Rattle.osc_coap.specs.{datagram_limit, spelling}
+use Rattle.osc_coap.specs.Message.{Message}
 use Rattle.osc_proxy.proofs.OptionLaws.{whole_is}
 use Rattle.osc_proxy.proofs.forwarding.answer_message.Goals as goal
 

@@ -1,9 +1,9 @@
 use Rattle.std.proofs.Common.{◌≡◌, ◌≤◌, Bool, length, ap, subst, ◌∙◌}
 use Rattle.std.specs.Result.{IsOk}
 use Rattle.osc_coap.specs.declared.kind.Kind.{Kind}
-use Rattle.osc_coap.specs.Length.{datagram_limit}
-use Rattle.osc_coap.specs.Message.{Message, spelling}
-use Rattle.osc_proxy.specs.Forwarding.{forwarded}
+use Rattle.osc_coap.specs.{datagram_limit, spelling}
+use Rattle.osc_coap.specs.Message.{Message}
+use Rattle.osc_proxy.specs.{forwarded}
 use Rattle.osc_proxy.specs.Inner.Rewriting.{rewritten}
 use Rattle.osc_proxy.specs.declared.forwarding.Rewriting.TheVariants.{ForTarget}
 use Rattle.osc_proxy.proofs.forwarding.forwarded_message.Goals as goal

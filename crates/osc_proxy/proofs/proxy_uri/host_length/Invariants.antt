@@ -1,6 +1,6 @@
 use Rattle.std.proofs.Common.{◌≡◌, ◌+◌, drop}
 use Rattle.std.specs.List.{prefix_len}
-use Rattle.osc_proxy.specs.ProxyUri.{is_host_byte}
+use Rattle.osc_proxy.specs.{is_host_byte}
 use Rattle.osc_proxy.proofs.proxy_uri.host_length.Given as goal
 
 abbrev pub invariant-loop-byte : goal.invariant-loop-byte

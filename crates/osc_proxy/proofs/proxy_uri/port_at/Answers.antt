@@ -1,6 +1,6 @@
 use Rattle.std.proofs.Common.{◌≡◌, ℕ, true, take, subst, sym, ap, ◌∙◌}
 use Rattle.std.specs.List.{AllByRecursion}
-use Rattle.osc_proxy.specs.ProxyUri.{is_digit}
+use Rattle.osc_proxy.specs.{is_digit}
 use Rattle.osc_proxy.proofs.UriLaws.{front_passes}
 use Rattle.osc_proxy.proofs.proxy_uri.port_at.Goals as goal
 

@@ -1,7 +1,7 @@
 use Rattle.std.proofs.Common.{◌≡◌, ◌<◌, ◌+◌, ◌-◌, ◌*◌, true, drop}
 use Rattle.std.specs.Prelude.{fold}
 use Rattle.std.specs.List.{AllByRecursion}
-use Rattle.osc_proxy.specs.ProxyUri.{is_digit, decimal}
+use Rattle.osc_proxy.specs.{is_digit, decimal}
 use Rattle.osc_proxy.proofs.proxy_uri.port_of.Given as goal
 
 abbrev pub invariant-loop-digit : goal.invariant-loop-digit

@@ -1,5 +1,5 @@
 use Rattle.std.proofs.Common.{sym, subst}
-use Rattle.osc_proxy.specs.ProxyUri.{Reads}
+use Rattle.osc_proxy.specs.{Reads}
 use Rattle.osc_proxy.proofs.UriLaws.{reads}
 use Rattle.osc_proxy.proofs.proxy_uri.read_proxy_uri.Goals as goal
 

@@ -1,5 +1,5 @@
 use Rattle.std.proofs.Common.{refl, sym, true, ◌∙◌, ◌≡◌}
-use Rattle.osc_options.specs.Recognised.{has_unrecognised_unsafe}
+use Rattle.osc_options.specs.{has_unrecognised_unsafe}
 use Rattle.osc_proxy.proofs.route.route_of.Goals as goal
 
 pub returns-then-survey : goal.returns-then-survey

@@ -1,13 +1,11 @@
 use Rattle.std.proofs.Common.{◌≡◌, ◌++◌, Bool, true, false, List, [], sym, ap, ◌∙◌, subst, append_assoc, append-nil, arith, None}
 use Rattle.std.specs.Prelude.{if◌then◌else◌}
 use Rattle.std.specs.Option.{option_to_list}
-use Rattle.osc_coap.specs.Message.{spelling}
+use Rattle.osc_coap.specs.{spelling}
 use Rattle.osc_model.specs.declared.step.Datagram.{Datagram}
-use Rattle.osc_message.specs.Endpoint.{EndpointState}
-use Rattle.osc_proxy.specs.Exchanges.{first_key}
+use Rattle.osc_message.specs.{EndpointState}
+use Rattle.osc_proxy.specs.{first_key, back_sends, AllEnd, is_over, timeout, without_its}
 use Rattle.osc_proxy.specs.State.{State}
-use Rattle.osc_proxy.specs.Table.{back_sends}
-use Rattle.osc_proxy.specs.Ticks.{AllEnd, is_over, timeout, without_its}
 use Rattle.osc_proxy.specs.Ticks.AllEnd.{none_is, one_is}
 use Rattle.osc_proxy.proofs.Fits.{sendable_back, sendable_both}
 use Rattle.osc_proxy.proofs.Keys.{first_is_there, none_is_there}

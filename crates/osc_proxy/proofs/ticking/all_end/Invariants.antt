@@ -1,10 +1,9 @@
 use Rattle.std.proofs.Common.{◌≡◌, ◌+◌, ◌++◌, ◌≤◌, true, [], List, vec_len}
 use Rattle.std.specs.Prelude.{if◌then◌else◌, vec_capacity}
 use Rattle.osc_model.specs.declared.step.Datagram.{Datagram}
-use Rattle.osc_message.specs.Sending.{AreSendable}
-use Rattle.osc_proxy.specs.Exchanges.{count}
+use Rattle.osc_message.specs.{AreSendable}
+use Rattle.osc_proxy.specs.{count, AllEnd}
 use Rattle.osc_proxy.specs.State.{State}
-use Rattle.osc_proxy.specs.Ticks.{AllEnd}
 use Rattle.osc_proxy.specs.declared.targets.Target.{Target}
 use Rattle.osc_proxy.proofs.ticking.all_end.Given as goal
 

@@ -1,12 +1,11 @@
 use Rattle.std.proofs.Common.{◌≡◌, ◌+◌, ap, ◌∙◌, subst, Some}
 use Rattle.std.specs.Prelude.{OnSome}
-use Rattle.osc_coap.specs.Message.{HasSpelling, Message, spelling}
-use Rattle.osc_model.specs.Code.{code}
-use Rattle.osc_message.specs.Endpoint.{EndpointState, own_id}
-use Rattle.osc_proxy.specs.Exchanges.{count, get}
+use Rattle.osc_coap.specs.{HasSpelling, spelling}
+use Rattle.osc_coap.specs.Message.{Message}
+use Rattle.osc_model.specs.{code}
+use Rattle.osc_message.specs.{EndpointState, own_id}
+use Rattle.osc_proxy.specs.{count, get, back_kept, back_sends, failure, timeout}
 use Rattle.osc_proxy.specs.Inner.Going.{IsOwn}
-use Rattle.osc_proxy.specs.Table.{back_kept, back_sends, failure}
-use Rattle.osc_proxy.specs.Ticks.{timeout}
 use Rattle.osc_proxy.proofs.Goes.{back_kept_is, back_sends_is}
 use Rattle.osc_proxy.proofs.ticking.end.Goals as goal
 

@@ -1,16 +1,13 @@
 use Rattle.std.proofs.Common.{◌≡◌, ◌++◌, inl, inr, Bool, true, false, List, [], refl, ap, ◌∙◌, subst}
 use Rattle.std.specs.Prelude.{if◌then◌else◌}
 use Rattle.std.proofs.lemmas.List.Elements.{All-nil}
-use Rattle.osc_model.specs.Step.{sends}
+use Rattle.osc_model.specs.{sends}
 use Rattle.osc_model.specs.declared.step.Datagram.{Datagram}
 use Rattle.osc_model.specs.declared.step.Step.{Step}
-use Rattle.osc_message.specs.Endpoint.{EndpointState, after_tick}
-use Rattle.osc_message.specs.Sending.{AreSendable, FitsDatagram, GoesOut}
-use Rattle.osc_message.specs.Ticks.{tick_gives_up, tick_sends}
+use Rattle.osc_message.specs.{EndpointState, after_tick, AreSendable, FitsDatagram, GoesOut, tick_gives_up, tick_sends}
 use Rattle.osc_message.specs.declared.name.MessageName.{MessageName}
-use Rattle.osc_proxy.specs.Ends.{without_over}
+use Rattle.osc_proxy.specs.{without_over, AllEnd, without_over_in}
 use Rattle.osc_proxy.specs.State.{State}
-use Rattle.osc_proxy.specs.Ticks.{AllEnd, without_over_in}
 use Rattle.osc_proxy.proofs.Fits.{sendable_both, sendable_step}
 use Rattle.osc_proxy.proofs.ticking.tick.Goals as goal
 

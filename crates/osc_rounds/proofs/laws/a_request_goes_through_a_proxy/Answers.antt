@@ -1,6 +1,6 @@
 use Rattle.std.proofs.Common.{sym, subst}
 use Rattle.osc_model.specs.declared.context.ContextName.{ContextName}
-use Rattle.osc_protect.specs.Protection.{HasShortContext}
+use Rattle.osc_protect.specs.{HasShortContext}
 use Rattle.osc_rounds.proofs.AskRound.{RoundLaws}
 use Rattle.osc_rounds.proofs.AskRoundThrough.{goes_through}
 use Rattle.osc_rounds.proofs.AskThrough.{ThroughLaws, answered_through, asked_through}

@@ -1,18 +1,16 @@
 use Rattle.std.proofs.Common.{◌≡◌, ℕ, ◌≤◌, ◌<◌, List, Option, Some, None, Result, Ok, Err, refl, sym, ap, subst, arith}
-use Rattle.osc_model.specs.Apply.{apply, apply_read}
-use Rattle.osc_model.specs.Code.{code}
+use Rattle.osc_model.specs.{apply, apply_read, code}
 use Rattle.osc_model.specs.Scope.{Scope}
 use Rattle.osc_model.specs.Tree.{Tree}
 use Rattle.osc_model.specs.declared.code.Code.{Code}
 use Rattle.osc_model.specs.declared.reply.Reply.{Reply}
 use Rattle.osc_model.specs.declared.request.Request.{Request}
 use Rattle.osc_coap.specs.Plaintext.{Plaintext}
-use Rattle.osc_coap.specs.Reading.{plaintext_at}
-use Rattle.osc_options.specs.PlaintextRequests.{request_of_plaintext}
+use Rattle.osc_coap.specs.{plaintext_at}
+use Rattle.osc_options.specs.{request_of_plaintext, code_of, or_code, request_or_code, read_request}
 use Rattle.osc_options.specs.declared.error.PlaintextError.{PlaintextError}
 use Rattle.osc_options.specs.declared.error.PlaintextError.TheVariants.{Format, BadOption, Memory}
-use Rattle.osc_options.specs.Texts.{code_of, or_code, request_or_code, read_request}
-use Rattle.osc_run.specs.ServerKinds.{Replies, Applied, OutOfMemory}
+use Rattle.osc_run.specs.{Replies, Applied, OutOfMemory}
 use Rattle.osc_run.proofs.laws.codes_of_replies.Goals as goal
 
 abbrev IsResponse : Code → Type 0

@@ -1,6 +1,5 @@
-use Rattle.osc_run.specs.States.{grants_of}
-use Rattle.osc_options.specs.Texts.{read_request}
-use Rattle.osc_run.specs.History.{history}
+use Rattle.osc_run.specs.{grants_of, history}
+use Rattle.osc_options.specs.{read_request}
 use Rattle.osc_run.proofs.laws.own_answers.Goals as goal
 
 pub returns : goal.returns

@@ -1,7 +1,7 @@
 use Rattle.std.proofs.Common.{[], refl, arith}
-use Rattle.osc_cbor.specs.Spelling.{spelling}
-use Rattle.osc_scope.specs.Entries.{scope_of}
-use Rattle.osc_token.specs.Token.{claims_item}
+use Rattle.osc_cbor.specs.{spelling}
+use Rattle.osc_scope.specs.{scope_of}
+use Rattle.osc_token.specs.{claims_item}
 use Rattle.osc_run.proofs.MintedTexts.{minted_text, lawful_fit}
 use Rattle.osc_run.proofs.OneRound.{Has, refusal, refusal_read, grant, after, reached, premise}
 use Rattle.osc_run.proofs.laws.runs_that_serve.Goals as goal

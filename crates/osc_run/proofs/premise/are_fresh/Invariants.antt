@@ -1,5 +1,5 @@
 use Rattle.std.proofs.Common.{take, reverse}
-use Rattle.osc_run.specs.Premise.{HasFreshDraws}
+use Rattle.osc_run.specs.{HasFreshDraws}
 use Rattle.osc_run.proofs.premise.are_fresh.Given as goal
 
 -- the steps so far drew fresh nonces

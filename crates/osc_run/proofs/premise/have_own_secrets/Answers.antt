@@ -1,5 +1,5 @@
 use Rattle.std.proofs.Common.{◌+◌, refl, sym, ◌∙◌, subst}
-use Rattle.osc_authz.specs.Members.{In}
+use Rattle.osc_authz.specs.{In}
 use Rattle.osc_run.proofs.Members.{slice_from}
 use Rattle.osc_run.proofs.NotedPremise.{own_secrets_more, shared_secret}
 use Rattle.osc_run.proofs.premise.have_own_secrets.Goals as goal

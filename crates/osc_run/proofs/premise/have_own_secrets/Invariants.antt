@@ -1,5 +1,5 @@
 use Rattle.std.proofs.Common.{drop}
-use Rattle.osc_run.specs.Premise.{HasOwnSecrets}
+use Rattle.osc_run.specs.{HasOwnSecrets}
 use Rattle.osc_run.proofs.premise.have_own_secrets.Given as goal
 
 -- all have secrets of their own if those that are left have

@@ -1,5 +1,5 @@
 use Rattle.std.proofs.Common.{◌≡◌, List, ℕ, Some, refl, arith}
-use Rattle.osc_run.specs.Notes.{Noted}
+use Rattle.osc_run.specs.{Noted}
 use Rattle.osc_run.proofs.Members.{has_at, none_more, none_of_all, has_of_reverse, has_in_reverse}
 use Rattle.osc_run.proofs.premise.is_drawn.Goals as goal
 

@@ -1,5 +1,5 @@
 use Rattle.std.proofs.Common.{take}
-use Rattle.osc_run.specs.Premise.{IsDrawn}
+use Rattle.osc_run.specs.{IsDrawn}
 use Rattle.osc_run.proofs.premise.is_drawn.Given as goal
 
 -- none of the steps so far drew it

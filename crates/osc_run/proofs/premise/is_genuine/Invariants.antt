@@ -1,5 +1,5 @@
 use Rattle.std.proofs.Common.{take, reverse}
-use Rattle.osc_run.specs.Premise.{IsGenuine}
+use Rattle.osc_run.specs.{IsGenuine}
 use Rattle.osc_run.proofs.premise.is_genuine.Given as goal
 
 -- the steps so far opened what was sealed

@@ -1,5 +1,5 @@
 use Rattle.std.proofs.Common.{take}
-use Rattle.osc_run.specs.Premise.{IsMinted}
+use Rattle.osc_run.specs.{IsMinted}
 use Rattle.osc_run.proofs.premise.is_minted.Given as goal
 
 -- none so far has the text

@@ -1,5 +1,5 @@
 use Rattle.std.proofs.Common.{◌≡◌, List, ℕ, refl, arith}
-use Rattle.osc_run.specs.States.{Minted}
+use Rattle.osc_run.specs.{Minted}
 use Rattle.osc_run.proofs.Members.{has_at, none_more, none_of_all}
 use Rattle.osc_run.proofs.premise.is_secret_of_one.Goals as goal
 

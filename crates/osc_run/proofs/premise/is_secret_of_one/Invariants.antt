@@ -1,6 +1,6 @@
 use Rattle.std.proofs.Common.{◌≡◌, take}
-use Rattle.osc_authz.specs.Members.{In}
-use Rattle.osc_run.specs.States.{Minted}
+use Rattle.osc_authz.specs.{In}
+use Rattle.osc_run.specs.{Minted}
 use Rattle.osc_run.proofs.premise.is_secret_of_one.Given as goal
 
 -- none so far has the secret

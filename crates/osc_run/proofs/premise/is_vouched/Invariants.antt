@@ -1,5 +1,5 @@
 use Rattle.std.proofs.Common.{drop, reverse}
-use Rattle.osc_run.specs.Premise.{IsVouched}
+use Rattle.osc_run.specs.{IsVouched}
 use Rattle.osc_run.proofs.premise.is_vouched.Given as goal
 
 -- none of the steps from there on sealed it

@@ -1,5 +1,4 @@
-use Rattle.osc_run.specs.History.{acceptance_in}
-use Rattle.osc_run.specs.Notes.{Noted}
+use Rattle.osc_run.specs.{acceptance_in, Noted}
 use Rattle.osc_run.proofs.NotedSteps.{read_more}
 use Rattle.osc_run.proofs.readers.accepted.Goals as goal
 

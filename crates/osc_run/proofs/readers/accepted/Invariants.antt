@@ -1,5 +1,5 @@
 use Rattle.std.proofs.Common.{◌≡◌, take, reverse}
-use Rattle.osc_run.specs.History.{acceptances}
+use Rattle.osc_run.specs.{acceptances}
 use Rattle.osc_run.proofs.readers.accepted.Given as goal
 
 -- what the steps so far accepted

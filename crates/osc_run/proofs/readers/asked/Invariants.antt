@@ -1,5 +1,5 @@
 use Rattle.std.proofs.Common.{◌≡◌, take, reverse}
-use Rattle.osc_run.specs.History.{questions}
+use Rattle.osc_run.specs.{questions}
 use Rattle.osc_run.proofs.readers.asked.Given as goal
 
 -- what the steps so far asked

@@ -1,7 +1,7 @@
 use Rattle.std.proofs.Common.{Bor, ap, ◌∙◌}
 use Rattle.osc_model.specs.StepNotes.{StepNotes}
 use Rattle.osc_model.specs.declared.step.Entry.{Entry}
-use Rattle.osc_run.specs.Notes.{Noted}
+use Rattle.osc_run.specs.{Noted}
 use Rattle.osc_run.proofs.NotedSteps.{read_more_lent}
 use Rattle.osc_run.proofs.readers.served.Goals as goal
 

@@ -1,5 +1,5 @@
 use Rattle.std.proofs.Common.{◌≡◌, map, take, reverse}
-use Rattle.osc_run.specs.History.{history}
+use Rattle.osc_run.specs.{history}
 use Rattle.osc_run.proofs.readers.served.Given as goal
 
 -- what the steps so far served

@@ -1,6 +1,6 @@
 use Rattle.std.proofs.Common.{List, ◌∷◌, sym, ap, ap₂, subst, ◌∙◌}
-use Rattle.osc_cbor.specs.Data.{DataItem, array, item, no_items, text_string, unsigned}
-use Rattle.osc_scope.specs.Reading.{AreEntriesBefore}
+use Rattle.osc_cbor.specs.{DataItem, array, item, no_items, text_string, unsigned}
+use Rattle.osc_scope.specs.{AreEntriesBefore}
 use Rattle.osc_scope.proofs.EntryLemmas.{one_more, no_entry_of, no_entry_after, all_are_entries}
 use Rattle.osc_scope.proofs.entries.entries.Goals as goal
 

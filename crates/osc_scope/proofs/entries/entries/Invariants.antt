@@ -1,5 +1,5 @@
 use Rattle.std.proofs.Common.{length}
-use Rattle.osc_scope.specs.Reading.{AreEntriesBefore}
+use Rattle.osc_scope.specs.{AreEntriesBefore}
 use Rattle.osc_scope.proofs.entries.entries.Given as goal
 
 -- the entries of the items so far

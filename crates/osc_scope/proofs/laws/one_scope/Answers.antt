@@ -1,6 +1,6 @@
 use Rattle.std.proofs.Common.{[], refl}
-use Rattle.osc_cbor.specs.Data.{array}
-use Rattle.osc_scope.specs.Entries.{entry_items}
+use Rattle.osc_cbor.specs.{array}
+use Rattle.osc_scope.specs.{entry_items}
 use Rattle.osc_scope.proofs.EntryLemmas.{one_entry_list, one_array}
 use Rattle.osc_scope.proofs.laws.one_scope.Goals as goal
 

@@ -1,6 +1,6 @@
 use Rattle.std.proofs.Common.{◌≡◌}
 use Rattle.std.specs.List.{list_any}
-use Rattle.osc_scope.specs.Entries.{is_below}
+use Rattle.osc_scope.specs.{is_below}
 use Rattle.osc_scope.proofs.lookup.goes_below.Given as goal
 
 -- the rest has one that goes below exactly where all have

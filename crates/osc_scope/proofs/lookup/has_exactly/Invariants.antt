@@ -1,6 +1,6 @@
 use Rattle.std.proofs.Common.{◌≡◌, bytes_eq, not, ◌&&◌}
 use Rattle.std.specs.List.{list_any}
-use Rattle.osc_scope.specs.Entries.{is_below, has}
+use Rattle.osc_scope.specs.{is_below, has}
 use Rattle.osc_scope.proofs.lookup.has_exactly.Given as goal
 
 -- the rest has one with path and method exactly where all have

@@ -2,8 +2,8 @@ use Rattle.std.proofs.Common.{rules, tests, ◌==◌, subst}
 use Rattle.std.proofs.lemmas.Iterator.{YieldsList}
 use Rattle.std.proofs.lemmas.Iterator.Consumers.{YieldsList-at, YieldsList-turn, YieldsList-end}
 use Rattle.std.proofs.lemmas.Iterator.Splits.{YieldsList-from_slice_split}
-use Rattle.osc_cbor.specs.View.{items_view}
-use Rattle.osc_scope.specs.Reading.{Says}
+use Rattle.osc_cbor.specs.{items_view}
+use Rattle.osc_scope.specs.{Says}
 use Rattle.osc_scope.proofs.Parting.{cut}
 use Rattle.osc_scope.proofs.TextLemmas.{says_more, no_entry_text}
 use Rattle.osc_scope.proofs.text.entries.Goals.{At-loop-part}

@@ -1,6 +1,6 @@
 use Rattle.std.proofs.Common.{map}
-use Rattle.osc_cbor.specs.View.{items_view}
-use Rattle.osc_scope.specs.Reading.{Says}
+use Rattle.osc_cbor.specs.{items_view}
+use Rattle.osc_scope.specs.{Says}
 use Rattle.osc_scope.proofs.text.entries.Given as goal
 
 -- the parts so far say the items

@@ -1,5 +1,5 @@
 use Rattle.std.proofs.Common.{rules, sym, subst}
-use Rattle.osc_model.specs.Path.{IsPath}
+use Rattle.osc_model.specs.{IsPath}
 use Rattle.osc_scope.proofs.TextLemmas.{entry_is, needs_colon, entry_parts, item_is}
 use Rattle.osc_scope.proofs.text.entry.Goals as goal
 

@@ -2,7 +2,7 @@ use Rattle.std.proofs.Common.{◌≡◌, ◌≢◌, ℕ, ◌≤◌, ◌++◌, Li
 use Rattle.std.specs.List.{sum_by}
 use Rattle.std.proofs.lemmas.Bool.Decides.{Decides-eqb}
 use Rattle.std.proofs.lemmas.Slice.Eq.{strip_suffix_is}
-use Rattle.osc_scope.specs.Entries.{bit_of}
+use Rattle.osc_scope.specs.{bit_of}
 use Rattle.osc_scope.proofs.MethodLemmas.{set_most}
 use Rattle.osc_scope.proofs.NameLemmas.{words_below, no_words_below, each_alone, none_alone}
 use Rattle.osc_scope.proofs.text.mask.Goals.{In-Some, In-None}

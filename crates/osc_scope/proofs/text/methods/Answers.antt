@@ -2,7 +2,7 @@ use Rattle.std.proofs.Common.{rules, tests, ◌==◌, subst, sym}
 use Rattle.std.proofs.lemmas.Iterator.{YieldsList}
 use Rattle.std.proofs.lemmas.Iterator.Consumers.{YieldsList-at, YieldsList-so_far, YieldsList-turn, YieldsList-end}
 use Rattle.std.proofs.lemmas.Iterator.Splits.{YieldsList-from_slice_split}
-use Rattle.osc_scope.specs.Reading.{Names}
+use Rattle.osc_scope.specs.{Names}
 use Rattle.osc_scope.proofs.Parting.{cut}
 use Rattle.osc_scope.proofs.NameLemmas.{names_more, no_name, name_again}
 use Rattle.osc_scope.proofs.text.methods.Goals.{At-loop-name}

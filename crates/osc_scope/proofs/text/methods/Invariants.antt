@@ -1,5 +1,5 @@
 use Rattle.std.proofs.Common.{map}
-use Rattle.osc_scope.specs.Reading.{Names}
+use Rattle.osc_scope.specs.{Names}
 use Rattle.osc_scope.proofs.text.methods.Given as goal
 
 -- the names so far are those of the methods in the set

@@ -1,8 +1,6 @@
 use Rattle.std.proofs.Common.{rules, map, ◌∙◌, ap, sym, refl, inl, inr, ◌++◌}
-use Rattle.osc_cbor.specs.Data.{array}
-use Rattle.osc_cbor.specs.Spelling.{spelling}
-use Rattle.osc_scope.specs.Entries.{entry_items}
-use Rattle.osc_scope.specs.Text.{entry_of}
+use Rattle.osc_cbor.specs.{array, spelling}
+use Rattle.osc_scope.specs.{entry_items, entry_of}
 use Rattle.osc_scope.proofs.TextLemmas.{scope_parts, scope_from_parts, one_list, view_array, memory_is}
 use Rattle.osc_scope.proofs.text.text_to_cbor.Goals as goal
 

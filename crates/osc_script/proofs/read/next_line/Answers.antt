@@ -1,5 +1,5 @@
 use Rattle.std.proofs.Common.{subst, sym}
-use Rattle.osc_script.specs.Line.{MayFollow}
+use Rattle.osc_script.specs.{MayFollow}
 use Rattle.osc_script.proofs.Said.{one_line}
 use Rattle.osc_script.proofs.read.next_line.Goals as goal
 

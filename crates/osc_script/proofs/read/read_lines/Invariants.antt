@@ -1,6 +1,6 @@
 use Rattle.std.proofs.Common.{[], map, take}
 use Rattle.osc_script.specs.Inner.Place.{IsPlace}
-use Rattle.osc_script.specs.Script.{StandFor}
+use Rattle.osc_script.specs.{StandFor}
 use Rattle.osc_script.proofs.read.read_lines.Given as goal
 
 -- the lines so far are what the texts so far stand for, and what is kept is so of them

@@ -1,8 +1,7 @@
 use Rattle.std.proofs.Common.{◌∙◌, ap, subst, map}
 use Rattle.std.proofs.lemmas.Bool.{iff_false}
 use Rattle.std.proofs.lemmas.Result.{IfOk-weaker}
-use Rattle.osc_script.specs.Words.{words_of}
-use Rattle.osc_script.specs.Line.{IsSkipped}
+use Rattle.osc_script.specs.{words_of, IsSkipped}
 use Rattle.osc_script.proofs.Said.{reads_says}
 use Rattle.osc_script.proofs.text.line.Goals as goal
 

@@ -1,12 +1,12 @@
 use Rattle.std.proofs.Common.{◌≤◌, length, Result, Ok, Err, sym, ap, subst, arith}
-use Rattle.osc_model.specs.Apply.{apply_read}
+use Rattle.osc_model.specs.{apply_read, IsWithinLimits}
 use Rattle.osc_model.specs.Scope.{Scope}
-use Rattle.osc_model.specs.Tree.{Tree, IsWithinLimits}
+use Rattle.osc_model.specs.Tree.{Tree}
 use Rattle.osc_model.specs.declared.code.Code.{Code}
 use Rattle.osc_model.specs.declared.reply.Reply.{Reply}
 use Rattle.osc_model.specs.declared.request.Request.{Request}
-use Rattle.osc_run.specs.ServerKinds.{Replies, Applied, OutOfMemory}
-use Rattle.osc_options.specs.Texts.{read_request}
+use Rattle.osc_run.specs.{Replies, Applied, OutOfMemory}
+use Rattle.osc_options.specs.{read_request}
 use Rattle.osc_server.proofs.Replies.{read_reply_short, text_short}
 use Rattle.osc_server.proofs.laws.lengths_of_replies.Goals as goal
 

@@ -2,7 +2,7 @@ use Rattle.std.proofs.Common.{arith, subst, sym, ◌≤◌, length}
 use Rattle.osc_coap.specs.Message.{Message}
 use Rattle.osc_model.specs.Arrival.{Arrival}
 use Rattle.osc_server.specs.Inner.Parts.{FitsAResource}
-use Rattle.osc_server.specs.Table.{post_reply}
+use Rattle.osc_server.specs.{post_reply}
 use Rattle.osc_server.proofs.Replies.{is_short, posted_reply, post_message_short}
 use Rattle.osc_server.proofs.posting.post_answer.Goals as goal
 

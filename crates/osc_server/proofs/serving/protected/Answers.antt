@@ -4,12 +4,12 @@ use Rattle.std.proofs.lemmas.Result.{IfOk-at_ok}
 use Rattle.osc_model.specs.Arrival.{Arrival}
 use Rattle.osc_model.specs.declared.context.ContextName.{ContextName}
 use Rattle.osc_model.specs.declared.context.Side.TheVariants.{Server}
-use Rattle.osc_coap.specs.Building.{bare}
+use Rattle.osc_coap.specs.{bare}
 use Rattle.osc_coap.specs.Message.{Message}
-use Rattle.osc_context.specs.Algorithm.{algorithm_of}
-use Rattle.osc_protect.specs.Protection.{IsProtectedResponse, longest_message, note_of, plain_bytes, reply_with_header, request_nonce, response_length, response_with}
-use Rattle.osc_run.specs.ServerKinds.{reply_note}
-use Rattle.osc_server.specs.Table.{reply_to}
+use Rattle.osc_context.specs.{algorithm_of}
+use Rattle.osc_protect.specs.{IsProtectedResponse, longest_message, note_of, plain_bytes, reply_with_header, request_nonce, response_length, response_with}
+use Rattle.osc_run.specs.{reply_note}
+use Rattle.osc_server.specs.{reply_to}
 use Rattle.osc_server.proofs.Replies.{reply_fits, sealed_reply_short, text_short}
 use Rattle.osc_server.proofs.serving.protected.Goals as goal
 

@@ -1,8 +1,8 @@
 use Rattle.std.proofs.Common.{◌≡◌, Some, ap, ◌∙◌}
 use Rattle.std.proofs.lemmas.Option.{same_Some}
 use Rattle.osc_authz.specs.SecurityContext.{SecurityContext}
-use Rattle.osc_authz.specs.Table.{confirmed_at, taking, with_id}
-use Rattle.osc_context.specs.Derivation.{Accepted}
+use Rattle.osc_authz.specs.{confirmed_at, taking, with_id}
+use Rattle.osc_context.specs.{Accepted}
 use Rattle.osc_server.proofs.Requests.{is_found}
 use Rattle.osc_server.proofs.Served.{served_as}
 use Rattle.osc_server.specs.Inner.Parts.{IsReplied, Standing}

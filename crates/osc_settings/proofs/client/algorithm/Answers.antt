@@ -1,8 +1,7 @@
 use Rattle.std.proofs.Common.{◌≡◌, sym, ◌∙◌}
 use Rattle.toml.specs.View.{table_view}
 use Rattle.osc_model.specs.declared.algorithm.Algorithm.TheVariants.{EightByteTag}
-use Rattle.osc_settings.specs.Document.{IsAlgorithmAt, IsLeftOut}
-use Rattle.osc_settings.specs.Keys.{name_of}
+use Rattle.osc_settings.specs.{IsAlgorithmAt, IsLeftOut, name_of}
 use Rattle.osc_settings.specs.declared.key.SettingsKey.TheVariants as key
 use Rattle.osc_settings.proofs.Parts.{or_left_out}
 use Rattle.osc_settings.proofs.client.algorithm.Goals as goal

@@ -1,8 +1,7 @@
 use Rattle.std.proofs.Common.{sym, ◌∙◌}
 use Rattle.std.proofs.lemmas.Result.{err_from_is_err_and}
 use Rattle.toml.specs.View.{table_view}
-use Rattle.osc_settings.specs.Document.{SpelledAt}
-use Rattle.osc_settings.specs.Values.{SpellsBytes}
+use Rattle.osc_settings.specs.{SpelledAt, SpellsBytes}
 use Rattle.osc_settings.specs.declared.key.SettingsKey.TheVariants as key
 use Rattle.osc_settings.proofs.Parts.{wrong_at}
 use Rattle.osc_settings.proofs.client.context.Goals as goal

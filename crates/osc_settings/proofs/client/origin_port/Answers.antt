@@ -1,7 +1,6 @@
 use Rattle.std.proofs.Common.{◌≡◌, sym, ◌∙◌}
 use Rattle.toml.specs.View.{table_view}
-use Rattle.osc_settings.specs.Document.{IsLeftOut, IsPortAt}
-use Rattle.osc_settings.specs.Keys.{name_of}
+use Rattle.osc_settings.specs.{IsLeftOut, IsPortAt, name_of}
 use Rattle.osc_settings.specs.declared.key.SettingsKey.TheVariants as key
 use Rattle.osc_settings.proofs.Parts.{or_left_out}
 use Rattle.osc_settings.proofs.client.origin_port.Goals as goal

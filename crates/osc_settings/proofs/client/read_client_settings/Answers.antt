@@ -1,7 +1,6 @@
 use Rattle.std.proofs.lemmas.Result.{err_from_is_err_and}
 use Rattle.toml.specs.View.{table_view}
-use Rattle.osc_settings.specs.Faults.{IsClientFault, IsKeyFault}
-use Rattle.osc_settings.specs.Settings.{AreClientSettings}
+use Rattle.osc_settings.specs.{IsClientFault, IsKeyFault, AreClientSettings}
 use Rattle.osc_settings.proofs.NoSettings.{no_client}
 use Rattle.osc_settings.proofs.Parts.{all_bad, bad, lacks, no_document}
 use Rattle.osc_settings.proofs.client.read_client_settings.Goals as goal

@@ -1,10 +1,7 @@
 use Rattle.std.proofs.Common.{inl, inr}
 use Rattle.std.proofs.lemmas.Result.{err_from_is_err_and}
 use Rattle.toml.specs.View.{table_view}
-use Rattle.osc_settings.specs.Document.{IsAlgorithmAt, SpelledAt}
-use Rattle.osc_settings.specs.Faults.{IsClientFault, IsFaultAt, IsOriginFault, IsOther, IsWrongAt}
-use Rattle.osc_settings.specs.Settings.{client_keys}
-use Rattle.osc_settings.specs.Values.{IsAddress, IsOpenAddress, SpellsBytes, SpellsHex}
+use Rattle.osc_settings.specs.{IsAlgorithmAt, SpelledAt, IsClientFault, IsFaultAt, IsOriginFault, IsOther, IsWrongAt, client_keys, IsAddress, IsOpenAddress, SpellsBytes, SpellsHex}
 use Rattle.osc_settings.specs.declared.key.SettingsKey.TheVariants as key
 use Rattle.osc_settings.proofs.Parts.{context_found, fault_within, salt_found}
 use Rattle.osc_settings.proofs.client.settings_in.Goals as goal

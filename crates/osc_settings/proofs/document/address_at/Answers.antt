@@ -1,6 +1,6 @@
 use Rattle.std.proofs.Common.{ℕ, List, Bor}
 use Rattle.toml.specs.View.{table_view}
-use Rattle.osc_settings.specs.Values.{IsAddressFrom}
+use Rattle.osc_settings.specs.{IsAddressFrom}
 use Rattle.osc_settings.proofs.Keys.{seen_some, seen_none}
 use Rattle.osc_settings.proofs.Spelled.{spelled_read, unspelled}
 use Rattle.osc_settings.proofs.document.address_at.Goals as goal

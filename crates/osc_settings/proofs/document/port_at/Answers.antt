@@ -1,7 +1,7 @@
 use Rattle.std.proofs.Common.{MatchResult, rules, sym, ◌∙◌}
 use Rattle.toml.specs.View.{table_view}
 use Rattle.osc_settings.specs.Inner.Reading.{IsRefusal}
-use Rattle.osc_settings.specs.Values.{IsPort}
+use Rattle.osc_settings.specs.{IsPort}
 use Rattle.osc_settings.proofs.Spelled.{number_read, no_number_there}
 use Rattle.osc_settings.proofs.document.port_at.Goals as goal
 

@@ -1,7 +1,6 @@
 use Rattle.std.proofs.lemmas.Result.{err_from_is_err_and}
 use Rattle.toml.specs.View.{table_view}
-use Rattle.osc_settings.specs.Faults.{IsFaultOfProxy}
-use Rattle.osc_settings.specs.Settings.{AreProxySettings}
+use Rattle.osc_settings.specs.{IsFaultOfProxy, AreProxySettings}
 use Rattle.osc_settings.proofs.NoSettings.{no_proxy}
 use Rattle.osc_settings.proofs.Parts.{all_bad, bad, lacks, no_document}
 use Rattle.osc_settings.proofs.proxy.read_proxy_settings.Goals as goal

@@ -1,10 +1,7 @@
 use Rattle.std.proofs.Common.{inl, inr}
 use Rattle.std.proofs.lemmas.Result.{err_from_is_err_and}
 use Rattle.toml.specs.View.{table_view}
-use Rattle.osc_settings.specs.Document.{SpelledAt}
-use Rattle.osc_settings.specs.Faults.{IsFaultAt, IsOther}
-use Rattle.osc_settings.specs.Settings.{proxy_keys}
-use Rattle.osc_settings.specs.Values.{IsAddress}
+use Rattle.osc_settings.specs.{SpelledAt, IsFaultAt, IsOther, proxy_keys, IsAddress}
 use Rattle.osc_settings.specs.declared.key.SettingsKey.TheVariants as key
 use Rattle.osc_settings.proofs.Parts.{proxy_refused, targets_refused}
 use Rattle.osc_settings.proofs.proxy.settings_in.Goals as goal

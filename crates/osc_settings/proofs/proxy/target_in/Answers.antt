@@ -1,10 +1,7 @@
 use Rattle.std.proofs.Common.{inl, inr}
 use Rattle.std.proofs.lemmas.Result.{err_from_is_err_and}
 use Rattle.toml.specs.View.{table_view}
-use Rattle.osc_settings.specs.Document.{IsPortAt, SpelledAt}
-use Rattle.osc_settings.specs.Faults.{IsFaultAt, IsOther, IsTargetFault}
-use Rattle.osc_settings.specs.Settings.{target_keys}
-use Rattle.osc_settings.specs.Values.{IsAddress, IsHost}
+use Rattle.osc_settings.specs.{IsPortAt, SpelledAt, IsFaultAt, IsOther, IsTargetFault, target_keys, IsAddress, IsHost}
 use Rattle.osc_settings.specs.declared.key.SettingsKey.TheVariants as key
 use Rattle.osc_settings.proofs.Parts.{fault_within}
 use Rattle.osc_settings.proofs.proxy.target_in.Goals as goal

@@ -1,6 +1,6 @@
 use Rattle.std.proofs.Common.{◌+◌, List, ap, length}
 use Rattle.std.proofs.lemmas.Result.{err_from_is_err_and}
-use Rattle.osc_settings.specs.Settings.{IsTargetTable}
+use Rattle.osc_settings.specs.{IsTargetTable}
 use Rattle.osc_settings.specs.declared.proxy.TargetSetting.{TargetSetting}
 use Rattle.osc_settings.proofs.Listed.{item_refused, one_more}
 use Rattle.osc_settings.proofs.proxy.targets.Goals as goal

@@ -1,5 +1,5 @@
 use Rattle.std.proofs.lemmas.Result.{err_from_is_err_and}
-use Rattle.osc_settings.specs.Settings.{IsResourceTable}
+use Rattle.osc_settings.specs.{IsResourceTable}
 use Rattle.osc_settings.proofs.Listed.{one_more, none_stand}
 use Rattle.osc_settings.proofs.resource.all.Goals as goal
 

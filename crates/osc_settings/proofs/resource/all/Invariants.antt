@@ -1,7 +1,7 @@
 use Rattle.std.proofs.Common.{take}
 use Rattle.toml.specs.View.{items_view}
 use Rattle.osc_settings.specs.Inner.Reading.{StandForAll}
-use Rattle.osc_settings.specs.Settings.{IsResourceTable}
+use Rattle.osc_settings.specs.{IsResourceTable}
 use Rattle.osc_settings.proofs.resource.all.Given as goal
 
 -- what the values so far stand for

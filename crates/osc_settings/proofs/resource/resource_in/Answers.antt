@@ -4,7 +4,7 @@ use Rattle.toml.specs.Data.{Data, get_member}
 use Rattle.toml.specs.View.{table_view, view}
 use Rattle.toml.specs.declared.value.Value.{Value}
 use Rattle.osc_settings.specs.Inner.Reading.{IsRefusal}
-use Rattle.osc_settings.specs.Settings.{IsContentOf, IsFormatOf, IsPathOf, IsResource}
+use Rattle.osc_settings.specs.{IsContentOf, IsFormatOf, IsPathOf, IsResource}
 use Rattle.osc_settings.proofs.Resources.{refused_within}
 use Rattle.osc_settings.proofs.resource.resource_in.Goals as goal
 

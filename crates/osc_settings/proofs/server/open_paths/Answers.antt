@@ -1,7 +1,7 @@
 use Rattle.std.proofs.Common.{List, Bor}
 use Rattle.toml.specs.View.{items_view, table_view}
 use Rattle.toml.specs.declared.value.Value.{Value}
-use Rattle.osc_settings.specs.Settings.{IsPathText}
+use Rattle.osc_settings.specs.{IsPathText}
 use Rattle.osc_settings.specs.declared.key.SettingsKey.TheVariants as key
 use Rattle.osc_settings.proofs.Keys.{seen_some, seen_none}
 use Rattle.osc_settings.proofs.Listed.{listed_read, unlisted}

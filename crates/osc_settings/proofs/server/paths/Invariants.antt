@@ -1,7 +1,7 @@
 use Rattle.std.proofs.Common.{take}
 use Rattle.toml.specs.View.{items_view}
 use Rattle.osc_settings.specs.Inner.Reading.{StandForAll}
-use Rattle.osc_settings.specs.Settings.{IsPathText}
+use Rattle.osc_settings.specs.{IsPathText}
 use Rattle.osc_settings.proofs.server.paths.Given as goal
 
 -- what the values so far stand for

@@ -1,7 +1,6 @@
 use Rattle.std.proofs.lemmas.Result.{err_from_is_err_and}
 use Rattle.toml.specs.View.{table_view}
-use Rattle.osc_settings.specs.Faults.{IsKeyFault, IsServerFault}
-use Rattle.osc_settings.specs.Settings.{AreServerSettings}
+use Rattle.osc_settings.specs.{IsKeyFault, IsServerFault, AreServerSettings}
 use Rattle.osc_settings.proofs.NoSettings.{no_server}
 use Rattle.osc_settings.proofs.Parts.{all_bad, bad, lacks, no_document}
 use Rattle.osc_settings.proofs.server.read_server_settings.Goals as goal

@@ -1,10 +1,7 @@
 use Rattle.std.proofs.Common.{inl, inr}
 use Rattle.std.proofs.lemmas.Result.{err_from_is_err_and}
 use Rattle.toml.specs.View.{table_view}
-use Rattle.osc_settings.specs.Document.{ListedAt, SpelledAt}
-use Rattle.osc_settings.specs.Faults.{IsFaultAt, IsOther, IsServerFault, IsTextAt, IsWrongAt}
-use Rattle.osc_settings.specs.Settings.{AreResourcesAt, IsPathText, server_keys}
-use Rattle.osc_settings.specs.Values.{IsAddress, SpellsBytes}
+use Rattle.osc_settings.specs.{ListedAt, SpelledAt, IsFaultAt, IsOther, IsServerFault, IsTextAt, IsWrongAt, AreResourcesAt, IsPathText, server_keys, IsAddress, SpellsBytes}
 use Rattle.osc_settings.specs.declared.key.SettingsKey.TheVariants as key
 use Rattle.osc_settings.proofs.Parts.{fault_within}
 use Rattle.osc_settings.proofs.server.settings_in.Goals as goal

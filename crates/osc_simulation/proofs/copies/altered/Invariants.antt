@@ -1,5 +1,5 @@
 use Rattle.std.proofs.Common.{◌≡◌, drop}
-use Rattle.osc_simulation.specs.Copies.{altered}
+use Rattle.osc_simulation.specs.{altered}
 use Rattle.osc_simulation.proofs.copies.altered.Given as goal
 
 -- the changes that are left make the same of the copy

@@ -4,11 +4,11 @@ use Rattle.std.proofs.lemmas.Iterator.{YieldsList}
 use Rattle.std.proofs.lemmas.Iterator.Consumers.{YieldsList-at, YieldsList-turn, YieldsList-end}
 use Rattle.std.proofs.lemmas.Iterator.Splits.{YieldsList-from_slice_split}
 use Rattle.std.proofs.lemmas.List.{length_push}
-use Rattle.osc_model.specs.Path.{IsPath}
-use Rattle.osc_coap.specs.Building.{last_number, with_inner_option}
+use Rattle.osc_model.specs.{IsPath}
+use Rattle.osc_coap.specs.{last_number, with_inner_option}
 use Rattle.osc_coap.specs.Plaintext.{Plaintext}
 use Rattle.osc_options.specs.Inner.Merging.{with_inner_options}
-use Rattle.osc_options.specs.Requests.{each, segments_of}
+use Rattle.osc_options.specs.{each, segments_of}
 use Rattle.osc_simulation.proofs.Segments.{some_path, behind_first, inner_more, inner_all, fits_within}
 use Rattle.osc_simulation.proofs.lying.add_segments.Goals.{At-loop-segment}
 use Rattle.osc_simulation.proofs.lying.add_segments.Goals as goal

@@ -1,8 +1,6 @@
 use Rattle.std.proofs.Common.{◌∙◌, ◌++◌, None, ap}
-use Rattle.osc_coap.specs.Building.{payload_of}
-use Rattle.osc_coap.specs.Message.{payload_spelling}
-use Rattle.osc_coap.specs.Plaintext.{plaintext_spelling}
-use Rattle.osc_options.specs.Requests.{path_options}
+use Rattle.osc_coap.specs.{payload_of, payload_spelling, plaintext_spelling}
+use Rattle.osc_options.specs.{path_options}
 use Rattle.osc_simulation.proofs.Segments.{text_whole}
 use Rattle.osc_simulation.proofs.lying.text_of.Goals as goal
 

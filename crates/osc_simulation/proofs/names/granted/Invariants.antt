@@ -1,5 +1,5 @@
 use Rattle.std.proofs.Common.{◌≡◌, ◌++◌, drop}
-use Rattle.osc_simulation.specs.Names.{granted}
+use Rattle.osc_simulation.specs.{granted}
 use Rattle.osc_simulation.proofs.names.granted.Given as goal
 
 -- the clients so far, and those of the lines that are left

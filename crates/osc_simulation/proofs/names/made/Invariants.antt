@@ -1,5 +1,5 @@
 use Rattle.std.proofs.Common.{◌≡◌, drop}
-use Rattle.osc_simulation.specs.Names.{made, made_from}
+use Rattle.osc_simulation.specs.{made, made_from}
 use Rattle.osc_simulation.proofs.names.made.Given as goal
 
 -- what is left makes what all lines do

@@ -1,5 +1,5 @@
 use Rattle.std.proofs.Common.{◌≡◌, drop}
-use Rattle.osc_simulation.specs.Records.{holder_text}
+use Rattle.osc_simulation.specs.{holder_text}
 use Rattle.osc_simulation.proofs.record.holder_name.Given as goal
 
 -- no grant so far has the secret

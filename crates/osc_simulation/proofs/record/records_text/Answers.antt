@@ -1,6 +1,6 @@
 use Rattle.std.proofs.Common.{◌≡◌, ◌∙◌, ◌+◌, ◌++◌, ap, sym, subst, drop, List, ℕ}
 use Rattle.std.proofs.Math.ListN.{drop_of_length-le}
-use Rattle.osc_simulation.specs.Records.{PrintAllRecords}
+use Rattle.osc_simulation.specs.{PrintAllRecords}
 use Rattle.osc_simulation.proofs.Printing.{events_left, events_more, events_end}
 use Rattle.osc_simulation.proofs.record.records_text.Goals as goal
 

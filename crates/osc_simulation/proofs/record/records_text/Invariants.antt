@@ -1,5 +1,5 @@
 use Rattle.std.proofs.Common.{◌++◌, List, ℕ, drop}
-use Rattle.osc_simulation.specs.Records.{PrintAllRecords}
+use Rattle.osc_simulation.specs.{PrintAllRecords}
 use Rattle.osc_simulation.proofs.record.records_text.Given as goal
 
 -- what the events that are left print goes behind the text so far

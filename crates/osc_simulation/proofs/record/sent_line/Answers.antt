@@ -1,8 +1,7 @@
 use Rattle.std.proofs.Common.{◌∙◌, ap, subst, decimal}
 use Rattle.std.proofs.lemmas.Result.{IfOk-weaker}
 use Rattle.std.specs.Prelude.{string_bytes}
-use Rattle.osc_simulation.specs.Records.{TellsMessage}
-use Rattle.osc_simulation.specs.Trace.{wanted_bytes_text}
+use Rattle.osc_simulation.specs.{TellsMessage, wanted_bytes_text}
 use Rattle.osc_simulation.proofs.Printing.{datagram_pieces}
 use Rattle.osc_simulation.proofs.record.sent_line.Goals as goal
 

@@ -1,7 +1,7 @@
 use Rattle.std.proofs.Common.{◌≡◌, ◌∙◌, ◌+◌, ◌++◌, ap, sym, subst, drop, List, ℕ, arith}
 use Rattle.std.proofs.Math.ListN.{drop_of_length-le}
 use Rattle.std.specs.Prelude.{string_bytes}
-use Rattle.osc_simulation.specs.Records.{PrintAllSent}
+use Rattle.osc_simulation.specs.{PrintAllSent}
 use Rattle.osc_simulation.proofs.Printing.{datagrams_more, datagrams_end}
 use Rattle.osc_simulation.proofs.Runs.{drop_item}
 use Rattle.osc_simulation.proofs.record.sent_lines.Goals as goal

@@ -1,5 +1,5 @@
 use Rattle.std.proofs.Common.{◌≡◌, ◌+◌, ◌++◌, List, ℕ, drop}
-use Rattle.osc_simulation.specs.Records.{PrintAllSent}
+use Rattle.osc_simulation.specs.{PrintAllSent}
 use Rattle.osc_simulation.proofs.record.sent_lines.Given as goal
 
 -- what the datagrams that are left print goes behind the lines so far

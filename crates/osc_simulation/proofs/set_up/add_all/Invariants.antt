@@ -1,5 +1,5 @@
 use Rattle.std.proofs.Common.{◌≡◌, drop}
-use Rattle.osc_simulation.specs.Simulation.{with_proxies}
+use Rattle.osc_simulation.specs.{with_proxies}
 use Rattle.osc_simulation.proofs.set_up.add_all.Given as goal
 
 -- what is left makes what all proxies do

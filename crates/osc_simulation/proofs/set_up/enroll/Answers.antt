@@ -1,7 +1,7 @@
 use Rattle.std.proofs.Common.{◌∙◌, ◌+◌, ap, subst, sym}
-use Rattle.osc_script.specs.Grants.{claims_of}
-use Rattle.osc_world.specs.Starts.{Enrols}
-use Rattle.osc_simulation.specs.Simulation.{Enrolled, holder_of, is_sealing, way_by}
+use Rattle.osc_script.specs.{claims_of}
+use Rattle.osc_world.specs.{Enrols}
+use Rattle.osc_simulation.specs.{Enrolled, holder_of, is_sealing, way_by}
 use Rattle.osc_simulation.proofs.Holders.{holder_is}
 use Rattle.osc_simulation.proofs.set_up.enroll.Goals as goal
 

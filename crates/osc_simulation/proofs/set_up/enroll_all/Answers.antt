@@ -1,5 +1,5 @@
 use Rattle.std.proofs.Common.{subst, sym}
-use Rattle.osc_simulation.specs.Simulation.{AllEnrolled}
+use Rattle.osc_simulation.specs.{AllEnrolled}
 use Rattle.osc_simulation.proofs.Runs.{drop_item}
 use Rattle.osc_simulation.proofs.set_up.enroll_all.Goals as goal
 

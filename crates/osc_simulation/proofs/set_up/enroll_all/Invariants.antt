@@ -1,6 +1,6 @@
 use Rattle.std.proofs.Common.{◌≡◌, drop, length}
-use Rattle.osc_simulation.specs.Simulation.{AllEnrolled}
-use Rattle.osc_world.specs.Starts.{Beginning}
+use Rattle.osc_simulation.specs.{AllEnrolled}
+use Rattle.osc_world.specs.{Beginning}
 use Rattle.osc_simulation.proofs.set_up.enroll_all.Given as goal
 
 -- what is left enrolls what all lines do

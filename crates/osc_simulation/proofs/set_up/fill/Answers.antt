@@ -1,6 +1,6 @@
 use Rattle.std.proofs.Common.{◌∙◌, ap}
 use Rattle.std.proofs.lemmas.Result.{IfOk-weaker}
-use Rattle.osc_simulation.specs.Simulation.{with_proxies}
+use Rattle.osc_simulation.specs.{with_proxies}
 use Rattle.osc_simulation.proofs.set_up.fill.Goals as goal
 
 pub returns : goal.returns

@@ -1,7 +1,6 @@
 use Rattle.std.proofs.Common.{◌≡◌, drop}
 use Rattle.std.specs.FinMap as map
-use Rattle.osc_simulation.specs.Simulation.{tree_from}
-use Rattle.osc_simulation.specs.SetUp.{CanPutAll}
+use Rattle.osc_simulation.specs.{tree_from, CanPutAll}
 use Rattle.osc_simulation.proofs.set_up.first_tree.Given as goal
 
 -- what is left fits, and makes the same tree

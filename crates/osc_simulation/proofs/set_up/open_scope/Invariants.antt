@@ -1,6 +1,6 @@
 use Rattle.std.proofs.Common.{◌≡◌, drop}
 use Rattle.std.specs.FinSet as set
-use Rattle.osc_simulation.specs.Simulation.{scope_from}
+use Rattle.osc_simulation.specs.{scope_from}
 use Rattle.osc_simulation.proofs.set_up.open_scope.Given as goal
 
 -- what is left makes the same scope

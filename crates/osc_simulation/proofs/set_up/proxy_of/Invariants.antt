@@ -1,5 +1,5 @@
 use Rattle.std.proofs.Common.{◌≡◌, drop}
-use Rattle.osc_simulation.specs.Simulation.{proxy_of}
+use Rattle.osc_simulation.specs.{proxy_of}
 use Rattle.osc_simulation.proofs.set_up.proxy_of.Given as goal
 
 -- no line so far is of the client

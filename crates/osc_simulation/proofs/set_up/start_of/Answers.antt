@@ -1,6 +1,6 @@
 use Rattle.std.proofs.Common.{◌∙◌, ap, subst}
 use Rattle.osc_simulation.specs.Names.{Names}
-use Rattle.osc_simulation.specs.Simulation.{AllEnrolled, with_proxies}
+use Rattle.osc_simulation.specs.{AllEnrolled, with_proxies}
 use Rattle.osc_simulation.proofs.set_up.start_of.Goals as goal
 
 pub returns-in-Ok : goal.returns-in-Ok

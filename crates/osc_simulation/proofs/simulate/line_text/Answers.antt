@@ -1,7 +1,6 @@
 use Rattle.std.proofs.Common.{◌∙◌, ap, subst, drop}
 use Rattle.std.proofs.lemmas.Result.{IfOk-weaker}
-use Rattle.osc_simulation.specs.Records.{PrintAllRecords}
-use Rattle.osc_simulation.specs.Simulation.{behind_number}
+use Rattle.osc_simulation.specs.{PrintAllRecords, behind_number}
 use Rattle.osc_simulation.proofs.simulate.line_text.Goals as goal
 
 pub returns : goal.returns

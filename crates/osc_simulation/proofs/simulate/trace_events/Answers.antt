@@ -1,7 +1,7 @@
 use Rattle.std.proofs.Common.{◌≡◌, ◌+◌, ◌++◌, ◌∷◌, [], refl, sym, subst, take, drop, length, arith}
 use Rattle.std.proofs.lemmas.List.{take-append-drop}
 use Rattle.std.specs.Io.KnownBytes.{Appends}
-use Rattle.osc_simulation.specs.Simulation.{Printing, Prints, PrintsLine}
+use Rattle.osc_simulation.specs.{Printing, Prints, PrintsLine}
 use Rattle.osc_simulation.proofs.Runs.{appends_more, appends_none, nth, one_line_more, take_item}
 use Rattle.osc_simulation.proofs.simulate.trace_events.Goals as goal
 

@@ -1,6 +1,6 @@
 use Rattle.std.proofs.Common.{◌≡◌, ℕ, List, take}
 use Rattle.std.specs.Io.KnownBytes.{Appends}
-use Rattle.osc_simulation.specs.Simulation.{Prints}
+use Rattle.osc_simulation.specs.{Prints}
 use Rattle.osc_simulation.proofs.simulate.trace_events.Given as goal
 
 -- the lines so far are counted, and what they print is written

@@ -1,6 +1,6 @@
 use Rattle.std.proofs.Common.{◌≡◌, ◌++◌, [], refl, ap, sym, subst, append-nil, Err}
 use Rattle.std.specs.Io.KnownBytes.{Appends}
-use Rattle.osc_simulation.specs.Simulation.{IsEnd, in_lines, at_end}
+use Rattle.osc_simulation.specs.{IsEnd, in_lines, at_end}
 use Rattle.osc_simulation.specs.declared.error.TraceError.TheVariants.{OutOfMemory}
 use Rattle.osc_simulation.proofs.Runs.{appends_more, exit_was}
 use Rattle.osc_simulation.proofs.simulate.trace_from.Goals as goal

@@ -1,8 +1,7 @@
 use Rattle.std.proofs.Common.{◌++◌, refl, sym, subst}
 use Rattle.std.proofs.lemmas.Result.{IfOk-weaker}
 use Rattle.std.specs.Io.KnownBytes.{Appends}
-use Rattle.osc_simulation.specs.Names.{names_in}
-use Rattle.osc_simulation.specs.Simulation.{Begins, IsFront, Prints, later, only_text}
+use Rattle.osc_simulation.specs.{names_in, Begins, IsFront, Prints, later, only_text}
 use Rattle.osc_simulation.proofs.simulate.trace_lines.Goals as goal
 
 pub returns-clause-done : goal.returns-clause-done

@@ -1,7 +1,6 @@
 use Rattle.std.proofs.Common.{sym, subst, inr}
 use Rattle.std.specs.FinMap as map
-use Rattle.osc_simulation.specs.SetUp.{CanPutAll}
-use Rattle.osc_simulation.specs.Simulation.{IsCut}
+use Rattle.osc_simulation.specs.{CanPutAll, IsCut}
 use Rattle.osc_simulation.proofs.Puts.{a_script_fits}
 use Rattle.osc_simulation.proofs.simulate.trace_script.Goals as goal
 

@@ -1,6 +1,6 @@
 use Rattle.std.proofs.Common.{◌≡◌, ◌++◌, drop, flat_map}
-use Rattle.osc_script.specs.Node.{client_name}
-use Rattle.osc_simulation.specs.Trace.{alone_line}
+use Rattle.osc_script.specs.{client_name}
+use Rattle.osc_simulation.specs.{alone_line}
 use Rattle.osc_simulation.proofs.trace.alone_text.Given as goal
 
 -- the lines so far, and those of the answers that are left

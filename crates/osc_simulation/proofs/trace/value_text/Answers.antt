@@ -1,6 +1,6 @@
 use Rattle.std.proofs.Common.{◌∙◌, ap}
 use Rattle.std.proofs.lemmas.Result.{IfOk-weaker}
-use Rattle.osc_simulation.specs.Text.{short_text}
+use Rattle.osc_simulation.specs.{short_text}
 use Rattle.osc_simulation.proofs.Lines.{value_pieces}
 use Rattle.osc_simulation.proofs.trace.value_text.Goals as goal
 

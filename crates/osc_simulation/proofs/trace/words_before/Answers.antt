@@ -1,5 +1,5 @@
 use Rattle.std.proofs.Common.{drop, get_or, ◌+◌}
-use Rattle.osc_simulation.specs.Trace.{words_before}
+use Rattle.osc_simulation.specs.{words_before}
 use Rattle.osc_simulation.proofs.Printing.{byte_more, bytes_left}
 use Rattle.osc_simulation.proofs.trace.words_before.Goals as goal
 

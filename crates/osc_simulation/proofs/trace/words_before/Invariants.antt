@@ -1,5 +1,5 @@
 use Rattle.std.proofs.Common.{◌≡◌, ◌++◌, drop, true}
-use Rattle.osc_simulation.specs.Trace.{words_before}
+use Rattle.osc_simulation.specs.{words_before}
 use Rattle.osc_simulation.proofs.trace.words_before.Given as goal
 
 -- the bytes so far, and what is left behind them

@@ -4,9 +4,7 @@ use Rattle.sqlite_disk.specs.Disk.{MoreFaults}
 use Rattle.sqlite_store.specs.Report.{named}
 use Rattle.sqlite_wal.specs.Reads.{tally_of_files}
 use Rattle.sqlite_trees.specs.declared.error.StoreError.{StoreError}
-use Rattle.osc_store.specs.Causes.{by_fault}
-use Rattle.osc_store.specs.Starting.{IsStore}
-use Rattle.osc_store.specs.Opening.{IsFullLeft, IsOtherVersion, WhyNotOpened, faults_left, faults_of, image_of, tally_left}
+use Rattle.osc_store.specs.{by_fault, IsStore, IsFullLeft, IsOtherVersion, WhyNotOpened, faults_left, faults_of, image_of, tally_left}
 use Rattle.osc_store.proofs.FindLemmas.{once_named}
 use Rattle.osc_store.proofs.files.open_files.Goals as goal
 

@@ -4,9 +4,7 @@ use Rattle.sqlite_trees.proofs.Doubt.{clean_of, no_doubt}
 use Rattle.sqlite_trees.specs.View.{View}
 use Rattle.sqlite_store.specs.FileStore.{view}
 use Rattle.sqlite_store.specs.Laws.{settled_at}
-use Rattle.osc_store.specs.Rows.{Holds}
-use Rattle.osc_store.specs.Starting.{ListsTable}
-use Rattle.osc_store.specs.Opening.{image_of}
+use Rattle.osc_store.specs.{Holds, ListsTable, image_of}
 use Rattle.osc_store.proofs.ViewLemmas.{clean_before}
 use Rattle.osc_store.proofs.FindLemmas.{fails_wider, more_faults, surely_some}
 use Rattle.osc_store.proofs.StartLemmas.{finds_shown, held_in_shown, outcome_read}

@@ -6,8 +6,7 @@ use Rattle.sqlite_wal.specs.PageSize.{bytes_of, size_in_file, Names}
 use Rattle.sqlite_wal.specs.Recovery.{IsIgnored}
 use Rattle.sqlite_wal.proofs.CleanLemmas.{both_clean}
 use Rattle.sqlite_pool.specs.Opening.{IsBlankFile}
-use Rattle.osc_store.specs.Starting.{page}
-use Rattle.osc_store.specs.Opening.{HasSound, IsTooLong, NamesSize, image_of}
+use Rattle.osc_store.specs.{page, HasSound, IsTooLong, NamesSize, image_of}
 use Rattle.osc_store.proofs.FindLemmas.{fails_wider, more_faults, probe_finds, probe_size, reads_then, same_image, store_is_sound, surely_some, surely}
 use Rattle.osc_store.proofs.finding.find.Goals as goal
 

@@ -2,7 +2,7 @@ use Rattle.std.proofs.Common.{subst, ◌∙◌, refl}
 use Rattle.sqlite_wal.specs.Recovery as raw
 use Rattle.sqlite_pool.proofs.ProbeLemmas.{reserved_word}
 use Rattle.sqlite_pool.proofs.ResealLemmas.{adopts_of}
-use Rattle.osc_store.specs.Opening.{image_of}
+use Rattle.osc_store.specs.{image_of}
 use Rattle.osc_store.proofs.FindLemmas.{large_of, log_cause, sums_by_word}
 use Rattle.osc_store.proofs.finding.has_sums.Goals as goal
 

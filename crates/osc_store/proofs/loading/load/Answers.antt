@@ -1,6 +1,6 @@
 use Rattle.std.proofs.Common.{◌≡◌, ap, ◌∙◌, arith, rules}
 use Rattle.std.specs.FinMap as map
-use Rattle.osc_model.specs.Path.{path_cmp}
+use Rattle.osc_model.specs.{path_cmp}
 use Rattle.osc_model.specs.declared.resource.Resource.{Resource}
 use Rattle.osc_store.proofs.loading.load.Goals as goal
 

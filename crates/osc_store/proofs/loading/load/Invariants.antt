@@ -3,9 +3,8 @@ use Rattle.std.proofs.Common.{◌≡◌, ◌≤◌}
 use Rattle.std.specs.FinMap as map
 use Rattle.std.specs.Option.{IsSome}
 use Rattle.sqlite_trees.specs.View.{IsClean, KeepsSchema}
-use Rattle.osc_model.specs.Tree.{most_resources}
-use Rattle.osc_store.specs.Keeping.{AddsNone, IsSame}
-use Rattle.osc_store.specs.Loading.{Reads}
+use Rattle.osc_model.specs.{most_resources}
+use Rattle.osc_store.specs.{AddsNone, IsSame, Reads}
 use Rattle.osc_store.proofs.loading.load.Given as goal
 
 abbrev pub invariant-rows : goal.invariant-rows

@@ -2,9 +2,8 @@ use Rattle.std.proofs.Common.{◌≡◌, ◌≤◌, ◌<◌, length, true, None,
 use Rattle.std.specs.FinMap as finmap
 use Rattle.sqlite_trees.specs.View.{Advances}
 use Rattle.osc_model.specs.declared.resource.Resource.{Resource}
-use Rattle.osc_store.specs.Rows.{row_of}
-use Rattle.osc_store.specs.Loading.{Reads}
-use Rattle.osc_model.specs.Tree.{payload_length}
+use Rattle.osc_store.specs.{row_of, Reads}
+use Rattle.osc_model.specs.{payload_length}
 use Rattle.osc_store.proofs.ViewLemmas.{row_taken}
 use Rattle.osc_store.proofs.LoadLemmas.{row_ahead, one_entry, one_more}
 use Rattle.osc_store.proofs.loading.take.Goals.{then-len-gt-LONGEST_PAYLOAD-via-then-len-gt-LONGEST_PAYLOAD, then-len-gt-LONGEST_PAYLOAD-via-else-len-gt-LONGEST_PAYLOAD+then-is_full, then-len-gt-LONGEST_PAYLOAD-via-else-len-gt-LONGEST_PAYLOAD+else-is_full+then-is_some}

@@ -1,5 +1,5 @@
 use Rattle.std.proofs.Common.{subst, ◌∙◌}
-use Rattle.osc_store.specs.Opening.{Lists}
+use Rattle.osc_store.specs.{Lists}
 use Rattle.osc_store.proofs.FindLemmas.{surely}
 use Rattle.osc_store.proofs.StartLemmas.{from_file}
 use Rattle.osc_store.proofs.opening.look.Goals as goal

@@ -2,8 +2,7 @@ use Rattle.std.proofs.Common.{◌≡◌, ◌∙◌, ◌∷◌, [], ℕ, Bool, co
 use Rattle.sqlite_disk.specs.Events.{Event, replay, settled}
 use Rattle.sqlite_disk.specs.History.{MayLeave}
 use Rattle.sqlite_wal.specs.Recovery.{Image}
-use Rattle.osc_store.specs.Starting.{FindsTree, IsStore, IsUnmade}
-use Rattle.osc_store.specs.Opening.{Fault, IsFullLeft, IsOtherVersion, WhyNotOpened}
+use Rattle.osc_store.specs.{FindsTree, IsStore, IsUnmade, Fault, IsFullLeft, IsOtherVersion, WhyNotOpened}
 use Rattle.osc_store.proofs.path.open.Goals as goal
 
 abbrev image : List ℕ → List ℕ → Image

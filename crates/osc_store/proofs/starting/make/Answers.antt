@@ -1,6 +1,5 @@
 use Rattle.std.proofs.Common.{arith, sym, subst}
-use Rattle.osc_store.specs.Starting.{FindsTree, IsUnmade}
-use Rattle.osc_store.specs.Opening.{IsOver}
+use Rattle.osc_store.specs.{FindsTree, IsUnmade, IsOver}
 use Rattle.osc_store.proofs.FindLemmas.{fails_wider, more_faults, surely}
 use Rattle.osc_store.proofs.FileLemmas.{clean_there, faults_same, image_same, leaves_here}
 use Rattle.osc_store.proofs.starting.make.Goals as goal

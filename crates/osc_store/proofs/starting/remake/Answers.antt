@@ -2,8 +2,7 @@ use Rattle.std.proofs.Common.{arith, inl, inr, sym, subst}
 use Rattle.std.proofs.Math.Logic.{∥∥₁_map}
 use Rattle.std.proofs.lemmas.Bool.{iff_false}
 use Rattle.sqlite_pool.specs.Opening.{IsBlankFile}
-use Rattle.osc_store.specs.Starting.{FindsTree, IsEmpty, IsUnmade, page}
-use Rattle.osc_store.specs.Opening.{IsOver, IsTooLong, image_of}
+use Rattle.osc_store.specs.{FindsTree, IsEmpty, IsUnmade, page, IsOver, IsTooLong, image_of}
 use Rattle.osc_store.proofs.FindLemmas.{empty_is_something, fails_wider, more_faults, same_image, surely}
 use Rattle.osc_store.proofs.FileLemmas.{both_read, leaves_read}
 use Rattle.osc_store.proofs.starting.remake.Goals as goal

@@ -1,8 +1,7 @@
 use Rattle.std.proofs.Common.{arith, inl, sym, subst}
 use Rattle.sqlite_pool.specs.Stored.{used_size}
 use Rattle.sqlite_wal.specs.PageSize.{bytes_of}
-use Rattle.osc_store.specs.Starting.{FindsTree, IsStore, IsUnmade}
-use Rattle.osc_store.specs.Opening.{Fits, IsOtherVersion, IsOver, image_of}
+use Rattle.osc_store.specs.{FindsTree, IsStore, IsUnmade, Fits, IsOtherVersion, IsOver, image_of}
 use Rattle.osc_store.proofs.FindLemmas.{fails_wider, more_faults, same_image, surely}
 use Rattle.osc_store.proofs.FileLemmas.{both_read, leaves_read, only_read_then}
 use Rattle.osc_store.proofs.starting.store_over.Goals as goal

@@ -11,8 +11,7 @@ use Rattle.sqlite_store.specs.FileStore.{state}
 use Rattle.sqlite_store.specs.Listing.{IsOurs}
 use Rattle.sqlite_store.specs.Opening.{IsEmptyFile}
 use Rattle.sqlite_store.specs.Unopened.{image, state_of, wanted_by}
-use Rattle.osc_store.specs.Starting.{FindsTree, IsEmpty, IsStore, IsUnmade, page, schema}
-use Rattle.osc_store.specs.Opening.{Fits, IsOver, IsOtherVersion, Lists, image_of}
+use Rattle.osc_store.specs.{FindsTree, IsEmpty, IsStore, IsUnmade, page, schema, Fits, IsOver, IsOtherVersion, Lists, image_of}
 use Rattle.osc_store.proofs.FindLemmas.{fails_wider, more_faults, stored_used, surely_some}
 use Rattle.osc_store.proofs.FileLemmas.{clean_here, clean_there, faults_same, image_same, leaves_here, leaves_there}
 use Rattle.osc_store.proofs.StartLemmas.{opens_goes_on, read_is_made}

@@ -1,6 +1,6 @@
 use Rattle.std.proofs.Common.{sym, subst}
-use Rattle.osc_context.specs.Derivation.{Recipient}
-use Rattle.osc_window.specs.Window.{IsFresh}
+use Rattle.osc_context.specs.{Recipient}
+use Rattle.osc_window.specs.{IsFresh}
 use Rattle.osc_tests_rights.proofs.authz.accepted.Goals as goal
 
 pub accept-number-requires-clause-fresh : goal.accept-number-requires-clause-fresh

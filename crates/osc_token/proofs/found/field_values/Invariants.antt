@@ -1,7 +1,6 @@
 use Rattle.std.proofs.Common.{◌≡◌, length}
 use Rattle.std.specs.Option.{option_or}
-use Rattle.osc_cbor.specs.Data.{value_under}
-use Rattle.osc_cbor.specs.View.{pairs_of}
+use Rattle.osc_cbor.specs.{value_under, pairs_of}
 use Rattle.osc_token.proofs.found.field_values.Given as goal
 
 -- with the pairs that are left, the values are those of all

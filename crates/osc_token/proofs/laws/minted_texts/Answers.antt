@@ -1,6 +1,6 @@
 use Rattle.std.proofs.Common.{[], refl}
-use Rattle.osc_cbor.specs.Spelling.{spelling}
-use Rattle.osc_token.specs.Token.{claims_item}
+use Rattle.osc_cbor.specs.{spelling}
+use Rattle.osc_token.specs.{claims_item}
 use Rattle.osc_token.proofs.MintedTexts.{alone}
 use Rattle.osc_token.proofs.SpelledClaims.{claims_spelled}
 use Rattle.osc_token.proofs.laws.minted_texts.Goals as goal

@@ -1,7 +1,6 @@
 use Rattle.std.proofs.Common.{subst}
-use Rattle.osc_cbor.specs.Spelling.{spelling}
-use Rattle.osc_token.specs.Claims.{ComesTo}
-use Rattle.osc_token.specs.Token.{algorithm_header, claims_item}
+use Rattle.osc_cbor.specs.{spelling}
+use Rattle.osc_token.specs.{ComesTo, algorithm_header, claims_item}
 use Rattle.osc_token.proofs.laws.what_was_minted.Goals as goal
 
 pub returns : goal.returns

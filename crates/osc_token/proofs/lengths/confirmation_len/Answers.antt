@@ -1,4 +1,4 @@
-use Rattle.osc_token.specs.Token.{material_item}
+use Rattle.osc_token.specs.{material_item}
 use Rattle.osc_token.proofs.LengthLemmas.{confirmation_counted}
 use Rattle.osc_token.proofs.lengths.confirmation_len.Goals as goal
 

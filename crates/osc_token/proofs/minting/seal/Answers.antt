@@ -1,5 +1,5 @@
 use Rattle.std.proofs.Common.{◌<◌, length, arith, rules}
-use Rattle.osc_token.specs.Minted.{most_claims}
+use Rattle.osc_token.specs.{most_claims}
 use Rattle.osc_token.proofs.MintingLemmas.{text_too_long}
 use Rattle.osc_token.proofs.minting.seal.Goals as goal
 

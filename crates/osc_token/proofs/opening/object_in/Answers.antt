@@ -1,7 +1,7 @@
 use Rattle.std.proofs.Common.{ap, ◌∙◌, sym, subst}
-use Rattle.osc_cose.specs.Encrypt0.{IsObject}
+use Rattle.osc_cose.specs.{IsObject}
 use Rattle.osc_cose.specs.declared.error.ParseError.TheVariants.{Memory}
-use Rattle.osc_token.specs.Token.{without_cwt_tag}
+use Rattle.osc_token.specs.{without_cwt_tag}
 use Rattle.osc_token.proofs.OpeningLemmas.{only_of}
 use Rattle.osc_token.proofs.opening.object_in.Goals as goal
 

@@ -1,5 +1,5 @@
 use Rattle.std.proofs.Common.{◌≡◌, [], sym, subst, ◌∙◌}
-use Rattle.osc_cose.specs.Encrypt0.{enc_structure}
+use Rattle.osc_cose.specs.{enc_structure}
 use Rattle.osc_token.proofs.OpeningLemmas.{not_both, some_bytes}
 use Rattle.osc_token.proofs.opening.open_object.Goals as goal
 

@@ -1,6 +1,6 @@
 use Rattle.std.proofs.Common.{◌≡◌, Some, IfOk, sym, subst}
 use Rattle.osc_token.specs.Inner.Opening.{HoldsText}
-use Rattle.osc_token.specs.Token.{token_note}
+use Rattle.osc_token.specs.{token_note}
 use Rattle.osc_token.proofs.OpeningLemmas.{weaker, same_some, not_both, token_of, object_of, holds_text}
 use Rattle.osc_token.proofs.opening.open_token.Goals as goal
 

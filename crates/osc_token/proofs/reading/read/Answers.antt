@@ -1,5 +1,5 @@
 use Rattle.std.proofs.Common.{IfOk, ◌∙◌, ap, subst}
-use Rattle.osc_token.specs.Claims.{ComesTo}
+use Rattle.osc_token.specs.{ComesTo}
 use Rattle.osc_token.proofs.OpeningLemmas.{same_some, not_both}
 use Rattle.osc_token.proofs.reading.read.Goals as goal
 

@@ -1,5 +1,5 @@
 use Rattle.std.proofs.Common.{ap, take, ◌∙◌}
-use Rattle.osc_model.specs.Reply.{etag_of}
+use Rattle.osc_model.specs.{etag_of}
 use Rattle.osc_tree.proofs.tags.etag.Goals as goal
 
 pub returns : goal.returns

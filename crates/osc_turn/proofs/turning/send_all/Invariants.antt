@@ -1,6 +1,6 @@
 -- The datagrams so far were sent, and a fault is told where one of the sends failed.
 use Rattle.std.proofs.Common.{◌≡◌, take}
-use Rattle.osc_turn.specs.Ports.{CountsFault, grown}
+use Rattle.osc_turn.specs.{CountsFault, grown}
 use Rattle.osc_turn.proofs.turning.send_all.Given as goal
 
 abbrev pub invariant-loop-datagram : goal.invariant-loop-datagram

@@ -1,4 +1,4 @@
-use Rattle.osc_window.specs.Window.{window_of}
+use Rattle.osc_window.specs.{window_of}
 use Rattle.osc_window.proofs.Windows.{history_window, window_fresh}
 use Rattle.osc_window.proofs.laws.one_window.Goals as goal
 

@@ -1,4 +1,4 @@
-use Rattle.osc_window.specs.Window.{width}
+use Rattle.osc_window.specs.{width}
 use Rattle.osc_window.proofs.Bits.{all_gone}
 use Rattle.osc_window.proofs.window.moved_up.Goals as goal
 

@@ -1,9 +1,8 @@
 use Rattle.std.proofs.Common.{◌≡◌, ◌∙◌, ap, ap₂, sym, codes, get_or}
 use Rattle.std.proofs.lemmas.List.Sums.{fold_more}
 use Rattle.clap.specs.Words.{App, new_app, with_rule}
-use Rattle.osc_words.specs.Command.{client_options}
+use Rattle.osc_words.specs.{client_options, value_rule}
 use Rattle.osc_words.specs.ClientOptions.{name_of, option_rule}
-use Rattle.osc_words.specs.Options.{value_rule}
 use Rattle.osc_words.specs.declared.client_option.ClientOption.{ClientOption}
 use Rattle.osc_words.specs.declared.client_option.ClientOption.TheVariants.{Turns}
 use Rattle.osc_words.proofs.command.client_options.Goals as goal

@@ -1,7 +1,7 @@
 use Rattle.std.proofs.Common.{◌∙◌, ap, codes}
 use Rattle.std.proofs.lemmas.Result.{IfOk-weaker}
 use Rattle.clap.specs.Words.{App, with_subcommand}
-use Rattle.osc_words.specs.Command.{client_app, lab_app, node_app}
+use Rattle.osc_words.specs.{client_app, lab_app, node_app}
 use Rattle.osc_words.proofs.command.program.Goals as goal
 
 with_nodes : App → App

@@ -2,7 +2,7 @@ use Rattle.std.proofs.Common.{◌≡◌, ◌∙◌, ap, subst, refl, map, true}
 use Rattle.std.proofs.lemmas.Result.{IfOk-weaker}
 use Rattle.clap.specs.Words.{FailsBy, app_of, fault_of, is_simple, is_simple_and_free, subcommand_of}
 use Rattle.clap.proofs.OnLiterals.{clap_on_literals}
-use Rattle.osc_words.specs.Command.{program}
+use Rattle.osc_words.specs.{program}
 use Rattle.osc_words.proofs.command.read_matches.Goals as goal
 
 simple_program : is_simple program ≡ true

@@ -1,6 +1,6 @@
 use Rattle.std.proofs.Common.{map, subst, sym}
 use Rattle.clap.specs.Words.{subcommand_rows_of}
-use Rattle.osc_words.specs.Command.{AreWords}
+use Rattle.osc_words.specs.{AreWords}
 use Rattle.osc_words.specs.Inner.Reading.{IsKnown}
 use Rattle.osc_words.proofs.Entered.{words_known}
 use Rattle.osc_words.proofs.Stand.{asked_by_methods, stand_for_nothing}

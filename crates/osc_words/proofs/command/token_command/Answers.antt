@@ -1,8 +1,7 @@
 use Rattle.std.proofs.Common.{◌≡◌, ◌∙◌, ap, ap₂, sym, codes, get_or}
 use Rattle.std.proofs.lemmas.List.Sums.{fold_more}
 use Rattle.clap.specs.Words.{App, new_app, with_rule}
-use Rattle.osc_words.specs.Command.{token_options}
-use Rattle.osc_words.specs.Options.{name_of, option_rule, value_rule}
+use Rattle.osc_words.specs.{token_options, name_of, option_rule, value_rule}
 use Rattle.osc_words.specs.declared.token_option.TokenOption.{TokenOption}
 use Rattle.osc_words.specs.declared.token_option.TokenOption.TheVariants.{Key}
 use Rattle.osc_words.proofs.command.token_command.Goals as goal

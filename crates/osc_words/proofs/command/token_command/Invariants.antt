@@ -2,7 +2,7 @@ use Rattle.std.proofs.Common.{◌≡◌, false, take, codes}
 use Rattle.std.specs.Prelude.{fold}
 use Rattle.clap.specs.Words.{app_of, new_app, with_rule}
 use Rattle.clap.specs.declared.builder.command.Command.TheViews.{out-Command}
-use Rattle.osc_words.specs.Options.{option_rule}
+use Rattle.osc_words.specs.{option_rule}
 use Rattle.osc_words.proofs.command.token_command.Given as goal
 
 -- the options so far are in the command

@@ -1,6 +1,6 @@
 use Rattle.std.proofs.lemmas.Result.{err_from_is_err_and}
 use Rattle.clap.specs.Words.{found_of, rows_of}
-use Rattle.osc_words.specs.NamedOptions.{value_of}
+use Rattle.osc_words.specs.{value_of}
 use Rattle.osc_words.proofs.ClientParts.{turns_refused}
 use Rattle.osc_words.proofs.given.turns.Goals as goal
 

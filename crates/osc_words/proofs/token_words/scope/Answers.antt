@@ -1,6 +1,6 @@
 use Rattle.std.proofs.Common.{Some, List, ℕ, Option, refl, subst, sym}
-use Rattle.osc_script.specs.Values.{SpellsScope}
-use Rattle.osc_words.specs.Values.{IsGiven}
+use Rattle.osc_script.specs.{SpellsScope}
+use Rattle.osc_words.specs.{IsGiven}
 use Rattle.osc_words.proofs.token_words.scope.Goals as goal
 
 pub returns-in_default : goal.returns-in_default

@@ -1,9 +1,9 @@
 use Rattle.std.proofs.Common.{◌++◌, ◌+◌, List, map, drop, Bor, ap, sym, ◌∙◌}
 use Rattle.osc_model.specs.Grant.{Grant}
-use Rattle.osc_model.specs.Isolation.{entries_under, held_by, machine_answers}
+use Rattle.osc_model.specs.{entries_under, held_by, machine_answers}
 use Rattle.osc_model.specs.declared.step.Entry.{Entry}
-use Rattle.osc_run.specs.States.{grants_of}
-use Rattle.osc_options.specs.Texts.{read_request}
+use Rattle.osc_run.specs.{grants_of}
+use Rattle.osc_options.specs.{read_request}
 use Rattle.osc_world.proofs.Rest.{next_of_rest}
 use Rattle.osc_world.proofs.isolation.alone.Goals as goal
 

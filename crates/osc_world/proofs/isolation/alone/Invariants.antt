@@ -1,7 +1,7 @@
 use Rattle.std.proofs.Common.{◌≡◌, ◌++◌, map, drop}
-use Rattle.osc_model.specs.Isolation.{entries_under, held_by, machine_answers}
-use Rattle.osc_run.specs.States.{grants_of}
-use Rattle.osc_options.specs.Texts.{read_request}
+use Rattle.osc_model.specs.{entries_under, held_by, machine_answers}
+use Rattle.osc_run.specs.{grants_of}
+use Rattle.osc_options.specs.{read_request}
 use Rattle.osc_world.proofs.isolation.alone.Given as goal
 
 -- what was answered so far, and what is answered to the rest

@@ -1,7 +1,6 @@
 use Rattle.std.proofs.Common.{◌≡◌, drop}
-use Rattle.osc_model.specs.Grant.{grant_of}
-use Rattle.osc_model.specs.Isolation.{held_by}
-use Rattle.osc_run.specs.States.{grants_of}
+use Rattle.osc_model.specs.{grant_of, held_by}
+use Rattle.osc_run.specs.{grants_of}
 use Rattle.osc_world.proofs.isolation.grant_of.Given as goal
 
 -- it is not among those so far

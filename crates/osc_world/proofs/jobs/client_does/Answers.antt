@@ -1,9 +1,9 @@
 use Rattle.std.proofs.Common.{IfOk, subst, sym}
 use Rattle.std.proofs.lemmas.Result.{IfOk-weaker}
-use Rattle.osc_client.specs.State.{core}
-use Rattle.osc_run.specs.ClientKinds.{ClientStep}
+use Rattle.osc_client.specs.{core}
+use Rattle.osc_run.specs.{ClientStep}
 use Rattle.osc_world.specs.Inner.Tasks.{client_task_of}
-use Rattle.osc_world.specs.Steps.{is_lie}
+use Rattle.osc_world.specs.{is_lie}
 use Rattle.osc_world.specs.declared.jobs.ClientJob.{ClientJob}
 use Rattle.osc_world.proofs.Taking.{client_kind}
 use Rattle.osc_world.proofs.jobs.client_does.Goals as goal

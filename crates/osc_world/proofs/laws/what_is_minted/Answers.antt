@@ -1,10 +1,8 @@
 use Rattle.std.proofs.Common.{sym, ap, subst, List}
-use Rattle.osc_cbor.specs.Spelling.{spelling}
-use Rattle.osc_token.specs.Token.{claims_item}
-use Rattle.osc_run.specs.Premise.{IsMinted}
-use Rattle.osc_run.specs.States.{Minted}
-use Rattle.osc_world.specs.Starts.{Beginning}
-use Rattle.osc_world.specs.Worlds.{State}
+use Rattle.osc_cbor.specs.{spelling}
+use Rattle.osc_token.specs.{claims_item}
+use Rattle.osc_run.specs.{IsMinted, Minted}
+use Rattle.osc_world.specs.{Beginning, State}
 use Rattle.osc_world.proofs.Minting.{last_is_minted, more_is_minted}
 use Rattle.osc_world.proofs.laws.what_is_minted.Goals as goal
 

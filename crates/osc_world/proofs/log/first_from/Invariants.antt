@@ -1,5 +1,5 @@
 use Rattle.std.proofs.Common.{◌≤◌}
-use Rattle.osc_world.specs.Log.{first_waiting}
+use Rattle.osc_world.specs.{first_waiting}
 use Rattle.osc_world.proofs.log.first_from.Given as goal
 
 abbrev pub invariant-loop-next : goal.invariant-loop-next

@@ -1,5 +1,5 @@
 use Rattle.std.proofs.Common.{◌≡◌, ◌++◌, map, ap, sym, ◌∙◌, length, [], append-nil, refl, arith, rules}
-use Rattle.osc_world.specs.Log.{sent_from}
+use Rattle.osc_world.specs.{sent_from}
 use Rattle.osc_world.proofs.Sending.{no_items, sent_more}
 use Rattle.osc_world.proofs.log.send.Goals as goal
 

@@ -1,6 +1,6 @@
 use Rattle.std.proofs.Common.{◌≡◌, ◌++◌, ◌-◌, ◌≤◌, length, map}
 use Rattle.std.specs.Prelude.{vec_len, vec_capacity}
-use Rattle.osc_world.specs.Log.{sent_from}
+use Rattle.osc_world.specs.{sent_from}
 use Rattle.osc_world.proofs.log.send.Given as goal
 
 abbrev pub invariant-loop-to : goal.invariant-loop-to

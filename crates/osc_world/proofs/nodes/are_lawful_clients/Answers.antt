@@ -1,5 +1,5 @@
 use Rattle.std.proofs.Common.{arith}
-use Rattle.osc_client.specs.Lawful.{IsLawfulClient}
+use Rattle.osc_client.specs.{IsLawfulClient}
 use Rattle.osc_client.specs.State.{State as Client}
 use Rattle.osc_world.specs.declared.nodes.Placed.{Placed}
 use Rattle.osc_world.proofs.Looking.{all_looked_at, one_further}

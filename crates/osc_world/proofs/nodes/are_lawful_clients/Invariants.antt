@@ -1,4 +1,4 @@
-use Rattle.osc_client.specs.Lawful.{IsLawfulClient}
+use Rattle.osc_client.specs.{IsLawfulClient}
 use Rattle.osc_client.specs.State.{State as Client}
 use Rattle.osc_world.specs.declared.nodes.Placed.{Placed}
 use Rattle.osc_world.proofs.Looking.{AllBelow}

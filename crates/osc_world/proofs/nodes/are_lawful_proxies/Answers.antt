@@ -1,5 +1,5 @@
 use Rattle.std.proofs.Common.{arith}
-use Rattle.osc_proxy.specs.ThereAndBack.{IsLawfulProxy}
+use Rattle.osc_proxy.specs.{IsLawfulProxy}
 use Rattle.osc_proxy.specs.State.{State as Proxy}
 use Rattle.osc_world.specs.declared.nodes.Placed.{Placed}
 use Rattle.osc_world.proofs.Looking.{all_looked_at, one_further}

@@ -1,4 +1,4 @@
-use Rattle.osc_proxy.specs.ThereAndBack.{IsLawfulProxy}
+use Rattle.osc_proxy.specs.{IsLawfulProxy}
 use Rattle.osc_proxy.specs.State.{State as Proxy}
 use Rattle.osc_world.specs.declared.nodes.Placed.{Placed}
 use Rattle.osc_world.proofs.Looking.{AllBelow}

@@ -1,7 +1,7 @@
 use Rattle.std.proofs.Common.{refl, ap, sym, ◌∙◌, subst}
 use Rattle.osc_client.specs.State.{State as Client}
 use Rattle.osc_model.specs.Grant.{Grant}
-use Rattle.osc_run.specs.Runs.{IsTextOf}
+use Rattle.osc_run.specs.{IsTextOf}
 use Rattle.osc_world.proofs.start.enrolled.Goals as goal
 
 pub returns-clause-text : goal.returns-clause-text

@@ -2,7 +2,7 @@ use Rattle.std.proofs.Common.{◌≡◌, List, ◌++◌, length, sym, subst, tak
 use Rattle.std.proofs.lemmas.List.{take_at}
 use Rattle.osc_authz.specs.declared.token_entry.TokenEntry.{TokenEntry}
 use Rattle.osc_authz.specs.Inner.Places.{IsIndex}
-use Rattle.osc_authz.specs.Table.{IsTable, accepted, with_id}
+use Rattle.osc_authz.specs.{IsTable, accepted, with_id}
 use Rattle.osc_authz.proofs.Lookups.{found_again}
 use Rattle.osc_authz.proofs.TableLaws.{accepted_is_table}
 use Rattle.osc_authz.proofs.desk.ServerDesk.accept.Goals as goal

@@ -1,5 +1,5 @@
 use Rattle.std.proofs.Common.{ap, subst, ◌∙◌}
-use Rattle.osc_authz.specs.Table.{IsTable}
+use Rattle.osc_authz.specs.{IsTable}
 use Rattle.osc_authz.proofs.AgreementLemmas.{agreed_is_table}
 use Rattle.osc_authz.proofs.desk.ServerDesk.agree.Goals.{After-deref-2}
 use Rattle.osc_authz.proofs.desk.ServerDesk.agree.Goals as goal

@@ -1,6 +1,5 @@
 use Rattle.std.proofs.Common.{rules, refl}
-use Rattle.osc_authz.specs.Agreement.{Answers}
-use Rattle.osc_authz.specs.Table.{IsFull, alive}
+use Rattle.osc_authz.specs.{Answers, IsFull, alive}
 use Rattle.osc_authz.proofs.desk.ServerDesk.agree_unless_full.Goals as goal
 
 pub returns-then-is_full-clause-answers : goal.returns-then-is_full-clause-answers

@@ -1,6 +1,6 @@
 use Rattle.std.proofs.Common.{refl, subst}
-use Rattle.osc_token.specs.Claims.{ComesTo}
-use Rattle.osc_authz.specs.Agreement.{Answers}
+use Rattle.osc_token.specs.{ComesTo}
+use Rattle.osc_authz.specs.{Answers}
 use Rattle.osc_authz.proofs.desk.ServerDesk.answer_to.Goals as goal
 
 pub returns-in-Ok-clause-answers : goal.returns-in-Ok-clause-answers

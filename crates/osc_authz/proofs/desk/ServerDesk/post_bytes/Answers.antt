@@ -1,6 +1,6 @@
 use Rattle.std.proofs.Common.{refl}
-use Rattle.osc_cbor.specs.Data.{map}
-use Rattle.osc_authz.specs.Post.{Posts}
+use Rattle.osc_cbor.specs.{map}
+use Rattle.osc_authz.specs.{Posts}
 use Rattle.osc_authz.proofs.desk.ServerDesk.post_bytes.Goals as goal
 
 pub returns-in-None-clause-posted : goal.returns-in-None-clause-posted

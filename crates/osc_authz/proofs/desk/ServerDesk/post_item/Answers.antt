@@ -1,5 +1,5 @@
 use Rattle.std.proofs.Common.{refl, sym, ap}
-use Rattle.osc_authz.specs.Post.{Posts}
+use Rattle.osc_authz.specs.{Posts}
 use Rattle.osc_authz.proofs.PayloadLemmas.{no_post, post_from_fields}
 use Rattle.osc_authz.proofs.PostLemmas.{opened_post, unopened_post}
 use Rattle.osc_authz.proofs.desk.ServerDesk.post_item.Goals as goal

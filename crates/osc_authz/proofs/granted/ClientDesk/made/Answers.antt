@@ -1,7 +1,6 @@
 use Rattle.std.proofs.Common.{◌≡◌, ◌≢◌, [], ◌∷◌, Ok, refl, sym, ap, subst, ◌∙◌}
 use Rattle.std.specs.Cmp.Lexicographic.{same_text, other_text}
-use Rattle.osc_authz.specs.Client.{Finishes}
-use Rattle.osc_authz.specs.Exchange.{IsAnswer}
+use Rattle.osc_authz.specs.{Finishes, IsAnswer}
 use Rattle.osc_authz.proofs.PayloadLemmas.{answer_from_fields, no_answer}
 use Rattle.osc_authz.proofs.granted.ClientDesk.made.Goals as goal
 

@@ -1,6 +1,6 @@
 use Rattle.std.proofs.Common.{refl}
-use Rattle.osc_cbor.specs.Data.{map}
-use Rattle.osc_authz.specs.Client.{Finishes}
+use Rattle.osc_cbor.specs.{map}
+use Rattle.osc_authz.specs.{Finishes}
 use Rattle.osc_authz.proofs.FinishLemmas.{code_is}
 use Rattle.osc_authz.proofs.granted.ClientDesk.outcome_of.Goals as goal
 

@@ -20,7 +20,7 @@ use denote.Triple.Walked.{Stays, stay_dropped, walk_of}
 use Rattle.std.proofs.alloc.Calls.{Goes-blank}
 use Rattle.std.proofs.raw_atomic.Walks.{proved_at, leaves}
 use Rattle.osc_c.proofs.LooseValues.{both}
-use Rattle.osc_c.specs.Nodes.{DeviceType as R}
+use Rattle.osc_c.specs.{DeviceType as R}
 use Rattle.osc_c.proofs.HandleValues.{ptr_good, handle_good, handle_out, handle_in}
 use Rattle.osc_c.specs.contracts.handle.Handle as handle
 use Rattle.osc_c.specs.contracts.handles.DeviceHandle as of_c

@@ -1,6 +1,5 @@
 use Rattle.std.proofs.Common.{sym, ap, ◌∙◌}
-use Rattle.osc_cbor.specs.Same.{same}
-use Rattle.osc_cbor.specs.View.{view}
+use Rattle.osc_cbor.specs.{same, view}
 use Rattle.osc_cbor.proofs.KeyLaws.{same_means, same_itself}
 use Rattle.osc_cbor.proofs.item.Item.is.Goals as goal
 

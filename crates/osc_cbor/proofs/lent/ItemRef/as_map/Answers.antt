@@ -1,5 +1,5 @@
 use Rattle.std.proofs.Common.{ap, ◌∙◌}
-use Rattle.osc_cbor.specs.Lent.{item_in}
+use Rattle.osc_cbor.specs.{item_in}
 use Rattle.osc_cbor.specs.Parts as part
 use Rattle.osc_cbor.proofs.LentLaws.{pairs_if, map_is}
 use Rattle.osc_cbor.proofs.lent.ItemRef.as_map.Goals as goal

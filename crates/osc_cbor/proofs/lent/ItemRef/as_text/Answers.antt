@@ -1,5 +1,5 @@
 use Rattle.std.proofs.Common.{◌∙◌}
-use Rattle.osc_cbor.specs.Lent.{item_in}
+use Rattle.osc_cbor.specs.{item_in}
 use Rattle.osc_cbor.proofs.LentLaws.{text_is}
 use Rattle.osc_cbor.proofs.lent.ItemRef.as_text.Goals as goal
 

@@ -1,5 +1,5 @@
 use Rattle.std.proofs.Common.{◌∙◌, arith}
-use Rattle.osc_cbor.specs.Data.{array, item, no_items}
+use Rattle.osc_cbor.specs.{array, item, no_items}
 use Rattle.osc_cbor.proofs.LentLaws.{items_stand, items_left, items_first}
 use Rattle.osc_cbor.proofs.lent_lists.ItemRefs.next_two.Goals as goal
 

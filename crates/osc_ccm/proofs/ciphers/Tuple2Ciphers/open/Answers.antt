@@ -1,7 +1,6 @@
 use Rattle.std.proofs.Common.{sym, subst, ◌≡◌, ◌↔◌, ℕ, ◌-◌, ◌≤◌, List, length, Err, Result}
-use Rattle.osc_ccm.specs.Limits.{IsInRange}
+use Rattle.osc_ccm.specs.{IsInRange, Sealing, chosen_tag, chosen_sealing}
 use Rattle.osc_ccm.specs.declared.error.OpenError.{OpenError}
-use Rattle.osc_ccm.specs.Ciphers.{Sealing, chosen_tag, chosen_sealing}
 use Rattle.osc_model.specs.declared.algorithm.Algorithm.{Algorithm}
 use Rattle.osc_ccm.proofs.ciphers.Tuple2Ciphers.open.Goals as goal
 

@@ -1,19 +1,19 @@
 use Rattle.std.proofs.Common.{rules, ◌≡◌, false, Some, refl, ap, ap₂, sym, ◌∙◌, ◌+◌, [], ◌∷◌, List, subst}
 use Rattle.osc_coap.specs.Message.{Message}
-use Rattle.osc_message.specs.Sending.{datagram}
+use Rattle.osc_message.specs.{datagram}
 use Rattle.osc_client.specs.declared.waiting.OpenAsk.{OpenAsk}
 use Rattle.osc_client.specs.declared.waiting.Awaited.TheVariants.{Ask}
-use Rattle.osc_authz.specs.Begun.{ClientContextState}
+use Rattle.osc_authz.specs.{ClientContextState}
 use Rattle.std.proofs.lemmas.Option.{same_Some}
-use Rattle.osc_client.specs.State.{State, core}
-use Rattle.osc_client.specs.Sending.{IsHindered, hindered, asks, opened, plain_of}
-use Rattle.osc_model.specs.StepNotes.{StepNotes, quiet}
+use Rattle.osc_client.specs.{core, IsHindered, hindered, asks, opened, plain_of}
+use Rattle.osc_client.specs.State.{State}
+use Rattle.osc_model.specs.{quiet}
+use Rattle.osc_model.specs.StepNotes.{StepNotes}
 use Rattle.osc_model.specs.declared.step.Datagram.{Datagram}
 use Rattle.osc_model.specs.declared.step.Note.{Note}
-use Rattle.osc_protect.specs.Protection.{IsProtectedRequest, plain_bytes}
-use Rattle.osc_options.specs.PlaintextRequests.{request_plaintext}
-use Rattle.osc_options.specs.Split.{unprotected}
-use Rattle.osc_run.specs.ClientKinds.{request_note}
+use Rattle.osc_protect.specs.{IsProtectedRequest, plain_bytes}
+use Rattle.osc_options.specs.{request_plaintext, unprotected}
+use Rattle.osc_run.specs.{request_note}
 use Rattle.osc_client.proofs.Fitting.{refusal_fits}
 use Rattle.osc_client.proofs.StepKinds.{refusals}
 use Rattle.osc_client.proofs.Telling.{ask_told}

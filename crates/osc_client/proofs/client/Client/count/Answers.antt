@@ -1,8 +1,7 @@
 use Rattle.std.proofs.Common.{rules, ◌≡◌, ◌∙◌, ap, refl, sym, true, Some}
 use Rattle.std.specs.Result.{IsErr}
-use Rattle.osc_client.specs.Answering.{is_read}
+use Rattle.osc_client.specs.{is_read, counts}
 use Rattle.osc_client.specs.Inner.Bounds.{KeepsOwn}
-use Rattle.osc_client.specs.Case.{counts}
 use Rattle.osc_client.proofs.Own.{counted_gone, has_after, own_none}
 use Rattle.osc_client.proofs.Outcomes.{grant_after}
 use Rattle.osc_client.proofs.client.Client.count.Goals as goal

@@ -1,15 +1,14 @@
 use Rattle.std.proofs.Common.{rules, ◌≡◌, false, List, [], ◌∷◌, Some, ap, ap₂, subst, sym, ◌∙◌}
-use Rattle.osc_model.specs.StepNotes.{StepNotes, quiet}
+use Rattle.osc_model.specs.{quiet}
+use Rattle.osc_model.specs.StepNotes.{StepNotes}
 use Rattle.osc_model.specs.declared.step.Datagram.{Datagram}
 use Rattle.osc_coap.specs.Message.{Message}
-use Rattle.osc_options.specs.Split.{has_oscore}
-use Rattle.osc_message.specs.Sending.{datagram}
-use Rattle.osc_client.specs.Sending.{Exchanges}
-use Rattle.osc_client.specs.Told.{SealsNothing}
+use Rattle.osc_options.specs.{has_oscore}
+use Rattle.osc_message.specs.{datagram}
+use Rattle.osc_client.specs.{Exchanges, SealsNothing, core}
 use Rattle.osc_client.proofs.Fitting.{refusal_fits}
 use Rattle.osc_client.proofs.Telling.{begins_silently, refused_silently}
 use Rattle.osc_client.proofs.Through.{post_unprotected}
-use Rattle.osc_client.specs.State.{core}
 use Rattle.osc_client.proofs.StepKinds.{refusals}
 use Rattle.osc_client.proofs.client.Client.exchange.Goals as goal
 

@@ -1,8 +1,8 @@
 use Rattle.std.proofs.Common.{rules, ◌≡◌, ◌∙◌, true, Some, None, ap, sym}
 use Rattle.std.proofs.lemmas.Result.{IfOk-weaker}
-use Rattle.osc_message.specs.Sending.{AreSendable}
-use Rattle.osc_client.specs.Lying.{Lie, Lies, no_context, outside_of}
-use Rattle.osc_client.specs.State.{State, core}
+use Rattle.osc_message.specs.{AreSendable}
+use Rattle.osc_client.specs.{Lie, Lies, no_context, outside_of, core}
+use Rattle.osc_client.specs.State.{State}
 use Rattle.osc_client.proofs.Fitting.{both_ok, refusal_fits}
 use Rattle.osc_client.proofs.StepKinds.{lied, refusals}
 use Rattle.osc_client.proofs.Telling.{lie_told}

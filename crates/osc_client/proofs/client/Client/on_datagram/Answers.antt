@@ -1,16 +1,15 @@
 use Rattle.std.proofs.Common.{◌≡◌, ◌∙◌, ap, ℕ, List, [], Result, Ok, Err, subst, sym}
 use Rattle.std.specs.Prelude.{OnErr}
 use Rattle.std.proofs.lemmas.Result.{IfOk-weaker}
-use Rattle.osc_coap.specs.Message.{Message, Spells}
+use Rattle.osc_coap.specs.{Spells}
+use Rattle.osc_coap.specs.Message.{Message}
 use Rattle.osc_client.specs.Inner.Bounds.{HasContext}
 use Rattle.osc_model.specs.Arrival.{Arrival}
-use Rattle.osc_message.specs.Heard.{AnswersAlone, heard as heard_in}
-use Rattle.osc_message.specs.Received.{Receives}
-use Rattle.osc_message.specs.Sending.{AreSendable}
+use Rattle.osc_message.specs.{AnswersAlone, heard as heard_in, Receives, AreSendable}
 use Rattle.osc_message.specs.declared.heard.Heard.{Heard}
 use Rattle.osc_message.specs.declared.heard.Heard.TheVariants as heard
 use Rattle.osc_client.specs.State.{State}
-use Rattle.osc_client.specs.Table.{Answers, TakesMemory}
+use Rattle.osc_client.specs.{Answers, TakesMemory}
 use Rattle.osc_client.proofs.Fitting.{both_ok}
 use Rattle.osc_client.proofs.Sent.{one_is_sent}
 use Rattle.osc_client.proofs.StepKinds.{kind_of}

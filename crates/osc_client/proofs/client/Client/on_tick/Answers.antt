@@ -1,14 +1,11 @@
 use Rattle.std.proofs.Common.{rules, ◌≡◌, true, false, Some, ap, sym, subst}
-use Rattle.osc_message.specs.Sending.{AreSendable, GoesOut}
-use Rattle.osc_message.specs.Ticks.{tick_sends}
-use Rattle.osc_model.specs.Step.{sends}
-use Rattle.osc_model.specs.StepNotes.{quiet}
+use Rattle.osc_message.specs.{AreSendable, GoesOut, tick_sends}
+use Rattle.osc_model.specs.{sends, quiet}
 use Rattle.osc_model.specs.declared.step.ClientResult.TheVariants.{TimedOut}
 use Rattle.osc_model.specs.declared.step.Step.{Step}
-use Rattle.osc_client.specs.Told.{SealsNothing}
+use Rattle.osc_client.specs.{SealsNothing, is_over}
 use Rattle.osc_client.specs.Inner.Bounds.{KeepsOwn}
 use Rattle.osc_client.proofs.Telling.{ticks_silently, times_out_silently}
-use Rattle.osc_client.specs.Sending.{is_over}
 use Rattle.osc_client.proofs.Ticking.{own_after_tick, timed_out, went_on}
 use Rattle.osc_client.proofs.client.Client.on_tick.Goals as goal
 

@@ -1,7 +1,7 @@
 -- Each post fits, or each is too long.
 use Rattle.std.proofs.Common.{◌↔◌, subst}
 use Rattle.std.specs.Bool.{IsFalse, IsTrue}
-use Rattle.osc_client.specs.Sending.{PostFits, PostIsTooLong}
+use Rattle.osc_client.specs.{PostFits, PostIsTooLong}
 use Rattle.osc_client.specs.State.{State}
 use Rattle.osc_client.proofs.Posting.{both_ways}
 use Rattle.osc_client.proofs.client.Client.post_fits.Goals as goal

@@ -1,10 +1,10 @@
 use Rattle.std.proofs.Common.{rules, ◌≡◌, ℕ, ◌<◌, ◌≤◌, Some, None, refl, ap, ◌∙◌, false, true, arith, inl, inr}
 use Rattle.std.proofs.lemmas.Bool.{cases_lt}
 use Rattle.std.specs.Option.{IsSome}
-use Rattle.osc_context.specs.Nonce.{greatest_number}
-use Rattle.osc_message.specs.Endpoint.{own_id}
-use Rattle.osc_protect.specs.Protection.{longest_message, request_length}
-use Rattle.osc_client.specs.Sending.{exhausted, plain_of, too_long}
+use Rattle.osc_context.specs.{greatest_number}
+use Rattle.osc_message.specs.{own_id}
+use Rattle.osc_protect.specs.{longest_message, request_length}
+use Rattle.osc_client.specs.{exhausted, plain_of, too_long}
 use Rattle.osc_client.proofs.client.Client.prepared.Goals as goal
 
 pub returns-then-next_number-gt-NUMBER_LIMIT-clause-hindered : goal.returns-then-next_number-gt-NUMBER_LIMIT-clause-hindered

@@ -1,6 +1,6 @@
 use Rattle.std.proofs.Common.{◌≡◌, ◌∙◌, ap, sym, subst, not, true}
-use Rattle.osc_message.specs.Confirmables.{is_named}
-use Rattle.osc_client.specs.Case.{is_ended}
+use Rattle.osc_message.specs.{is_named}
+use Rattle.osc_client.specs.{is_ended}
 use Rattle.osc_client.specs.Inner.Bounds.{KeepsOwn}
 use Rattle.osc_client.proofs.Own.{ended_gone, own_filtered}
 use Rattle.osc_client.proofs.client.Client.settle_empty.Goals as goal

@@ -1,7 +1,5 @@
 use Rattle.std.proofs.Common.{◌≡◌, ℕ, ◌+◌, ◌*◌, List, ◌++◌, length, refl, sym, ap, ◌∙◌, arith}
-use Rattle.osc_coap.specs.Kind.{kind_bits}
-use Rattle.osc_coap.specs.Message.{header, spelling}
-use Rattle.osc_coap.specs.Building.{bare}
+use Rattle.osc_coap.specs.{kind_bits, header, spelling, bare}
 use Rattle.osc_coap.proofs.BuildLaws.{kept, lawful_bare, header_built, spelling-bare, message_in-spelling}
 use Rattle.osc_coap.proofs.builder.MessageBuilder.start.Goals as goal
 

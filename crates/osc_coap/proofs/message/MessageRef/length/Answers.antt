@@ -1,6 +1,6 @@
 use Rattle.std.proofs.Common.{◌≡◌, ◌+◌, length, subst}
-use Rattle.osc_coap.specs.Message.{Message, spelling}
-use Rattle.osc_coap.specs.MessageRef.{view}
+use Rattle.osc_coap.specs.{spelling, view}
+use Rattle.osc_coap.specs.Message.{Message}
 use Rattle.osc_coap.proofs.LengthLaws.{length-of_parts}
 use Rattle.osc_coap.proofs.message.MessageRef.length.Goals as goal
 

@@ -1,5 +1,6 @@
 use Rattle.std.proofs.Common.{◌≡◌, ◌+◌, length, subst}
-use Rattle.osc_coap.specs.Plaintext.{Plaintext, plaintext_spelling}
+use Rattle.osc_coap.specs.{plaintext_spelling}
+use Rattle.osc_coap.specs.Plaintext.{Plaintext}
 use Rattle.osc_coap.specs.PlaintextRef.{view}
 use Rattle.osc_coap.proofs.PlaintextLaws.{length-of_parts}
 use Rattle.osc_coap.proofs.plaintext.PlaintextRef.length.Goals as goal

@@ -1,5 +1,5 @@
 use Rattle.std.proofs.Common.{ap, ◌∙◌, arith}
-use Rattle.osc_coap.specs.Reading.{plaintext_at}
+use Rattle.osc_coap.specs.{plaintext_at}
 use Rattle.osc_coap.proofs.PlaintextLaws.{is_found, plaintext_again}
 use Rattle.osc_coap.proofs.plaintext.PlaintextRef.parse.Goals as goal
 

@@ -1,6 +1,5 @@
 use Rattle.std.proofs.Common.{◌≤◌, None, drop, length, ap, sym, ◌∙◌, arith}
-use Rattle.osc_dedup.specs.Table.{alive}
-use Rattle.osc_dedup.specs.Keys.{stays}
+use Rattle.osc_dedup.specs.{alive, stays}
 use Rattle.osc_dedup.proofs.Keys.{few_left, alive_keys}
 use Rattle.osc_dedup.proofs.Places.{moved_behind, all_alive}
 use Rattle.osc_dedup.proofs.table.Duplicates.expire.Goals as goal

@@ -2,8 +2,7 @@ use Rattle.std.proofs.Common.{ap, sym, ◌∙◌}
 use Rattle.std.specs.Map.{lookup}
 use Rattle.std.specs.Option.{option_map}
 use Rattle.std.specs.List.{find}
-use Rattle.osc_dedup.specs.Table.{looked, is_of}
-use Rattle.osc_dedup.specs.Keys.{same_key, while_alive}
+use Rattle.osc_dedup.specs.{looked, is_of, same_key, while_alive}
 use Rattle.osc_dedup.proofs.Keys.{looked_keys}
 use Rattle.osc_dedup.proofs.Places.{alive_behind}
 use Rattle.osc_dedup.proofs.table.Duplicates.look.Goals as goal

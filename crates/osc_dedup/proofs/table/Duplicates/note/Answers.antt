@@ -1,8 +1,7 @@
 use Rattle.std.proofs.Common.{◌≡◌, ◌≤◌, ◌+◌, ◌++◌, ◌∷◌, [], drop, length, ap, ◌∙◌, arith, length-append}
 use Rattle.std.proofs.lemmas.List.{drop-append-le}
 use Rattle.osc_dedup.specs.declared.table.Noted.{Noted}
-use Rattle.osc_dedup.specs.Table.{with_note}
-use Rattle.osc_dedup.specs.Keys.{Key, entries_of, key_of, others}
+use Rattle.osc_dedup.specs.{with_note, Key, entries_of, key_of, others}
 use Rattle.osc_dedup.proofs.Keys.{noted_keys}
 use Rattle.osc_dedup.proofs.Places.{live_longer, live_with, gone_with}
 use Rattle.osc_dedup.proofs.table.Duplicates.note.Goals as goal

@@ -1,12 +1,11 @@
 use Rattle.std.proofs.Common.{false, ◌∙◌, ap, refl, sym, subst}
-use Rattle.osc_client.specs.Hearing.{Requests}
-use Rattle.osc_client.specs.Sending.{Asked}
-use Rattle.osc_client.specs.State.{State as Client, core}
-use Rattle.osc_run.specs.ClientKinds.{ClientStep}
+use Rattle.osc_client.specs.{Requests, Asked, core}
+use Rattle.osc_client.specs.State.{State as Client}
+use Rattle.osc_run.specs.{ClientStep}
 use Rattle.osc_model.specs.declared.step.Step.{Step}
-use Rattle.osc_rounds.specs.AskRound.{IsLawfulServer}
+use Rattle.osc_rounds.specs.{IsLawfulServer}
 use Rattle.osc_server.specs.State.{State as Server}
-use Rattle.osc_device.specs.Carrying.{Carries}
+use Rattle.osc_device.specs.{Carries}
 use Rattle.osc_device.proofs.Carried.{asked_straight}
 use Rattle.osc_device.proofs.Going.{device}
 use Rattle.osc_device.proofs.device.Device.ask.Goals as goal

@@ -1,9 +1,8 @@
 use Rattle.std.proofs.Common.{rules, arith, sym, subst}
 use Rattle.osc_model.specs.declared.algorithm.Algorithm.TheVariants.{EightByteTag}
-use Rattle.osc_world.specs.Refusals.{IsLawful, Refuses}
-use Rattle.osc_world.specs.Starts.{Beginning}
+use Rattle.osc_world.specs.{IsLawful, Refuses, Beginning}
 use Rattle.osc_world.specs.declared.start.Holder.{Holder}
-use Rattle.osc_device.specs.Begun.{own_holder}
+use Rattle.osc_device.specs.{own_holder}
 use Rattle.osc_device.proofs.FirstOf.{enrolled, granted, is_begun, lawful_parts, one_client, straight, too_long}
 use Rattle.osc_device.proofs.device.Device.new.Goals as goal
 

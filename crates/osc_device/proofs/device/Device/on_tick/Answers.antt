@@ -1,12 +1,12 @@
 use Rattle.std.proofs.Common.{◌∙◌, ap, refl, sym, subst}
 use Rattle.osc_client.specs.State.{State as Client}
-use Rattle.osc_client.specs.Steps.{IsStep}
-use Rattle.osc_message.specs.Endpoint.{after_tick}
+use Rattle.osc_client.specs.{IsStep}
+use Rattle.osc_message.specs.{after_tick}
 use Rattle.osc_model.specs.declared.node.Draw.{Draw}
 use Rattle.osc_model.specs.declared.step.Step.{Step}
-use Rattle.osc_run.specs.Nodes.{Due}
+use Rattle.osc_run.specs.{Due}
 use Rattle.osc_server.specs.State.{State as Server}
-use Rattle.osc_device.specs.Carrying.{Carries}
+use Rattle.osc_device.specs.{Carries}
 use Rattle.osc_device.proofs.Carried.{ticked_straight}
 use Rattle.osc_device.proofs.Going.{device}
 use Rattle.osc_device.proofs.device.Device.on_tick.Goals as goal

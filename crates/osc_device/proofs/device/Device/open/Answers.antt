@@ -1,10 +1,10 @@
 use Rattle.std.proofs.Common.{◌≢◌, false, Some, ◌∙◌, ap, refl, sym, subst}
-use Rattle.osc_client.specs.Hearing.{Begins}
-use Rattle.osc_client.specs.State.{State as Client, core}
-use Rattle.osc_run.specs.ClientKinds.{ClientStep}
+use Rattle.osc_client.specs.{Begins, core}
+use Rattle.osc_client.specs.State.{State as Client}
+use Rattle.osc_run.specs.{ClientStep}
 use Rattle.osc_model.specs.declared.step.Step.{Step}
 use Rattle.osc_server.specs.State.{State as Server}
-use Rattle.osc_device.specs.Carrying.{Carries}
+use Rattle.osc_device.specs.{Carries}
 use Rattle.osc_model.specs.declared.step.ClientResult.TheVariants.{Refused}
 use Rattle.osc_device.proofs.Granted.{never_too_long}
 use Rattle.osc_device.proofs.Carried.{begun_straight}

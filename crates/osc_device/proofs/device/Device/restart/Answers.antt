@@ -1,5 +1,5 @@
 use Rattle.std.proofs.Common.{subst}
-use Rattle.osc_device.specs.Runs.{AllGoOn, restarts}
+use Rattle.osc_device.specs.{AllGoOn, restarts}
 use Rattle.osc_device.specs.State.{State}
 use Rattle.osc_device.proofs.Going.{device}
 use Rattle.osc_device.proofs.device.Device.restart.Goals as goal

@@ -1,5 +1,5 @@
 use Rattle.std.proofs.Common.{ap}
-use Rattle.osc_device.specs.Carrying.{at_server}
+use Rattle.osc_device.specs.{at_server}
 use Rattle.osc_device.proofs.Carried.{one_only, reaches}
 use Rattle.osc_device.proofs.device.Device.served.Goals as goal
 

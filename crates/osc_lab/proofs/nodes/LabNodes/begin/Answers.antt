@@ -1,7 +1,7 @@
 use Rattle.std.proofs.Common.{◌≡◌, Some, rules}
 use Rattle.std.proofs.lemmas.Result.{on_ok_weaker}
 use Rattle.std.specs.Prelude.{slice_get}
-use Rattle.osc_lab.specs.Lab.{stays}
+use Rattle.osc_lab.specs.{stays}
 use Rattle.osc_lab.proofs.Labs.{client_began, client_leads}
 use Rattle.osc_lab.proofs.nodes.LabNodes.begin.Goals as goal
 

@@ -1,7 +1,7 @@
 use Rattle.std.proofs.Common.{◌≡◌, Some, refl, rules}
 use Rattle.std.proofs.lemmas.Result.{on_ok_weaker}
 use Rattle.std.specs.Prelude.{slice_get}
-use Rattle.osc_lab.specs.Lab.{stays}
+use Rattle.osc_lab.specs.{stays}
 use Rattle.osc_lab.proofs.Appended.{appends_none}
 use Rattle.osc_lab.proofs.Labs.{client_leads, client_turned, stops_at_once}
 use Rattle.osc_lab.proofs.nodes.LabNodes.client_turn.Goals as goal

@@ -1,6 +1,6 @@
 use Rattle.std.proofs.Common.{refl}
 use Rattle.osc_world.specs.declared.nodes.Whose.TheVariants as whose
-use Rattle.osc_lab.specs.Lab.{no_turn, stays}
+use Rattle.osc_lab.specs.{no_turn, stays}
 use Rattle.osc_lab.proofs.Labs.{at_exit, leads_more, one_more_turn, stops_more, tells_more, tells_none}
 use Rattle.osc_lab.proofs.Appended.{appends_none}
 use Rattle.osc_lab.proofs.nodes.LabNodes.client_turns.Goals as goal

@@ -1,6 +1,6 @@
 use Rattle.osc_world.specs.declared.nodes.Whose.TheVariants as whose
 use Rattle.osc_lab.specs.Inner.Telling.{Tells, lab_of}
-use Rattle.osc_lab.specs.Lab.{Leads, Turns, learnt}
+use Rattle.osc_lab.specs.{Leads, Turns, learnt}
 use Rattle.osc_lab.proofs.nodes.LabNodes.client_turns.Given as goal
 
 -- so many clients took their turns, and what they learnt is told

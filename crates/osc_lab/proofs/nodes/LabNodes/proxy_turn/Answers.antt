@@ -1,7 +1,7 @@
 use Rattle.std.proofs.Common.{◌≡◌, Some, refl, rules}
 use Rattle.std.proofs.lemmas.Result.{on_ok_weaker}
 use Rattle.std.specs.Prelude.{slice_get}
-use Rattle.osc_lab.specs.Lab.{stays}
+use Rattle.osc_lab.specs.{stays}
 use Rattle.osc_lab.proofs.Labs.{proxy_leads, proxy_turned}
 use Rattle.osc_lab.proofs.nodes.LabNodes.proxy_turn.Goals as goal
 

@@ -1,6 +1,6 @@
 use Rattle.std.proofs.Common.{◌∙◌, refl}
 use Rattle.osc_world.specs.declared.nodes.Whose.TheVariants as whose
-use Rattle.osc_lab.specs.Lab.{no_turn, stays}
+use Rattle.osc_lab.specs.{no_turn, stays}
 use Rattle.osc_lab.proofs.Labs.{leads_more, one_more_turn}
 use Rattle.osc_lab.proofs.nodes.LabNodes.proxy_turns.Goals as goal
 

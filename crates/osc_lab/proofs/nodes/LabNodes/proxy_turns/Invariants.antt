@@ -1,7 +1,7 @@
 use Rattle.std.proofs.Common.{◌≡◌}
 use Rattle.osc_world.specs.declared.nodes.Whose.TheVariants as whose
 use Rattle.osc_lab.specs.Inner.Telling.{lab_of}
-use Rattle.osc_lab.specs.Lab.{Leads, Turns, learnt}
+use Rattle.osc_lab.specs.{Leads, Turns, learnt}
 use Rattle.osc_lab.proofs.nodes.LabNodes.proxy_turns.Given as goal
 
 -- so many proxies took their turns, and no client learnt anything

@@ -1,5 +1,5 @@
 use Rattle.std.proofs.Common.{ap, sym, ◌∙◌}
-use Rattle.osc_message.specs.Queue.{messages}
+use Rattle.osc_message.specs.{messages}
 use Rattle.osc_message.proofs.endpoint.Endpoint.next_deadline.Goals as goal
 
 pub returns-clause-open : goal.returns-clause-open

@@ -1,5 +1,5 @@
 use Rattle.std.proofs.Common.{subst, sym}
-use Rattle.osc_message.specs.Sending.{IsSendableReply}
+use Rattle.osc_message.specs.{IsSendableReply}
 use Rattle.osc_message.proofs.Notes.{looked_fits}
 use Rattle.osc_message.proofs.endpoint.Endpoint.noted_reply.Goals as goal
 

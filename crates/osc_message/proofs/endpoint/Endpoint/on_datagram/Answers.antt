@@ -1,7 +1,6 @@
 use Rattle.std.proofs.Common.{subst, sym}
 use Rattle.std.proofs.lemmas.Result.{IfOk-weaker}
-use Rattle.osc_message.specs.Endpoint.{EndpointState}
-use Rattle.osc_message.specs.Heard.{AnswersAlone}
+use Rattle.osc_message.specs.{EndpointState, AnswersAlone}
 use Rattle.osc_message.specs.declared.heard.Heard.{Heard}
 use Rattle.osc_message.proofs.Came.{heard_alone}
 use Rattle.osc_message.proofs.endpoint.Endpoint.on_datagram.Goals as goal

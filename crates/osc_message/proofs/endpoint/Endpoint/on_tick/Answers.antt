@@ -1,7 +1,5 @@
 use Rattle.std.proofs.Common.{◌≤◌, length, subst, sym, arith}
-use Rattle.osc_message.specs.Bounds.{AreShort}
-use Rattle.osc_message.specs.Endpoint.{EndpointState}
-use Rattle.osc_message.specs.Queue.{messages}
+use Rattle.osc_message.specs.{AreShort, EndpointState, messages}
 use Rattle.osc_message.proofs.Few.{going_few}
 use Rattle.osc_message.proofs.Notes.{alive_short}
 use Rattle.osc_message.proofs.Sound.{going_out_fits}

@@ -1,8 +1,6 @@
 use Rattle.std.proofs.Common.{◌≡◌, ◌∙◌, ◌<◌, length, true, false, ap, arith}
 use Rattle.std.proofs.lemmas.List.{length-map}
-use Rattle.osc_message.specs.Confirmables.{takes as takes_of}
-use Rattle.osc_message.specs.Endpoint.{EndpointState}
-use Rattle.osc_message.specs.Queue.{messages}
+use Rattle.osc_message.specs.{takes as takes_of, EndpointState, messages}
 use Rattle.osc_message.proofs.Sound.{room_for_one}
 use Rattle.osc_message.proofs.endpoint.Endpoint.send.Goals as goal
 use Rattle.osc_message.proofs.endpoint.Endpoint.send.Goals.{then-not-takes-via-then-not-takes, then-not-takes-via-else-not-takes+then-len}

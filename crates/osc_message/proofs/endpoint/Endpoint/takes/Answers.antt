@@ -1,9 +1,7 @@
 use Rattle.std.proofs.Common.{◌≡◌, ◌∙◌, ◌<◌, length, true, sym, ap, arith}
 use Rattle.std.proofs.lemmas.Bool.{lt-ltb}
 use Rattle.std.proofs.lemmas.List.{length-map}
-use Rattle.osc_message.specs.Confirmables.{takes as takes_of}
-use Rattle.osc_message.specs.Endpoint.{EndpointState}
-use Rattle.osc_message.specs.Queue.{messages}
+use Rattle.osc_message.specs.{takes as takes_of, EndpointState, messages}
 use Rattle.osc_message.proofs.Sound.{room_for_one}
 use Rattle.osc_message.proofs.endpoint.Endpoint.takes.Goals as goal
 

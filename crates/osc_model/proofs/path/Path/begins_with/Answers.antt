@@ -1,7 +1,7 @@
 use Rattle.std.proofs.Common.{◌≡◌, ◌∙◌, ◌++◌, ap, sym, None, Some}
 use Rattle.std.proofs.lemmas.Bool.Decides.{Decides-eqb}
 use Rattle.std.proofs.lemmas.Slice.Eq.{strip_prefix_is}
-use Rattle.osc_model.specs.Path.{segments_of, begins_with}
+use Rattle.osc_model.specs.{segments_of, begins_with}
 use Rattle.osc_model.proofs.Below.{decides_below, never_below}
 use Rattle.osc_model.proofs.path.Path.begins_with.Goals as goal
 

@@ -1,5 +1,5 @@
 use Rattle.std.proofs.Common.{inl, refl}
-use Rattle.osc_programs.specs.Unread.{unread_text}
+use Rattle.osc_programs.specs.{unread_text}
 use Rattle.osc_programs.proofs.log.FaultsLog.no_settings.Goals as goal
 
 pub returns : goal.returns

@@ -1,5 +1,5 @@
 use Rattle.std.proofs.Common.{ap, inr, refl, Some}
-use Rattle.osc_programs.specs.Unread.{unsaid_text}
+use Rattle.osc_programs.specs.{unsaid_text}
 use Rattle.osc_programs.proofs.log.LinesLog.no_settings.Goals as goal
 
 pub returns-in-Err : goal.returns-in-Err

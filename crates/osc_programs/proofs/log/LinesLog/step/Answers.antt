@@ -1,5 +1,5 @@
 use Rattle.std.proofs.Common.{inl, inr, refl, sym, ◌∙◌}
-use Rattle.osc_programs.specs.Log.{step_text, untold_text}
+use Rattle.osc_programs.specs.{step_text, untold_text}
 use Rattle.osc_programs.proofs.Reports.{tells_step, tells_untold}
 use Rattle.osc_programs.proofs.log.LinesLog.step.Goals as goal
 

@@ -1,5 +1,5 @@
 use Rattle.std.proofs.Common.{[], ◌∷◌, append-nil, refl, sym}
-use Rattle.osc_programs.specs.Log.{lost, lost_text}
+use Rattle.osc_programs.specs.{lost, lost_text}
 use Rattle.osc_programs.proofs.log.SilentLog.lost.Goals as goal
 
 pub returns : goal.returns

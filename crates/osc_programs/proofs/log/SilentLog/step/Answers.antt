@@ -1,5 +1,5 @@
 use Rattle.std.proofs.Common.{inl, refl}
-use Rattle.osc_programs.specs.Log.{reports_of, step_text}
+use Rattle.osc_programs.specs.{reports_of, step_text}
 use Rattle.osc_programs.proofs.Reports.{flat_reports}
 use Rattle.osc_programs.proofs.log.SilentLog.step.Goals as goal
 

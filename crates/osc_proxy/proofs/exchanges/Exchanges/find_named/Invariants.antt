@@ -1,6 +1,6 @@
 use Rattle.std.proofs.Common.{◌≡◌}
 use Rattle.std.specs.Prelude.{find}
-use Rattle.osc_proxy.specs.Exchanges.{entries, is_named}
+use Rattle.osc_proxy.specs.{entries, is_named}
 use Rattle.osc_proxy.proofs.exchanges.Exchanges.find_named.Given as goal
 
 abbrev pub invariant-loop-key : goal.invariant-loop-key

@@ -1,7 +1,6 @@
 use Rattle.std.proofs.Common.{◌≡◌}
 use Rattle.std.specs.Prelude.{find}
-use Rattle.osc_proxy.specs.Exchanges.{entries}
-use Rattle.osc_proxy.specs.Ticks.{is_over}
+use Rattle.osc_proxy.specs.{entries, is_over}
 use Rattle.osc_proxy.proofs.exchanges.Exchanges.find_over.Given as goal
 
 abbrev pub invariant-loop-key : goal.invariant-loop-key

@@ -1,9 +1,8 @@
 use Rattle.std.proofs.Common.{◌≡◌, ◌||◌, true, is_some}
 use Rattle.std.specs.List.{list_any}
 use Rattle.osc_model.specs.declared.node.Moment.{Moment}
-use Rattle.osc_message.specs.Bounds.{is_reached}
-use Rattle.osc_proxy.specs.Exchanges.{entries, is_overdue}
-use Rattle.osc_proxy.specs.Ticks.{any_overdue}
+use Rattle.osc_message.specs.{is_reached}
+use Rattle.osc_proxy.specs.{entries, is_overdue, any_overdue}
 use Rattle.osc_proxy.proofs.exchanges.Exchanges.first_end.Given as goal
 
 abbrev pub invariant-loop-exchange : goal.invariant-loop-exchange

@@ -1,8 +1,7 @@
 use Rattle.std.proofs.Common.{◌≡◌, ℕ, List, true, not, ap, sym, ◌∙◌}
 use Rattle.std.specs.Prelude.{filter}
-use Rattle.osc_message.specs.Endpoint.{EndpointState}
-use Rattle.osc_proxy.specs.Ends.{is_of_over}
-use Rattle.osc_proxy.specs.Exchanges.{is_overdue}
+use Rattle.osc_message.specs.{EndpointState}
+use Rattle.osc_proxy.specs.{is_of_over, is_overdue}
 use Rattle.osc_proxy.specs.declared.exchanges.Exchange.{Exchange}
 use Rattle.osc_proxy.proofs.Over.{all_over, one_over}
 use Rattle.osc_proxy.proofs.exchanges.Exchanges.withdraw_over.Goals as goal

@@ -1,6 +1,6 @@
 use Rattle.std.proofs.Common.{◌≡◌, not}
 use Rattle.std.specs.Prelude.{filter}
-use Rattle.osc_proxy.specs.Ends.{is_of_over, without_over}
+use Rattle.osc_proxy.specs.{is_of_over, without_over}
 use Rattle.osc_proxy.proofs.exchanges.Exchanges.withdraw_over.Given as goal
 
 abbrev pub invariant-loop-exchange : goal.invariant-loop-exchange

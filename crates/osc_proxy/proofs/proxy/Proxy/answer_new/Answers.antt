@@ -1,11 +1,9 @@
 use Rattle.std.proofs.Common.{◌≡◌, ◌∙◌, ap, subst, Result, Ok, Err, OnErr}
 use Rattle.std.proofs.lemmas.Result.{IfOk-weaker}
-use Rattle.osc_proxy.specs.Case.{IsNewAnswered, case_of}
+use Rattle.osc_proxy.specs.{IsNewAnswered, case_of, Names, AnswersNew}
 use Rattle.osc_coap.specs.Message.{Message}
 use Rattle.osc_model.specs.Arrival.{Arrival}
-use Rattle.osc_proxy.specs.Route.{Names}
 use Rattle.osc_proxy.specs.State.{State}
-use Rattle.osc_proxy.specs.Table.{AnswersNew}
 use Rattle.osc_proxy.specs.declared.case.Case.{Case}
 use Rattle.osc_proxy.proofs.proxy.Proxy.answer_new.Goals as goal
 

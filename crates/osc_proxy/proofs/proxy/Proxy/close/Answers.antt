@@ -1,19 +1,15 @@
 use Rattle.std.proofs.Common.{◌≡◌, ◌+◌, ◌++◌, true, false, refl, ap, sym, ◌∙◌, subst, Some, None}
 use Rattle.std.specs.Option.{option_to_list}
 use Rattle.std.specs.Prelude.{OnSome}
-use Rattle.osc_message.specs.Confirmables.{is_named as names_message}
-use Rattle.osc_message.specs.Endpoint.{EndpointState, acknowledged_by, settled}
-use Rattle.osc_message.specs.Sending.{AreSendable, FitsDatagram, acknowledgement, sent_to}
+use Rattle.osc_message.specs.{is_named as names_message, EndpointState, acknowledged_by, settled, AreSendable, FitsDatagram, acknowledgement, sent_to}
 use Rattle.osc_message.specs.declared.handling.Handling.TheVariants as handling
 use Rattle.osc_message.specs.declared.heard.Heard.TheVariants as heard
 use Rattle.osc_coap.specs.Message.{Message}
 use Rattle.osc_model.specs.Arrival.{Arrival}
-use Rattle.osc_model.specs.Step.{sends}
-use Rattle.osc_proxy.specs.Ends.{EachHasItsExchange, is_request}
-use Rattle.osc_proxy.specs.Exchanges.{Changes, count, get}
+use Rattle.osc_model.specs.{sends}
+use Rattle.osc_proxy.specs.{EachHasItsExchange, is_request, Changes, count, get, Counts, answer_for, back_kept, back_sends, counted}
 use Rattle.osc_proxy.specs.Inner.Going.{Acknowledges, CanClose, back_kept_by, back_sends_by}
 use Rattle.osc_proxy.specs.State.{State}
-use Rattle.osc_proxy.specs.Table.{Counts, answer_for, back_kept, back_sends, counted}
 use Rattle.osc_proxy.proofs.Codes.{no_request}
 use Rattle.osc_proxy.proofs.Its.{each_at, each_back, each_closed, each_fewer_by, its_named}
 use Rattle.osc_proxy.proofs.Fits.{sendable_acknowledgement, sendable_back, sendable_both, sendable_step}

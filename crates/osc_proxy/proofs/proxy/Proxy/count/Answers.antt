@@ -2,14 +2,14 @@ use Rattle.std.proofs.Common.{◌≡◌, true, refl, ap, sym, ◌∙◌, subst, 
 use Rattle.std.specs.Prelude.{option_copied}
 use Rattle.std.proofs.lemmas.Bool.{and_parts}
 use Rattle.std.proofs.lemmas.Option.{same_Some}
-use Rattle.osc_coap.specs.Message.{HasSpelling, Message, spelling}
-use Rattle.osc_message.specs.Confirmables.{same_peer}
+use Rattle.osc_coap.specs.{HasSpelling, spelling}
+use Rattle.osc_coap.specs.Message.{Message}
+use Rattle.osc_message.specs.{same_peer}
 use Rattle.osc_model.specs.Arrival.{Arrival}
-use Rattle.osc_proxy.specs.Exchanges.{get, is_in_place}
+use Rattle.osc_proxy.specs.{get, is_in_place, answer_to, next_own}
 use Rattle.osc_proxy.specs.Inner.Bounds.{CanCount}
 use Rattle.osc_proxy.specs.Inner.Going.{CanClose, IsOwn}
 use Rattle.osc_proxy.specs.State.{State}
-use Rattle.osc_proxy.specs.Table.{answer_to, next_own}
 use Rattle.osc_proxy.specs.declared.exchanges.Exchange.{Exchange}
 use Rattle.osc_proxy.proofs.Codes.{answer_is_none}
 use Rattle.osc_proxy.proofs.proxy.Proxy.count.Goals as goal

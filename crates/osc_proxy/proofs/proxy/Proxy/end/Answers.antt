@@ -2,18 +2,14 @@ use Rattle.std.proofs.Common.{◌≡◌, ℕ, ◌+◌, [], ◌++◌, true, false
 use Rattle.std.specs.Option.{option_to_list}
 use Rattle.std.specs.Prelude.{OnSome}
 use Rattle.std.proofs.lemmas.Bool.{and_parts, eqb-true}
-use Rattle.osc_coap.specs.Message.{HasSpelling, Message, spelling}
+use Rattle.osc_coap.specs.{HasSpelling, spelling}
+use Rattle.osc_coap.specs.Message.{Message}
 use Rattle.osc_model.specs.Arrival.{Arrival}
-use Rattle.osc_model.specs.Code.{code}
-use Rattle.osc_model.specs.Step.{sends}
-use Rattle.osc_message.specs.Confirmables.{is_named as names_message, same_peer}
-use Rattle.osc_message.specs.Endpoint.{EndpointState, own_id}
-use Rattle.osc_message.specs.Outbox.{OutboxState}
-use Rattle.osc_proxy.specs.Ends.{EachHasItsExchange, is_request}
-use Rattle.osc_proxy.specs.Exchanges.{Changes, count, get}
+use Rattle.osc_model.specs.{code, sends}
+use Rattle.osc_message.specs.{is_named as names_message, same_peer, EndpointState, own_id, OutboxState}
+use Rattle.osc_proxy.specs.{EachHasItsExchange, is_request, Changes, count, get, back_kept, back_sends, failure, named, next_own, bad_gateway}
 use Rattle.osc_proxy.specs.Inner.Going.{IsOwn, back_kept_by}
 use Rattle.osc_proxy.specs.State.{State}
-use Rattle.osc_proxy.specs.Table.{back_kept, back_sends, failure, named, next_own, bad_gateway}
 use Rattle.osc_proxy.proofs.Codes.{no_request}
 use Rattle.osc_proxy.proofs.Goes.{back_kept_is, back_sends_is}
 use Rattle.osc_proxy.proofs.Its.{each_at, each_back, each_closed, its_named}

@@ -1,7 +1,6 @@
 use Rattle.std.proofs.Common.{◌≤◌, ◌+◌, length, subst}
-use Rattle.osc_proxy.specs.Exchanges.{count}
+use Rattle.osc_proxy.specs.{count, AreOfExchanges}
 use Rattle.osc_proxy.specs.State.{State}
-use Rattle.osc_proxy.specs.Ticks.{AreOfExchanges}
 use Rattle.osc_proxy.proofs.Ends.{each_after, few_sent, none_overdue, requests_are}
 use Rattle.osc_proxy.proofs.proxy.Proxy.on_tick.Goals as goal
 

@@ -1,21 +1,17 @@
 use Rattle.std.proofs.Common.{◌≡◌, ◌+◌, ◌∷◌, ◌++◌, false, drop, refl, sym, ap, ◌∙◌, subst, Some}
 use Rattle.std.specs.Option.{option_to_list}
-use Rattle.osc_coap.specs.Message.{HasSpelling, Message, spelling}
-use Rattle.osc_message.specs.Endpoint.{EndpointState, own_id, settled}
-use Rattle.osc_message.specs.Sending.{AreSendable, FitsDatagram, acknowledgement, is_confirmable, sent_to}
+use Rattle.osc_coap.specs.{HasSpelling, spelling}
+use Rattle.osc_coap.specs.Message.{Message}
+use Rattle.osc_message.specs.{EndpointState, own_id, settled, AreSendable, FitsDatagram, acknowledgement, is_confirmable, sent_to}
 use Rattle.osc_message.specs.declared.handling.Handling.TheVariants as handling
 use Rattle.osc_message.specs.declared.heard.Heard.TheVariants as heard
 use Rattle.osc_model.specs.Arrival.{Arrival}
-use Rattle.osc_model.specs.Draw.{token_drawn}
-use Rattle.osc_model.specs.Step.{sends}
-use Rattle.osc_proxy.specs.Ends.{EachHasItsExchange}
-use Rattle.osc_proxy.specs.Exchanges.{Changes, count, get}
+use Rattle.osc_model.specs.{token_drawn, sends}
+use Rattle.osc_proxy.specs.{EachHasItsExchange, Changes, count, get, goes_now, sends_own, with_own, IsForwarded, exchange_of, forwarded_by, key_for, next_own, taken_up}
 use Rattle.osc_proxy.specs.Inner.Bounds.{names_one}
 use Rattle.osc_proxy.specs.Inner.Going.{Acknowledges, IsOwn}
-use Rattle.osc_proxy.specs.Own.{goes_now, sends_own, with_own}
 use Rattle.osc_proxy.specs.Passage.{Passage}
 use Rattle.osc_proxy.specs.State.{State}
-use Rattle.osc_proxy.specs.Table.{IsForwarded, exchange_of, forwarded_by, key_for, next_own, taken_up}
 use Rattle.osc_proxy.specs.declared.exchanges.Exchange.{Exchange}
 use Rattle.osc_proxy.proofs.Its.{each_at, each_opened, none_named}
 use Rattle.osc_proxy.proofs.Fits.{sendable_acknowledgement, sendable_both, sendable_own, sendable_step}

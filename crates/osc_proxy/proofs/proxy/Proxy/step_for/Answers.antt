@@ -3,7 +3,7 @@ use Rattle.std.specs.Prelude.{IfOk}
 use Rattle.std.proofs.lemmas.Result.{IfOk-weaker}
 use Rattle.osc_model.specs.Arrival.{Arrival}
 use Rattle.osc_message.specs.declared.heard.Heard.{Heard}
-use Rattle.osc_proxy.specs.Table.{Answers, IsAnswered}
+use Rattle.osc_proxy.specs.{Answers, IsAnswered}
 use Rattle.osc_proxy.proofs.Steps.{small_step}
 use Rattle.osc_proxy.proofs.proxy.Proxy.step_for.Goals as goal
 

@@ -1,9 +1,8 @@
 use Rattle.std.proofs.Common.{◌≡◌, map, sym, ap, ◌∙◌}
 use Rattle.std.specs.FinSet as set
 use Rattle.std.specs.List.{insert}
-use Rattle.osc_model.specs.Scope.{exactly}
-use Rattle.osc_scope.specs.Entries.{bit_of, scope_of}
-use Rattle.osc_scope.specs.Reading.{entry_with}
+use Rattle.osc_model.specs.{exactly}
+use Rattle.osc_scope.specs.{bit_of, scope_of, entry_with}
 use Rattle.osc_scope.proofs.InOrder.{kept_with}
 use Rattle.osc_scope.proofs.Sets.{insert_present, scope_insert}
 use Rattle.osc_scope.proofs.scope.Scope.allow.Goals.{then-not-has_exactly+in_ok-insert, else-not-has_exactly}

@@ -1,5 +1,5 @@
-use Rattle.osc_cbor.specs.Data.{array}
-use Rattle.osc_scope.specs.Entries.{entry_items}
+use Rattle.osc_cbor.specs.{array}
+use Rattle.osc_scope.specs.{entry_items}
 use Rattle.osc_scope.proofs.EntryLemmas.{only_one}
 use Rattle.osc_scope.proofs.scope.Scope.from_cbor.Goals as goal
 

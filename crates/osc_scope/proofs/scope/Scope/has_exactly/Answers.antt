@@ -1,8 +1,7 @@
 use Rattle.std.proofs.Common.{◌∙◌, sym, ap, map, not, bytes_eq, ◌&&◌}
 use Rattle.std.specs.FinSet as set
-use Rattle.osc_model.specs.Scope.{exactly}
-use Rattle.osc_scope.specs.Entries.{Entry, has, is_below}
-use Rattle.osc_scope.specs.Reading.{entry_with}
+use Rattle.osc_model.specs.{exactly}
+use Rattle.osc_scope.specs.{Entry, has, is_below, entry_with}
 use Rattle.osc_scope.proofs.Grants.{any-map}
 use Rattle.osc_scope.proofs.SameScope.{scope_has}
 use Rattle.osc_scope.proofs.scope.Scope.has_exactly.Goals as goal

@@ -1,6 +1,6 @@
 use Rattle.std.proofs.Common.{take}
 use Rattle.std.specs.Fmt.{HasWritten, IsPlainFormatter}
-use Rattle.osc_script.specs.Shown.{shown}
+use Rattle.osc_script.specs.{shown}
 use Rattle.osc_script.proofs.shown.ShownDisplay.fmt.Given as goal
 
 -- the bytes so far are printed

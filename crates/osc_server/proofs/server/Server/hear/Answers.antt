@@ -1,9 +1,9 @@
 use Rattle.std.proofs.Common.{Result, Ok, Err}
 use Rattle.std.specs.Prelude.{IfOk, List}
-use Rattle.osc_dedup.specs.Table.{Entry}
+use Rattle.osc_dedup.specs.{Entry}
 use Rattle.osc_model.specs.declared.node.Moment.{Moment}
 use Rattle.osc_model.specs.declared.node.Peer.{Peer}
-use Rattle.osc_message.specs.Heard.{AnswersAlone, IsSendableHeard}
+use Rattle.osc_message.specs.{AnswersAlone, IsSendableHeard}
 use Rattle.osc_message.specs.declared.heard.Heard.{Heard}
 use Rattle.osc_server.specs.Inner.Parts.{HeardSendsTo, KeepsMessages}
 use Rattle.osc_server.proofs.Notes.{heard_sends}

@@ -1,5 +1,5 @@
 use Rattle.std.proofs.Common.{◌≡◌, false, subst}
-use Rattle.osc_message.specs.Ticks.{acts}
+use Rattle.osc_message.specs.{acts}
 use Rattle.osc_server.specs.State.{State}
 use Rattle.osc_server.proofs.Notes.{quiet_tick}
 use Rattle.osc_server.proofs.server.Server.next_deadline.Goals as goal

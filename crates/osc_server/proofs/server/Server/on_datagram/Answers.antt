@@ -1,13 +1,13 @@
 use Rattle.std.proofs.Common.{◌≡◌, ◌∙◌, ℕ, List, Result, Ok, Err, subst, sym}
 use Rattle.std.specs.Prelude.{OnErr}
-use Rattle.osc_coap.specs.Message.{Message, Spells}
+use Rattle.osc_coap.specs.{Spells}
+use Rattle.osc_coap.specs.Message.{Message}
 use Rattle.osc_model.specs.Arrival.{Arrival}
-use Rattle.osc_message.specs.Received.{Receives}
+use Rattle.osc_message.specs.{Receives}
 use Rattle.osc_message.specs.declared.heard.Heard.{Heard}
 use Rattle.osc_message.specs.declared.heard.Heard.TheVariants as heard_as
-use Rattle.osc_server.specs.Case.{IsAnswered}
-use Rattle.osc_server.specs.Table.{Answers}
-use Rattle.osc_authz.specs.Table.{IsTable}
+use Rattle.osc_server.specs.{IsAnswered, Answers}
+use Rattle.osc_authz.specs.{IsTable}
 use Rattle.osc_server.proofs.StepKinds.{kind_of}
 use Rattle.osc_server.proofs.Telling.{told}
 use Rattle.osc_server.proofs.server.Server.on_datagram.Goals as goal

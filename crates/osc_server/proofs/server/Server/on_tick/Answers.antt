@@ -1,8 +1,9 @@
 use Rattle.std.proofs.Common.{ap, refl, rules, subst, sym, ◌∙◌}
-use Rattle.osc_model.specs.Step.{sends}
-use Rattle.osc_run.specs.ServerKinds.{ServerStep}
+use Rattle.osc_model.specs.{sends}
+use Rattle.osc_run.specs.{ServerStep}
 use Rattle.osc_server.specs.Inner.Parts.{IsQuiet}
-use Rattle.osc_server.specs.State.{State, core}
+use Rattle.osc_server.specs.{core}
+use Rattle.osc_server.specs.State.{State}
 use Rattle.osc_server.proofs.Notes.{nothing_goes, quiet_tick}
 use Rattle.osc_server.proofs.StepKinds.{quietly}
 use Rattle.osc_server.proofs.server.Server.on_tick.Goals as goal

@@ -4,10 +4,10 @@ use Rattle.std.specs.Result.{IfOk}
 use Rattle.osc_model.specs.Arrival.{Arrival}
 use Rattle.osc_model.specs.declared.step.Step.{Step}
 use Rattle.osc_coap.specs.Message.{Message}
-use Rattle.osc_protect.specs.Protection.{IsRequest}
-use Rattle.osc_authz.specs.Table.{accepted}
+use Rattle.osc_protect.specs.{IsRequest}
+use Rattle.osc_authz.specs.{accepted}
 use Rattle.osc_server.specs.Inner.Parts.{IsServedAs, noted_by}
-use Rattle.osc_server.specs.Table.{AnswersProtected, IsRefused, refused, served}
+use Rattle.osc_server.specs.{AnswersProtected, IsRefused, refused, served}
 use Rattle.osc_server.specs.declared.refusal.Refusal.TheVariants.{Malformed}
 use Rattle.osc_server.proofs.Served.{serves}
 use Rattle.osc_server.proofs.server.Server.protected.Goals as goal

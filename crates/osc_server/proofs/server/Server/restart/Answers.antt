@@ -1,8 +1,9 @@
 use Rattle.std.proofs.Common.{◌≡◌, [], refl, subst}
-use Rattle.osc_message.specs.Endpoint.{fresh}
-use Rattle.osc_model.specs.StepNotes.{quiet}
-use Rattle.osc_run.specs.ServerKinds.{ServerStep}
-use Rattle.osc_server.specs.State.{State, core}
+use Rattle.osc_message.specs.{fresh}
+use Rattle.osc_model.specs.{quiet}
+use Rattle.osc_run.specs.{ServerStep}
+use Rattle.osc_server.specs.{core}
+use Rattle.osc_server.specs.State.{State}
 use Rattle.osc_server.proofs.StepKinds.{restarts}
 use Rattle.osc_server.proofs.server.Server.restart.Goals as goal
 

@@ -1,9 +1,9 @@
 use Rattle.std.proofs.Common.{refl, subst}
 use Rattle.std.proofs.lemmas.Result.{IfOk-weaker}
 use Rattle.osc_model.specs.declared.node.Draw.{Draw}
-use Rattle.osc_world.specs.Worlds.{Happens}
+use Rattle.osc_world.specs.{Happens}
 use Rattle.osc_world.specs.declared.event.Event.{Event}
-use Rattle.osc_simulation.specs.Simulation.{is_sealing, tag_of}
+use Rattle.osc_simulation.specs.{is_sealing, tag_of}
 use Rattle.osc_simulation.proofs.stage.Stage.comes.Goals as goal
 
 pub returns : goal.returns

@@ -1,6 +1,6 @@
 use Rattle.std.proofs.Common.{◌≡◌, ◌<◌, false, sym, subst, ap, ◌∙◌}
 use Rattle.std.specs.FinMap as map
-use Rattle.osc_model.specs.Tree.{IsWithinLimits, most_resources}
+use Rattle.osc_model.specs.{IsWithinLimits, most_resources}
 use Rattle.osc_tree.proofs.Entries.{tree_of, inserted}
 use Rattle.osc_tree.proofs.tree.Tree.put.Goals as goal
 

@@ -1,6 +1,6 @@
 use Rattle.std.proofs.Common.{sym, subst, ap, ◌∙◌}
 use Rattle.std.specs.FinMap as map
-use Rattle.osc_model.specs.Tree.{IsWithinLimits}
+use Rattle.osc_model.specs.{IsWithinLimits}
 use Rattle.osc_tree.proofs.Entries.{tree_of, removed}
 use Rattle.osc_tree.proofs.tree.Tree.remove.Goals as goal
 

@@ -2,7 +2,7 @@ use Rattle.std.proofs.Common.{◌≡◌, sym, subst, ap, ◌∙◌}
 use Rattle.std.proofs.lemmas.Bool.{false≢true}
 use Rattle.std.specs.FinMap as map
 use Rattle.std.specs.Option.{IsSome}
-use Rattle.osc_model.specs.Tree.{IsWithinLimits}
+use Rattle.osc_model.specs.{IsWithinLimits}
 use Rattle.osc_tree.proofs.Entries.{tree_of, get_is_lookup, inserted}
 use Rattle.osc_tree.proofs.tree.Tree.replace.Goals as goal
 

@@ -1,8 +1,7 @@
 use Rattle.std.proofs.Common.{◌≡◌, ◌<◌, ◌-◌, bit_or, ap, ◌∙◌}
 use Rattle.std.specs.Int.{bit_at, w64}
 use Rattle.std.proofs.lemmas.Nat.Bits.{bit_at_set_same, bit_at_set_other}
-use Rattle.osc_window.specs.Bitmap.{numbers_of}
-use Rattle.osc_window.specs.Window.{width, IsFresh, with_accepted}
+use Rattle.osc_window.specs.{numbers_of, width, IsFresh, with_accepted}
 use Rattle.osc_window.proofs.Bits.{raised_lowest, raised_between, raised_above, stays_set}
 use Rattle.osc_window.proofs.Bitmap.{near_when_fresh, numbers_above, numbers_below}
 use Rattle.osc_window.proofs.window.Window.accept.Goals as goal

@@ -1,8 +1,7 @@
 use Rattle.std.proofs.Common.{◌≡◌, ◌<◌, ◌-◌}
 use Rattle.std.proofs.lemmas.Bool.{lt-ltb}
 use Rattle.std.specs.Int.{bit_at}
-use Rattle.osc_window.specs.Bitmap.{numbers_of}
-use Rattle.osc_window.specs.Window.{width, IsFresh}
+use Rattle.osc_window.specs.{numbers_of, width, IsFresh}
 use Rattle.osc_window.proofs.Bitmap.{fresh_above, fresh_below, near_when_fresh, clear_when_fresh}
 use Rattle.osc_window.proofs.window.Window.is_fresh.Goals as goal
 

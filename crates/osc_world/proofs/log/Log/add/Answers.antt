@@ -1,5 +1,5 @@
 use Rattle.std.proofs.Common.{ap, sym, ◌∙◌}
-use Rattle.osc_world.specs.Log.{first_waiting}
+use Rattle.osc_world.specs.{first_waiting}
 use Rattle.osc_world.proofs.Waiting.{first_stays}
 use Rattle.osc_world.proofs.log.Log.add.Goals as goal
 

@@ -1,5 +1,5 @@
 use Rattle.std.proofs.Common.{ap, ◌∙◌, arith}
-use Rattle.osc_world.specs.Log.{first_waiting}
+use Rattle.osc_world.specs.{first_waiting}
 use Rattle.osc_world.proofs.Waiting.{settled_moves_on}
 use Rattle.osc_world.proofs.log.Log.settle.Goals as goal
 

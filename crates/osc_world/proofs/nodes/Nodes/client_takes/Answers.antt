@@ -1,9 +1,9 @@
 use Rattle.std.proofs.Common.{◌≡◌, ◌∙◌, ap, Some, length, refl, rules}
-use Rattle.osc_run.specs.Notes.{by_client}
+use Rattle.osc_run.specs.{by_client}
 use Rattle.std.proofs.lemmas.Option.{slice_get_read}
 use Rattle.std.specs.Prelude.{slice_get}
 use Rattle.osc_world.specs.Inner.Tasks.{client_task_of}
-use Rattle.osc_world.specs.Steps.{ClientDoes, is_lie}
+use Rattle.osc_world.specs.{ClientDoes, is_lie}
 use Rattle.osc_world.proofs.Taking.{client_took, client_stepped, few_of_client}
 use Rattle.osc_world.proofs.nodes.Nodes.client_takes.Goals as goal
 

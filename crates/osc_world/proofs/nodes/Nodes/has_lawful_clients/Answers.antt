@@ -1,6 +1,5 @@
 use Rattle.std.proofs.Common.{◌≡◌, ◌∙◌, ap, subst}
-use Rattle.osc_world.specs.Lawful.{AreLawfulClients}
-use Rattle.osc_world.specs.Nodes.{NodeStates}
+use Rattle.osc_world.specs.{AreLawfulClients, NodeStates}
 use Rattle.osc_world.proofs.nodes.Nodes.has_lawful_clients.Goals as goal
 
 pub returns : goal.returns

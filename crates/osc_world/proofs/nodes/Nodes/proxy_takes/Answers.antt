@@ -1,10 +1,9 @@
 use Rattle.std.proofs.Common.{◌≡◌, Some, length, refl, rules}
 use Rattle.std.proofs.lemmas.Option.{slice_get_read}
 use Rattle.std.specs.Prelude.{slice_get}
-use Rattle.osc_proxy.specs.State.{restarted as proxy_again}
-use Rattle.osc_proxy.specs.Steps.{IsStep as IsProxyStep}
+use Rattle.osc_proxy.specs.{restarted as proxy_again, IsStep as IsProxyStep}
 use Rattle.osc_world.specs.Inner.Tasks.{task_of}
-use Rattle.osc_world.specs.Steps.{Does}
+use Rattle.osc_world.specs.{Does}
 use Rattle.osc_world.proofs.Taking.{proxy_kind, proxy_took, proxy_stepped, few_of_proxy}
 use Rattle.osc_world.proofs.nodes.Nodes.proxy_takes.Goals as goal
 

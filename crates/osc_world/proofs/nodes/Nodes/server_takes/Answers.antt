@@ -1,6 +1,6 @@
-use Rattle.osc_server.specs.Steps.{IsStep as IsServerStep, again as server_again}
+use Rattle.osc_server.specs.{IsStep as IsServerStep, again as server_again}
 use Rattle.osc_world.specs.Inner.Tasks.{task_of}
-use Rattle.osc_world.specs.Steps.{Does}
+use Rattle.osc_world.specs.{Does}
 use Rattle.osc_world.proofs.Taking.{server_kind, server_took, server_stepped}
 use Rattle.osc_world.proofs.nodes.Nodes.server_takes.Goals as goal
 

@@ -1,9 +1,8 @@
 use Rattle.std.proofs.Common.{◌≡◌, IfOk, Some, None, length, refl, subst, rules}
 use Rattle.std.proofs.lemmas.Option.{slice_get_past, slice_get_read}
 use Rattle.std.specs.Prelude.{slice_get}
-use Rattle.osc_run.specs.Nodes.{Came}
-use Rattle.osc_world.specs.Nodes.{Deed, Nothing, OfClient, Take, TellLie, deed_by}
-use Rattle.osc_world.specs.Steps.{Takes}
+use Rattle.osc_run.specs.{Came}
+use Rattle.osc_world.specs.{Deed, Nothing, OfClient, Take, TellLie, deed_by, Takes}
 use Rattle.osc_world.proofs.Deeds.{asked_deed, delivered_deed, lied_deed, undelivered_deed}
 use Rattle.osc_world.proofs.nodes.Nodes.take.Goals as goal
 

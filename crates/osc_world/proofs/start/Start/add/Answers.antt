@@ -1,8 +1,7 @@
 use Rattle.std.proofs.Common.{◌≡◌, ◌++◌, ◌∷◌, [], false, ap, ◌∙◌}
 use Rattle.osc_proxy.specs.State.{State as Proxy}
 use Rattle.osc_world.specs.declared.nodes.Placed.{Placed}
-use Rattle.osc_world.specs.Nodes.{is_among, places}
-use Rattle.osc_world.specs.Starts.{Beginning, places_of}
+use Rattle.osc_world.specs.{is_among, places, Beginning, places_of}
 use Rattle.osc_world.proofs.Apart.{one_more_proxy}
 use Rattle.osc_world.proofs.start.Start.add.Goals as goal
 

@@ -1,7 +1,6 @@
 use Rattle.std.proofs.Common.{◌≡◌, ◌++◌, ◌∷◌, [], false, ap, ◌∙◌, subst, length, rules}
 use Rattle.osc_model.specs.declared.node.Peer.{Peer}
-use Rattle.osc_world.specs.Nodes.{is_among, places}
-use Rattle.osc_world.specs.Starts.{Beginning, IsEnrolled, places_of}
+use Rattle.osc_world.specs.{is_among, places, Beginning, IsEnrolled, places_of}
 use Rattle.osc_world.proofs.Apart.{one_more_client}
 use Rattle.osc_world.proofs.Enrolling.{enrolled_more, enrols}
 use Rattle.osc_world.proofs.start.Start.admit.Goals as goal

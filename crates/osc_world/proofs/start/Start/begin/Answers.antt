@@ -1,7 +1,7 @@
 use Rattle.std.proofs.Common.{ap, sym, subst, ◌∙◌}
-use Rattle.osc_authz.specs.Desk.{DeskState}
+use Rattle.osc_authz.specs.{DeskState}
 use Rattle.osc_server.specs.State.{State as Server}
-use Rattle.osc_world.specs.Nodes.{NodeStates, StandApart}
+use Rattle.osc_world.specs.{NodeStates, StandApart}
 use Rattle.osc_world.proofs.Enrolling.{is_start}
 use Rattle.osc_world.proofs.start.Start.begin.Goals as goal
 

@@ -1,10 +1,9 @@
 use Rattle.std.proofs.Common.{◌≡◌, ◌∙◌, false, List, ap, sym, rules}
 use Rattle.std.specs.List.{list_any}
-use Rattle.osc_message.specs.Confirmables.{same_peer}
+use Rattle.osc_message.specs.{same_peer}
 use Rattle.osc_proxy.specs.State.{State as Proxy}
 use Rattle.osc_client.specs.State.{State as Client}
-use Rattle.osc_world.specs.Nodes.{is_among}
-use Rattle.osc_world.specs.Starts.{Beginning, places_of}
+use Rattle.osc_world.specs.{is_among, Beginning, places_of}
 use Rattle.osc_world.specs.declared.nodes.Placed.{Placed}
 use Rattle.osc_world.proofs.Apart.{among_places, at_a_proxy_alone}
 use Rattle.osc_world.proofs.start.Start.is_taken.Goals as goal

@@ -1,13 +1,10 @@
 use Rattle.std.proofs.Common.{◌≡◌, ◌∙◌, IfOk, List, Result, Ok, Err, Bor, ap, map, subst, sym}
-use Rattle.osc_model.specs.Isolation.{Agree, Answer, alone as answers_alone, answered}
+use Rattle.osc_model.specs.{Agree, Answer, alone as answers_alone, answered}
 use Rattle.osc_model.specs.Tree.{Tree}
 use Rattle.osc_model.specs.declared.step.Entry.{Entry}
-use Rattle.osc_run.specs.History.{history as history_of}
-use Rattle.osc_run.specs.Runs.{IsReached}
-use Rattle.osc_run.specs.States.{Minted, grants_of}
-use Rattle.osc_options.specs.Texts.{read_request}
-use Rattle.osc_world.specs.Claims.{HasOwnAnswers}
-use Rattle.osc_world.specs.Worlds.{State, run_of}
+use Rattle.osc_run.specs.{history as history_of, IsReached, Minted, grants_of}
+use Rattle.osc_options.specs.{read_request}
+use Rattle.osc_world.specs.{HasOwnAnswers, State, run_of}
 use Rattle.osc_world.proofs.world.World.alone.Goals as goal
 
 if_ok : {A E : Type 0} (P Q : A → Type 0) (result : Result A E) → ((x : A) → P x → Q x) → IfOk result P → IfOk result Q

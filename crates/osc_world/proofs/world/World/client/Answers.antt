@@ -1,6 +1,5 @@
 use Rattle.std.proofs.Common.{subst}
-use Rattle.osc_world.specs.Nodes.{StandApart}
-use Rattle.osc_world.specs.Worlds.{State}
+use Rattle.osc_world.specs.{StandApart, State}
 use Rattle.osc_world.proofs.world.World.client.Goals as goal
 
 pub returns-clause-apart : goal.returns-clause-apart

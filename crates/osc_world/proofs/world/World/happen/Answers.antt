@@ -1,7 +1,7 @@
 use Rattle.std.proofs.Common.{◌≡◌, ◌+◌, ◌++◌, ◌∷◌, [], take, drop, refl, sym, ap, ◌∙◌, subst, append-nil, length, rules, arith}
 use Rattle.std.specs.Prelude.{◌≢◌}
 use Rattle.std.proofs.lemmas.List.{length-drop, take_all, take_more, take-append-drop}
-use Rattle.osc_world.specs.Worlds.{Happen}
+use Rattle.osc_world.specs.{Happen}
 use Rattle.osc_world.proofs.Going.{happen_more}
 use Rattle.osc_world.proofs.Rounds.{on_err}
 use Rattle.osc_world.proofs.world.World.happen.Goals as goal

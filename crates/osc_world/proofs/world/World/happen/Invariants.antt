@@ -1,5 +1,5 @@
 use Rattle.std.proofs.Common.{take}
-use Rattle.osc_world.specs.Worlds.{Happen}
+use Rattle.osc_world.specs.{Happen}
 use Rattle.osc_world.proofs.world.World.happen.Given as goal
 
 abbrev pub invariant-loop-event : goal.invariant-loop-event

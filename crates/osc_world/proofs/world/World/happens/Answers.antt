@@ -1,6 +1,5 @@
 use Rattle.std.proofs.Common.{subst}
-use Rattle.osc_world.specs.Nodes.{deed_of}
-use Rattle.osc_world.specs.Steps.{Takes}
+use Rattle.osc_world.specs.{deed_of, Takes}
 use Rattle.osc_world.proofs.Apart.{apart_after}
 use Rattle.osc_world.proofs.Going.{reached_after, happened}
 use Rattle.osc_world.proofs.world.World.happens.Goals as goal

@@ -1,7 +1,5 @@
 use Rattle.std.proofs.Common.{subst}
-use Rattle.osc_world.specs.Lawful.{AreLawfulClients}
-use Rattle.osc_world.specs.Nodes.{StandApart}
-use Rattle.osc_world.specs.Worlds.{State}
+use Rattle.osc_world.specs.{AreLawfulClients, StandApart, State}
 use Rattle.osc_world.proofs.world.World.is_lawful.Goals as goal
 
 pub returns-clause-clients : goal.returns-clause-clients

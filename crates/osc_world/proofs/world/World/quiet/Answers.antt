@@ -1,9 +1,6 @@
 use Rattle.std.proofs.Common.{Bool, IfOk, OnOk, Result, Ok, Err, subst}
-use Rattle.osc_run.specs.Runs.{IsReached}
-use Rattle.osc_world.specs.Quiet.{Deliveries, Rounds}
-use Rattle.osc_world.specs.Ready.{AnswersWhatWasAsked, MakesWhatWasBegun}
-use Rattle.osc_world.specs.Nodes.{StandApart}
-use Rattle.osc_world.specs.Worlds.{Happens, State, run_of}
+use Rattle.osc_run.specs.{IsReached}
+use Rattle.osc_world.specs.{Deliveries, Rounds, AnswersWhatWasAsked, MakesWhatWasBegun, StandApart, Happens, State, run_of}
 use Rattle.osc_world.proofs.world.World.quiet.Goals as goal
 
 pub returns-clause-one_history : goal.returns-clause-one_history

@@ -2,8 +2,7 @@ use Rattle.std.proofs.Common.{◌≡◌, ◌≤◌, ◌<◌, ◌+◌, ◌-◌, �
 use Rattle.std.specs.Prelude.{is_none, is_some}
 use Rattle.std.proofs.lemmas.Bool.{cases_lt}
 use Rattle.osc_model.specs.declared.node.Draw.{Draw}
-use Rattle.osc_world.specs.Quiet.{Deliveries, Rounds, delivery, next_draw, waiting_first}
-use Rattle.osc_world.specs.Worlds.{Happens, State}
+use Rattle.osc_world.specs.{Deliveries, Rounds, delivery, next_draw, waiting_first, Happens, State}
 use Rattle.osc_world.proofs.Rounds.{one_more, nothing_waits, on_err, one_record, is_none_of}
 use Rattle.osc_world.proofs.world.World.rounds.Goals as goal
 

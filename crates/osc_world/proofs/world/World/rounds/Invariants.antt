@@ -1,6 +1,5 @@
 use Rattle.std.proofs.Common.{ℕ, Bool, ◌+◌, ◌≤◌}
-use Rattle.osc_world.specs.Quiet.{AreWhole, Rounds}
-use Rattle.osc_world.specs.Worlds.{Happens, State}
+use Rattle.osc_world.specs.{AreWhole, Rounds, Happens, State}
 use Rattle.osc_world.proofs.world.World.rounds.Given as goal
 
 -- so many deliveries more from here are, with those so far, a quiet round from the beginning

@@ -1,7 +1,6 @@
 use Rattle.std.proofs.Common.{subst}
-use Rattle.osc_run.specs.Runs.{IsReached}
-use Rattle.osc_world.specs.Nodes.{StandApart}
-use Rattle.osc_world.specs.Worlds.{State, run_of}
+use Rattle.osc_run.specs.{IsReached}
+use Rattle.osc_world.specs.{StandApart, State, run_of}
 use Rattle.osc_world.proofs.world.World.skip.Goals as goal
 
 pub returns-clause-one_history : goal.returns-clause-one_history

@@ -1,5 +1,5 @@
 use Rattle.std.proofs.Common.{subst, sym}
-use Rattle.osc_world.specs.Nodes.{StandApart}
+use Rattle.osc_world.specs.{StandApart}
 use Rattle.osc_world.proofs.Apart.{apart_skipped}
 use Rattle.osc_world.proofs.Going.{skips_on}
 use Rattle.osc_world.proofs.world.World.skips.Goals as goal

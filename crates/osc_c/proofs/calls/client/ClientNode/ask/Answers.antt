@@ -1,7 +1,6 @@
 -- The request that was made.
 use Rattle.std.proofs.Common.{inl, subst}
-use Rattle.osc_c.specs.Client.{AskedBy}
-use Rattle.osc_c.specs.Given.{GivenRequest}
+use Rattle.osc_c.specs.{AskedBy, GivenRequest}
 use Rattle.osc_c.proofs.calls.client.ClientNode.ask.Goals as goal
 
 pub returns-in-Ok-request : goal.returns-in-Ok-request

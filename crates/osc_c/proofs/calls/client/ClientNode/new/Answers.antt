@@ -1,9 +1,6 @@
 -- What was granted, and the algorithm.
 use Rattle.std.proofs.Common.{◌∙◌, IfErr, rules, subst}
-use Rattle.osc_c.specs.Arguments.{IsUnfit}
-use Rattle.osc_c.specs.Client.{IsFresh, IsNewClient}
-use Rattle.osc_c.specs.Given.{GivenGrant}
-use Rattle.osc_c.specs.Granted.{IsLawfulGrant, IsNoClient}
+use Rattle.osc_c.specs.{IsUnfit, IsFresh, IsNewClient, GivenGrant, IsLawfulGrant, IsNoClient}
 use Rattle.osc_c.proofs.calls.client.ClientNode.new.Goals as goal
 
 pub returns-clause-ok : goal.returns-clause-ok

@@ -1,6 +1,6 @@
 -- What came of it.
 use Rattle.std.proofs.Common.{inl}
-use Rattle.osc_c.specs.Own.{asked_for}
+use Rattle.osc_c.specs.{asked_for}
 use Rattle.osc_c.proofs.Refused.{asked_kept, kept}
 use Rattle.osc_c.proofs.calls.device.DeviceNode.ask_at.Goals as goal
 

@@ -1,9 +1,6 @@
 -- At the moment of these milliseconds, from where datagrams come.
 use Rattle.std.proofs.Common.{◌∙◌, Bool, inl, subst, sym}
-use Rattle.osc_c.specs.Ends.{At}
-use Rattle.osc_c.specs.Device.{HeardAt, UnlessNowhere}
-use Rattle.osc_c.specs.Given.{GivenDatagram, came_at}
-use Rattle.osc_c.specs.Plain.{draw_of, peer_of}
+use Rattle.osc_c.specs.{At, HeardAt, UnlessNowhere, GivenDatagram, came_at, draw_of, peer_of}
 use Rattle.osc_c.proofs.calls.device.DeviceNode.on_datagram.Goals as goal
 
 pub returns-in-Ok : goal.returns-in-Ok

@@ -1,6 +1,6 @@
 -- What came of it.
 use Rattle.std.proofs.Common.{inl}
-use Rattle.osc_c.specs.Plain.{draw_of}
+use Rattle.osc_c.specs.{draw_of}
 use Rattle.osc_c.proofs.Refused.{begun_kept, kept, never_too_long}
 use Rattle.osc_c.proofs.calls.device.DeviceNode.open_at.Goals as goal
 

@@ -2,8 +2,8 @@
 use Rattle.std.proofs.Common.{◌≡◌, [], None, inl, rules, subst}
 use Rattle.osc_model.specs.declared.code.Method.TheVariants.{Delete}
 use Rattle.osc_model.specs.declared.request.Request.{Request}
-use Rattle.osc_device.specs.Answered.{own_request}
-use Rattle.osc_c.specs.Own.{Asks, ComesTo, asked_for}
+use Rattle.osc_device.specs.{own_request}
+use Rattle.osc_c.specs.{Asks, ComesTo, asked_for}
 use Rattle.osc_c.proofs.calls.device.DeviceNode.remove.Goals as goal
 
 pub returns-in-Ok-path : goal.returns-in-Ok-path

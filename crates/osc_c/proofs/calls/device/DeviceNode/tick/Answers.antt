@@ -1,7 +1,7 @@
 -- What came of the tick.
 use Rattle.std.proofs.Common.{subst}
-use Rattle.osc_message.specs.Endpoint.{after_tick}
-use Rattle.osc_device.specs.Carrying.{Carries}
+use Rattle.osc_message.specs.{after_tick}
+use Rattle.osc_device.specs.{Carries}
 use Rattle.osc_c.proofs.calls.device.DeviceNode.tick.Goals as goal
 
 pub returns : goal.returns

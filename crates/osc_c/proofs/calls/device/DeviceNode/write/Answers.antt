@@ -1,8 +1,7 @@
 -- At the moment of these milliseconds, with this format.
 use Rattle.std.proofs.Common.{ap, inl, subst}
 use Rattle.osc_model.specs.declared.request.Request.{Request}
-use Rattle.osc_c.specs.Given.{GivenValue}
-use Rattle.osc_c.specs.Own.{Asks, ComesTo, asked_for}
+use Rattle.osc_c.specs.{GivenValue, Asks, ComesTo, asked_for}
 use Rattle.osc_c.specs.declared.calls.plain.PlainDraws.{PlainDraws}
 use Rattle.osc_c.proofs.calls.device.DeviceNode.write.Goals as goal
 
