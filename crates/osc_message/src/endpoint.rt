@@ -30,7 +30,7 @@ use crate::sending::{is_confirmable, rejection, reply_kind};
 use crate::tick::{Ticked, tick};
 use osc_coap::{Kind, MessageBuilder, MessageRef};
 use osc_dedup::Duplicates;
-use osc_model::{Bytes, Draw, Moment, Peer, Step, refusals};
+use osc_model::{Bytes, Datagram, Draw, Moment, Peer, Step, refusals};
 use std::alloc::{AllocError, Global};
 use std::marker::Model;
 use thiserror::Error;
@@ -173,16 +173,13 @@ impl<const PLACES: usize> Endpoint<PLACES> {
         match heard {
             Heard::Empty(_, id) => acknowledge(&mut self.sending, from, *id),
             Heard::Message(message) => {
-                let kind = message.kind();
-                let id = message.id();
-                acknowledge_by(&mut self.sending, from, kind, id);
+                acknowledge_by(&mut self.sending, from, message.kind(), message.id());
                 handle(
                     &mut self.seen,
                     &mut self.sending,
                     now,
                     from,
-                    kind,
-                    id,
+                    message,
                     handling,
                 );
             }
@@ -286,7 +283,14 @@ impl<const PLACES: usize> Endpoint<PLACES> {
             return Err(QueueFull);
         }
         let waits = has_open(&self.sending, to);
-        push(&mut self.sending, now, to, id, draw, bytes, waits);
+        push(
+            &mut self.sending,
+            now,
+            id,
+            draw,
+            Datagram { to, bytes },
+            waits,
+        );
         Ok(!waits)
     }
 

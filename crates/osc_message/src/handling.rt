@@ -7,7 +7,7 @@ ghost use Rattle.osc_message.specs.Sending.{IsSendableHandling, IsSendableReply}
 
 use crate::confirmable::acknowledge;
 use crate::queued::Queued;
-use osc_coap::Kind;
+use osc_coap::{Kind, MessageRef};
 use osc_dedup::{Duplicates, Noted};
 use osc_model::{Bytes, Moment, Peer};
 
@@ -72,11 +72,10 @@ pub(crate) fn handle(
     sending: &mut Vec<Queued>,
     now: Moment,
     from: Peer,
-    kind: Kind,
-    id: u16,
+    message: &MessageRef<'_>,
     handling: Handling,
 )
-    ensures seen { seen.new ≡ handled_seen now from kind id handling seen.old }
+    ensures seen { seen.new ≡ handled_seen now from message.now.kind message.now.id handling seen.old }
     ensures short { IsSendableHandling handling → AreShort seen.old → AreShort seen.new }
     ensures items { messages sending.new.items ≡ handled_sending from handling (messages sending.old.items) }
     ensures sound { IsSoundQueue sending.old.items → IsSoundQueue sending.new.items }
@@ -85,10 +84,10 @@ pub(crate) fn handle(
 {
     match handling {
         Handling::Dropped => {}
-        Handling::Answered(reply) => note(seen, now, from, kind, id, reply),
+        Handling::Answered(reply) => note(seen, now, from, message.kind(), message.id(), reply),
         Handling::Counted(request, reply) => {
             acknowledge(sending, from, request);
-            note(seen, now, from, kind, id, reply);
+            note(seen, now, from, message.kind(), message.id(), reply);
         }
     }
 }

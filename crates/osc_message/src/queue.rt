@@ -7,7 +7,7 @@ ghost use Rattle.osc_message.specs.Confirmables.{is_to as is_to_of, is_outstandi
 
 use crate::confirmable::{Open, Sent, initial_timeout};
 use crate::queued::{Queued, is_to};
-use osc_model::{Bytes, Draw, Moment, Peer};
+use osc_model::{Datagram, Draw, Moment, Peer};
 
 /// How many messages may wait for one peer.
 const MOST_WAITING: usize = 16;
@@ -92,27 +92,26 @@ fn first_sent(now: Moment, waits: bool) -> Option<Sent>
 pub(crate) fn push(
     sending: &mut Vec<Queued>,
     now: Moment,
-    to: Peer,
     id: u16,
     draw: &Draw,
-    bytes: Bytes,
+    datagram: Datagram,
     waits: bool,
 )
     requires sound { IsSoundQueue sending.old.items }
     requires room { vec_len sending.old < vec_capacity sending.old }
-    requires taken { takes_of to (messages sending.old.items) ≡ true }
-    requires short { FitsDatagram bytes }
-    requires waits { waits ≡ has_open_of to (messages sending.old.items) }
-    ensures items { messages sending.new.items ≡ with_open now to id (timeout_of draw.now) bytes (messages sending.old.items) }
+    requires taken { takes_of datagram.to (messages sending.old.items) ≡ true }
+    requires short { FitsDatagram datagram.bytes }
+    requires waits { waits ≡ has_open_of datagram.to (messages sending.old.items) }
+    ensures items { messages sending.new.items ≡ with_open now datagram.to id (timeout_of draw.now) datagram.bytes (messages sending.old.items) }
     ensures sound { IsSoundQueue sending.new.items }
     ensures len { vec_len sending.new ≡ vec_len sending.old + 1 }
     ensures capacity { vec_capacity sending.new ≡ vec_capacity sending.old }
 {
     let message = Open {
-        to,
+        to: datagram.to,
         id,
         timeout: initial_timeout(draw),
-        bytes,
+        bytes: datagram.bytes,
         sent: first_sent(now, waits),
     };
     sending.push_reserved(Queued {

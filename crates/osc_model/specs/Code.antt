@@ -1,5 +1,5 @@
 -- Codes and methods (RFC 7252 sections 3 and 12.1).
-use Rattle.std.specs.Prelude.{◌≡◌, ℕ, ◌+◌, ◌*◌, ◌==◌, if◌then◌else◌, Option, Some, None, refl}
+use Rattle.std.specs.Prelude.{◌≡◌, ℕ, Bool, ◌+◌, ◌*◌, ◌==◌, if◌then◌else◌, Option, Some, None, refl}
 use Rattle.osc_model.specs.declared.code.Code.{Code}
 use Rattle.osc_model.specs.declared.code.Method.{Method}
 use Rattle.osc_model.specs.declared.code.Method.TheVariants.{Get, Post, Put, Delete}
@@ -7,6 +7,14 @@ use Rattle.osc_model.specs.declared.code.Method.TheVariants.{Get, Post, Put, Del
 -- `code 4 12` is 4.12: the class in three bits, the detail in five
 abbrev pub code : ℕ → ℕ → Code
 code class detail = record { 0 = 32 * class + detail }
+
+-- 5.00 Internal Server Error (RFC 7252 section 5.9.3.1)
+abbrev pub is_internal_server_error : Code → Bool
+is_internal_server_error c = c.0 == 160
+
+-- 5.03 Service Unavailable (section 5.9.3.4)
+abbrev pub is_service_unavailable : Code → Bool
+is_service_unavailable c = c.0 == 163
 
 -- the detail of a method's code, whose class is 0
 abbrev pub method_number : Method → ℕ

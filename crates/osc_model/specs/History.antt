@@ -1,9 +1,10 @@
 -- Histories: what was served, in order.
-use Rattle.std.specs.Prelude.{◌≡◌, ◌==◌, if◌then◌else◌, ⊤, ℕ, List, [], ◌∷◌, Result, IsSomeAnd}
+use Rattle.std.specs.Prelude.{◌≡◌, if◌then◌else◌, ⊤, ℕ, List, [], ◌∷◌, Result, IsSomeAnd}
 use Rattle.std.specs.List.{AllByRecursion}
 use Rattle.osc_model.specs.Tree.{Tree}
 use Rattle.osc_model.specs.Apply.{Outcome, MayReply, apply_read}
 use Rattle.osc_model.specs.Grant.{Grant, IsTimely, grant_of, scope_of}
+use Rattle.osc_model.specs.Code.{is_internal_server_error}
 use Rattle.osc_model.specs.declared.code.Code.{Code}
 use Rattle.osc_model.specs.declared.request.Request.{Request}
 use Rattle.osc_model.specs.declared.step.Entry.{Entry}
@@ -25,7 +26,7 @@ module _ (read : List ℕ → Result Request Code) (grants : List Grant) where
 
   -- a 5.00 changes nothing
   abbrev pub tree_after : Tree → Entry → Tree
-  tree_after tree entry = if entry.reply.code.0 == 160 then tree else (outcome_of tree entry).tree
+  tree_after tree entry = if is_internal_server_error entry.reply.code then tree else (outcome_of tree entry).tree
 
   -- the tree after the entries, in order
   abbrev pub effect : Tree → List Entry → Tree

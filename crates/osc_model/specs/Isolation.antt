@@ -5,6 +5,7 @@ use Rattle.osc_model.specs.Tree.{Tree}
 use Rattle.osc_model.specs.Scope.{Scope, names}
 use Rattle.osc_model.specs.Grant.{Grant, grant_of}
 use Rattle.osc_model.specs.History.{outcome_of}
+use Rattle.osc_model.specs.Code.{is_internal_server_error, is_service_unavailable}
 use Rattle.osc_model.specs.declared.code.Code.{Code}
 use Rattle.osc_model.specs.declared.reply.Reply.{Reply}
 use Rattle.osc_model.specs.declared.request.Request.{Request}
@@ -66,7 +67,7 @@ answered grants client history = answers (entries_under (held_by client grants) 
 
 -- a 5.00 in the history, for want of memory, or a 5.03 in the history or alone, for want of room
 abbrev pub is_for_want : Reply → Reply → Bool
-is_for_want served alone = served.code.0 == 160 || served.code.0 == 163 || alone.code.0 == 163
+is_for_want served alone = is_internal_server_error served.code || is_service_unavailable served.code || is_service_unavailable alone.code
 
 -- the replies are the same up to, and not with, the first that is for want
 abbrev pub AgreeUpToWant : List Answer → List Answer → Type 0

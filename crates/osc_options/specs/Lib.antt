@@ -11,7 +11,7 @@ pub mod PlaintextReplies
 pub mod Texts
 pub mod Inner
 pub use MergedOptions.{behind_front}
-pub use Numbers.{content_format, proxy_scheme, proxy_uri, uri_host, uri_path, uri_port, uri_query}
+pub use Numbers.{content_format, oscore, proxy_scheme, proxy_uri, uri_host, uri_path, uri_port, uri_query}
 pub use PlaintextReplies.{etag_in, if_reply, reply_in, reply_of_plaintext, reply_plaintext}
 pub use PlaintextRequests.{IsMemoryAside, request_of_plaintext, request_plaintext, unheeded}
 pub use Recognised.{fits, has_unrecognised_unsafe, is_recognised, recognised, unrecognised_critical}

@@ -6,6 +6,7 @@ use Rattle.osc_coap.specs.Message.{Message}
 use Rattle.osc_coap.specs.Plaintext.{Plaintext}
 use Rattle.osc_options.specs.declared.table.Class.{Class}
 use Rattle.osc_options.specs.declared.table.Class.TheVariants.{E, U}
+use Rattle.osc_options.specs.Numbers.{oscore}
 use Rattle.osc_options.specs.Table.{class_of}
 
 -- ---- the options of a message, by class (section 4.1)
@@ -22,7 +23,7 @@ of_class class options = filter (λ option. same_class class (class_of option.0)
 
 -- the options that stay outside: those of class U; OSCORE's own, option 9, is written anew each time
 abbrev pub outer_options : List NumberAndValue → List NumberAndValue
-outer_options options = filter (λ option. not (option.0 == 9)) (of_class U options)
+outer_options options = filter (λ option. not (option.0 == oscore)) (of_class U options)
 
 -- the options that are encrypted
 abbrev pub inner_options : List NumberAndValue → List NumberAndValue
@@ -61,7 +62,7 @@ plaintext_of message = record { code = message.code; options = inner_options mes
 abbrev pub protected : Message → ℕ → List ℕ → List ℕ → Message
 protected message code value payload = record message {
   code = code;
-  options = merge (outer_options message.options) ((9, value) ∷ []);
+  options = merge (outer_options message.options) ((oscore, value) ∷ []);
   payload = payload_of payload;
 }
 
@@ -76,4 +77,4 @@ unprotected outer inner = record outer {
 
 -- whether OSCORE's own option is among these
 abbrev pub has_oscore : List NumberAndValue → Bool
-has_oscore options = list_any (λ option. option.0 == 9) options
+has_oscore options = list_any (λ option. option.0 == oscore) options

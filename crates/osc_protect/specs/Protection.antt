@@ -8,7 +8,7 @@ use Rattle.osc_model.specs.declared.step.Note.{Note}
 use Rattle.osc_coap.specs.{spelling, plaintext_spelling, bare}
 use Rattle.osc_coap.specs.Message.{Message}
 use Rattle.osc_model.specs.declared.reply.Reply.{Reply}
-use Rattle.osc_options.specs.{with_reply, value, plaintext_of, protected}
+use Rattle.osc_options.specs.{oscore, with_reply, value, plaintext_of, protected}
 use Rattle.osc_context.specs.{algorithm_of, key_of, nonce_of}
 use Rattle.osc_protect.specs.Value.{value_spelling, SpellsValue}
 use Rattle.osc_protect.specs.Aad.{aad_of}
@@ -118,7 +118,7 @@ pub record SealedRequest : Type 0 where
 
 pub record IsRequest (m : Message) (request : SealedRequest) : Type 0 where
   pub bytes : List ℕ
-  pub option : value 9 m.options ≡ Some bytes
+  pub option : value oscore m.options ≡ Some bytes
   pub spelled : SpellsValue bytes (record { partial_iv = Some request.number; kid_context = request.kid_context; kid = Some request.kid })
   pub payload : m.payload ≡ Some request.sealed
 
@@ -136,6 +136,6 @@ pub record IsResponse (m : Message) (response : SealedResponse) : Type 0 where
   pub bytes : List ℕ
   pub kid_context : Option (List ℕ)
   pub kid : Option (List ℕ)
-  pub option : value 9 m.options ≡ Some bytes
+  pub option : value oscore m.options ≡ Some bytes
   pub spelled : SpellsValue bytes (record { partial_iv = response.own; kid_context = kid_context; kid = kid })
   pub payload : m.payload ≡ Some response.sealed

@@ -5,6 +5,7 @@ use Rattle.std.specs.List.{list_any}
 use Rattle.hex.specs.Hex.{encode_lower}
 use Rattle.osc_coap.specs.{kind_name}
 use Rattle.osc_coap.specs.Message.{Message}
+use Rattle.osc_options.specs.{oscore}
 use Rattle.osc_model.specs.{Answer}
 use Rattle.osc_model.specs.Tree.{Tree}
 use Rattle.osc_model.specs.declared.resource.Resource.{Resource}
@@ -14,7 +15,7 @@ use Rattle.osc_simulation.specs.Text.{line, code_text, format_text, short_text}
 abbrev pub message_text : Message → List ℕ
 message_text message =
     kind_name message.kind ++ codes " " ++ code_text message.code
-    ++ (if list_any (λ option. option.0 == 9) message.options then codes " oscore" else [])
+    ++ (if list_any (λ option. option.0 == oscore) message.options then codes " oscore" else [])
 
 -- the bytes, where they are wanted
 abbrev pub wanted_bytes_text : Bool → List ℕ → List ℕ

@@ -5,11 +5,12 @@ use Rattle.osc_coap.specs.{NumberAndValue, payload_of}
 use Rattle.osc_coap.specs.Message.{Message}
 use Rattle.osc_coap.specs.Plaintext.{Plaintext}
 use Rattle.osc_options.specs.declared.table.Class.TheVariants.{E, U}
+use Rattle.osc_options.specs.Numbers.{oscore}
 use Rattle.osc_options.specs.Table.{class_of}
 use Rattle.osc_options.specs.Split.{same_class}
 
 abbrev pub is_outer : ℕ → Bool
-is_outer number = same_class U (class_of number) && not (number == 9)
+is_outer number = same_class U (class_of number) && not (number == oscore)
 
 abbrev pub is_inner : ℕ → Bool
 is_inner number = same_class E (class_of number)
