@@ -11,7 +11,7 @@ mod watch;
 
 pub use clock_and_random::{ClockAndRandom, not_before};
 pub use error::TurnError;
-pub use pace::{Pace, paced_turn};
+pub use pace::{Pace, paced_step, paced_turn};
 pub use port::{Port, PortFault};
-pub use turning::{Turned, send_all, turn};
+pub use turning::{Stepped, Turned, send_all, send_step, turn};
 pub use watch::{SystemWatch, Watch};

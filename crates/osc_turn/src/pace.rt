@@ -1,11 +1,11 @@
 //! Turns that tick in time, whatever comes: for what is due, and each 10 milliseconds at the latest.
-ghost use Rattle.std.specs.Prelude.{◌≡◌, None, Option, false, IfErr, IfOk, OnErr, is_some};
+ghost use Rattle.std.specs.Prelude.{◌≡◌, None, Option, false, IfErr, IfOk, OnErr, OnOk, is_some};
 ghost use Rattle.osc_turn.specs.Pace.{CameIn, IsRefusedIn, busy_after, is_due, must_tick};
 ghost use Rattle.osc_turn.specs.Ports.{CountsFault, Received, cause_of, grown};
 
 use crate::error::TurnError;
 use crate::port::Port;
-use crate::turning::{Turned, send_all, turn};
+use crate::turning::{Stepped, Turned, send_step, step_on_receipt};
 use osc_ccm::Ciphers;
 use osc_model::{Draw, Moment};
 use osc_run::Node;
@@ -76,10 +76,40 @@ pub fn paced_turn<A: Ciphers, P: Port, N: Node<A>>(
     ensures not_sent { OnErr result (P.sent port.new ≡ P.sent port.old) }
     ensures pace_kept { OnErr result (pace.new ≡ pace.old) }
 {
+    let stepped = paced_step::<A, P, N>(alloc, port, node, pace, now, draw)?;
+    Ok(send_step(port, stepped))
+}
+
+/// The first half of a [`paced_turn`]: takes what came, or ticks, and makes one step. Nothing is sent: whoever keeps something of a step
+/// does so between it and [`send_step`], so that nobody is told of what may be lost.
+///
+/// # Errors
+///
+/// As of [`paced_turn`].
+pub fn paced_step<A: Ciphers, P: Port, N: Node<A>>(
+    alloc: Global,
+    port: &mut P,
+    node: &mut N,
+    pace: &mut Pace,
+    now: Moment,
+    draw: &Draw,
+) -> Result<Stepped, TurnError>
+    ensures done { IfOk result (λ stepped. (came : Option Received)
+        × CameIn (must_tick (N.acts node.old now) pace.old.busy_since now) came (P.received port.old) (P.received port.new)
+        × (stepped.received ≡ is_some came)
+        × N.is_step node.old (cause_of now draw.now came) stepped.step node.new) }
+    ensures pace { IfOk result (λ stepped. pace.new.busy_since ≡ busy_after pace.old.busy_since now stepped.received) }
+    ensures refused { IfErr result (λ error. IsRefusedIn (must_tick (N.acts node.old now) pace.old.busy_since now) error
+        (P.received port.old) (P.received port.new) (P.failures port.old) (P.failures port.new)) }
+    ensures err { OnErr result (node.new ≡ node.old) }
+    ensures not_sent { P.sent port.new ≡ P.sent port.old }
+    ensures no_fault { OnOk result (P.failures port.new ≡ P.failures port.old) }
+    ensures pace_kept { OnErr result (pace.new ≡ pace.old) }
+{
     let due = acts::<A, N>(node, now) || pace.is_due(now);
-    let turned = turn_by::<A, P, N>(alloc, port, node, due, now, draw)?;
-    *pace = pace.after(now, turned.received);
-    Ok(turned)
+    let stepped = step_by::<A, P, N>(alloc, port, node, due, now, draw)?;
+    *pace = pace.after(now, stepped.received);
+    Ok(stepped)
 }
 
 // Whether something of the node's own is due at this moment: its first deadline isn't above it.
@@ -92,52 +122,40 @@ fn acts<A: Ciphers, N: Node<A>>(node: &N, now: Moment) -> bool
     }
 }
 
-// A turn that is a tick, or that takes what came.
-fn turn_by<A: Ciphers, P: Port, N: Node<A>>(
+// A step that is a tick, or that takes what came.
+fn step_by<A: Ciphers, P: Port, N: Node<A>>(
     alloc: Global,
     port: &mut P,
     node: &mut N,
     due: bool,
     now: Moment,
     draw: &Draw,
-) -> Result<Turned, TurnError>
-    ensures done { IfOk result (λ turned. (came : Option Received)
+) -> Result<Stepped, TurnError>
+    ensures done { IfOk result (λ stepped. (came : Option Received)
         × CameIn due came (P.received port.old) (P.received port.new)
-        × (turned.received ≡ is_some came)
-        × N.is_step node.old (cause_of now draw.now came) turned.step node.new
-        × (P.sent port.new ≡ grown (P.sent port.old) turned.step.out)) }
-    ensures fault { IfOk result (λ turned. CountsFault turned.fault (P.failures port.old) (P.failures port.new)) }
+        × (stepped.received ≡ is_some came)
+        × N.is_step node.old (cause_of now draw.now came) stepped.step node.new) }
     ensures refused { IfErr result (λ error. IsRefusedIn due error
         (P.received port.old) (P.received port.new) (P.failures port.old) (P.failures port.new)) }
     ensures err { OnErr result (node.new ≡ node.old) }
-    ensures not_sent { OnErr result (P.sent port.new ≡ P.sent port.old) }
+    ensures not_sent { P.sent port.new ≡ P.sent port.old }
+    ensures no_fault { OnOk result (P.failures port.new ≡ P.failures port.old) }
 {
     if due {
-        Ok(ticked::<A, P, N>(alloc, port, node, now, draw))
+        Ok(ticked::<A, N>(alloc, node, now, draw))
     } else {
-        turn::<A, P, N>(alloc, port, node, now, draw)
+        step_on_receipt::<A, P, N>(alloc, port, node, now, draw)
     }
 }
 
-// A turn that is a tick: the port isn't asked for what came.
-fn ticked<A: Ciphers, P: Port, N: Node<A>>(
-    alloc: Global,
-    port: &mut P,
-    node: &mut N,
-    now: Moment,
-    draw: &Draw,
-) -> Turned
+// A step that is a tick: no port is asked for what came.
+fn ticked<A: Ciphers, N: Node<A>>(alloc: Global, node: &mut N, now: Moment, draw: &Draw) -> Stepped
     ensures ticks { N.is_step node.old (cause_of now draw.now None) result.step node.new }
-    ensures sent { P.sent port.new ≡ grown (P.sent port.old) result.step.out }
     ensures nothing { result.received ≡ false }
-    ensures fault { CountsFault result.fault (P.failures port.old) (P.failures port.new) }
-    ensures not_asked { P.received port.new ≡ P.received port.old }
 {
     let step = node.tick(alloc, now, draw);
-    let fault = send_all(port, step.out.as_slice());
-    Turned {
+    Stepped {
         received: false,
         step,
-        fault,
     }
 }

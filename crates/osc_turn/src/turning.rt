@@ -1,5 +1,5 @@
 //! One turn of a node at its port.
-ghost use Rattle.std.specs.Prelude.{◌≡◌, ◌≤◌, ◌∷◌, [], Option, IfErr, IfOk, IfSome, IsErr, IsSome, OnErr, is_some};
+ghost use Rattle.std.specs.Prelude.{◌≡◌, ◌≤◌, ◌∷◌, [], Option, IfErr, IfOk, IfSome, IsErr, IsSome, OnErr, OnOk, is_some};
 ghost use Rattle.osc_turn.specs.Ports.{CountsFault, Received, cause_of, grown, received_in};
 ghost use Rattle.osc_turn.specs.Turns.{IsRefusedBy};
 
@@ -19,6 +19,15 @@ pub struct Turned {
     pub step: Step,
     /// Of the sends that failed, the first one's fault. Their datagrams are lost; the step stands, and all others were sent.
     pub fault: Option<PortFault>,
+}
+
+/// A step that was made, of which nothing was sent yet.
+#[derive(Debug, Drop)]
+pub struct Stepped {
+    /// Whether a datagram came; else the step is that of a tick.
+    pub received: bool,
+    /// The step.
+    pub step: Step,
 }
 
 /// One turn: receives at most one datagram (none gives a tick), makes one step and sends its datagrams in order, each once.
@@ -44,18 +53,52 @@ pub fn turn<A: Ciphers, P: Port, N: Node<A>>(
     ensures err { OnErr result (node.new ≡ node.old) }
     ensures not_sent { OnErr result (P.sent port.new ≡ P.sent port.old) }
 {
+    let stepped = step_on_receipt::<A, P, N>(alloc, port, node, now, draw)?;
+    Ok(send_step(port, stepped))
+}
+
+/// The first half of a turn: receives at most one datagram, and makes one step. Nothing is sent.
+pub(crate) fn step_on_receipt<A: Ciphers, P: Port, N: Node<A>>(
+    alloc: Global,
+    port: &mut P,
+    node: &mut N,
+    now: Moment,
+    draw: &Draw,
+) -> Result<Stepped, TurnError>
+    ensures done { IfOk result (λ stepped. (came : Option Received)
+        × (P.received port.new ≡ grown (P.received port.old) (came ∷ []))
+        × (stepped.received ≡ is_some came)
+        × N.is_step node.old (cause_of now draw.now came) stepped.step node.new) }
+    ensures refused { IfErr result (λ error. IsRefusedBy error (P.received port.old) (P.received port.new) (P.failures port.old) (P.failures port.new)) }
+    ensures err { OnErr result (node.new ≡ node.old) }
+    ensures not_sent { P.sent port.new ≡ P.sent port.old }
+    ensures no_fault { OnOk result (P.failures port.new ≡ P.failures port.old) }
+{
     let mut buffer = [0; 1153];
     let got = port.receive(&mut buffer)?;
     match step_of::<A, N>(alloc, node, now, draw, &buffer, got) {
-        Ok(step) => {
-            let fault = send_all(port, step.out.as_slice());
-            Ok(Turned {
-                received: got.is_some(),
-                step,
-                fault,
-            })
-        }
+        Ok(step) => Ok(Stepped {
+            received: got.is_some(),
+            step,
+        }),
         Err(_) => Err(TurnError::Memory),
+    }
+}
+
+/// The second half of a turn: sends the step's datagrams in order, each once.
+pub fn send_step<P: Port>(port: &mut P, stepped: Stepped) -> Turned
+    ensures step { result.step ≡ stepped.step }
+    ensures received { result.received ≡ stepped.received }
+    ensures sent { P.sent port.new ≡ grown (P.sent port.old) stepped.step.out }
+    ensures not_received { P.received port.new ≡ P.received port.old }
+    ensures fault { CountsFault result.fault (P.failures port.old) (P.failures port.new) }
+{
+    let Stepped { received, step } = stepped;
+    let fault = send_all(port, step.out.as_slice());
+    Turned {
+        received,
+        step,
+        fault,
     }
 }
 

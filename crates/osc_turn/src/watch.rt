@@ -6,7 +6,7 @@ ghost use Rattle.osc_turn.specs.ClockAndRandom.{one_more};
 use std::io;
 use std::time::{Clock, Duration};
 
-/// What tells the time since 1970.
+/// What tells the time since 1970, with the signature of std's `Clock`. Contracts see each reading, where it tells that.
 pub trait Watch {
     // The nanoseconds that it told so far, one reading after another, where contracts can see them.
     ghost told: { Self → Option (List ℕ) };

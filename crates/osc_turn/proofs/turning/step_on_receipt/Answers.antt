@@ -1,7 +1,7 @@
 -- What is lost came.
 use Rattle.std.proofs.Common.{ap, is_err}
 use Rattle.osc_turn.proofs.Lost.{has_lost}
-use Rattle.osc_turn.proofs.turning.turn.Goals as goal
+use Rattle.osc_turn.proofs.turning.step_on_receipt.Goals as goal
 
 pub returns-in-Err-clause-refused : goal.returns-in-Err-clause-refused
 returns-in-Err-clause-refused g c =
