@@ -1,5 +1,6 @@
 -- A store that keeps a tree.
 use Rattle.std.specs.Prelude.{◌≡◌, ◌⊎◌, ◌≤◌, false, true, Bool, IsTrue, ℕ, List, Some, None}
+use Rattle.std.proofs.Common.{inl}
 use Rattle.std.specs.FinMap as finmap
 use Rattle.sqlite_value.specs.Keys.{plain}
 use Rattle.sqlite_value.specs.Order.{Row}
@@ -49,6 +50,13 @@ module _ {S : Type 0} (view : S → View) (recovers : S → Trees → Type 0) wh
   pub record MayHold (s : S) (before after : Tree) : Type 0 where
     pub numbered : IsTrue (view s).is_numbered
     pub left : (db : Trees) → recovers s db → ListsTable db × (Holds db before ⊎ Holds db after)
+
+  -- a store that keeps a tree holds one of two, if the tree is the first
+  pub may_hold_first : (s : S) (before after : Tree) → Keeps s before → MayHold s before after
+  may_hold_first s before after keeps = record {
+    numbered = keeps.ready.numbered;
+    left = λ db recovered. let held = keeps.left db recovered in (held.0, inl held.1);
+  }
 
   -- no wrong answer of the disk is forgotten, nor a failure, and a crash leaves nothing new
   pub record AddsNone (faults : S → ℕ) (old new : S) : Type 0 where

@@ -3,7 +3,7 @@ ghost use Rattle.std.specs.Prelude.{◌≡◌, OnOk, option_copied, ⊤};
 ghost use Rattle.osc_model.specs.Tree.{Tree as AnyTree};
 ghost use Rattle.osc_store.specs.Rows.{changed};
 ghost use Rattle.sqlite_trees.specs.View.{IsClean};
-ghost use Rattle.osc_store.specs.Keeping.{Keeps, MayHold};
+ghost use Rattle.osc_store.specs.Keeping.{Keeps, MayHold, may_hold_first};
 
 use crate::error::KeepError;
 use crate::keeping::keep;
@@ -24,6 +24,9 @@ pub trait Keeping {
     fn keep(&mut self, path: &Path, resource: Option<&Resource>) -> Result<(), KeepError>
         ensures kept { (tree : AnyTree) → keeps self.old tree → OnOk result (keeps self.new (changed tree path.now (option_copied resource.entry))) }
         ensures crash { (tree : AnyTree) → keeps self.old tree → may_hold self.new tree (changed tree path.now (option_copied resource.entry)) };
+
+    // What keeps a tree holds one of two, if the tree is the first.
+    ghost holds_first: { (it : Self) (before after : AnyTree) → keeps it before → may_hold it before after };
 }
 
 /// For a client, a proxy, and a server whose resources end with the process: nothing is kept, and nothing is said of a crash.
@@ -38,6 +41,8 @@ impl Keeping for Forgetful {
     fn keep(&mut self, _path: &Path, _resource: Option<&Resource>) -> Result<(), KeepError> {
         Ok(())
     }
+
+    ghost holds_first = { λ it before after keeps. tt };
 }
 
 /// A store, and room for the row that is written. What it keeps is said as long as no wrong answer of the disk was taken as true.
@@ -55,6 +60,14 @@ impl<S: Store> Keeper<S> {
         let row = Row::new(alloc);
         Keeper { store, row }
     }
+
+    /// Gives the store back.
+    pub fn into_store(self) -> S
+        ensures { result ≡ self.store }
+    {
+        let Keeper { store, row: _ } = self;
+        store
+    }
 }
 
 impl<S: Store> Keeping for Keeper<S> {
@@ -65,4 +78,6 @@ impl<S: Store> Keeping for Keeper<S> {
     fn keep(&mut self, path: &Path, resource: Option<&Resource>) -> Result<(), KeepError> {
         keep(&mut self.store, &mut self.row, path, resource)
     }
+
+    ghost holds_first = { λ it before after keeps clean. may_hold_first S.Store.view S.Store.recovers it.store before after (keeps clean) };
 }
