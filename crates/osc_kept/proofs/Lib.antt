@@ -1,0 +1,4 @@
+pub mod ChangeLemmas
+pub mod LifeLemmas
+pub mod CutLemmas
+pub mod Grown

@@ -1,0 +1,7 @@
+-- Definitions that the contracts cite.
+pub mod Changes
+pub mod Turns
+pub mod Lives
+pub use Changes.{DifferAt, IsChangeOf, path_asked, path_changed, tells_change}
+pub use Lives.{Cut, IsLived, Notes, StartsOver}
+pub use Turns.{Stands}
