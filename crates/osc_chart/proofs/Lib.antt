@@ -1,0 +1,3 @@
+pub mod Lines
+pub mod Sums
+pub mod Pieces

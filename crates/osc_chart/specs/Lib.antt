@@ -1,0 +1,13 @@
+pub mod Chart
+pub mod Drawing
+pub mod Capture
+pub mod Label
+pub mod Text
+pub mod Keys
+pub mod Picture
+pub use Chart.{column_of}
+pub use Label.{label}
+pub use Text.{chart_text}
+pub use Capture.{capture}
+pub use Keys.{key_line}
+pub use Picture.{picture}
