@@ -20,6 +20,9 @@ use key_expansion::{Keys, key_expansion};
 use std::marker::Model;
 
 /// A key of AES-128, expanded. Contracts see it as the 16 bytes of the key.
+///
+/// A block goes through 16 lanes: a byte is looked up by shuffles within a register, in the field of 16 elements (M. Hamburg's form of
+/// AES). So no table in memory is read at a place that depends on key or text. No contract speaks of that.
 #[derive(Drop)]
 pub struct Aes128 {
     keys: Keys,

@@ -43,7 +43,8 @@ impl<T: Drop, A: Allocator> Loose<T, A> {
     }
 }
 
-/// A value behind a pointer, or nothing where the pointer is null.
+/// A value behind a pointer, or nothing where the pointer is null. The pointer is erased (`*mut ()`): C is handed no type that holds
+/// what may be shared.
 pub(crate) struct Handle<T> {
     pub(crate) at: *mut T,
     pub(crate) alloc: Global,

@@ -7,7 +7,7 @@ ghost use Rattle.osc_cbor.specs.Parts as part;
 
 use crate::same::same;
 
-/// A data item (RFC 8949 section 2) of the subset.
+/// A data item (RFC 8949 section 2) of the subset, with parts of its own. An `ItemRef` is one that is read in its bytes.
 #[derive(Debug, Drop)]
 pub enum Item {
     /// A number from 0.

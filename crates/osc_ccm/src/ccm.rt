@@ -14,6 +14,9 @@ use std::marker::Model;
 /// AES-CCM under one key, with a tag of `TAG` bytes. It is a cipher (an `Aead`) for tags of 8 and
 /// of 16 bytes: COSE's AES-CCM-16-64-128, algorithm 10, and AES-CCM-16-128-128, algorithm 30 (RFC
 /// 9053 section 4.2). Contracts see it as its key.
+///
+/// Two blocks are encrypted at once: a step of the CBC-MAC and a block of the key stream. Opening writes nothing before the tag is
+/// found right.
 #[derive(Drop)]
 pub struct Ccm<const TAG: usize> {
     cipher: Aes128,

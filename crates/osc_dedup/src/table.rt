@@ -221,6 +221,9 @@ fn make_ready(
 }
 
 /// The messages that were noted lately, at most 64, the oldest first. Contracts see the list of its entries.
+///
+/// They are in one of two `IndexMap`s, and the other is empty: a map regains the room of removed entries only where most of them go at
+/// once, so the entries move once in 64 notes.
 #[derive(Drop)]
 pub struct Duplicates {
     // The entries, behind the keys of those that went.

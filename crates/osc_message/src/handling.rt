@@ -11,7 +11,7 @@ use osc_coap::{Kind, MessageRef};
 use osc_dedup::{Duplicates, Noted};
 use osc_model::{Bytes, Moment, Peer};
 
-/// What a node made of a message that was new.
+/// What a node made of a message that was new. The message layer knows no tokens: by this it settles what it heard.
 #[derive(Clone, Debug, PartialEq, Eq, Drop)]
 pub enum Handling {
     /// It was ignored, or rejected by a Reset: nothing is noted, and it is new again when it comes again.

@@ -26,6 +26,8 @@ fn moved_up(bits: u64, places: u64) -> u64
 
 /// The replay window of a context (RFC 8613 sections 3.2.2 and 7.4): which numbers were accepted, as far as that still
 /// counts. Contracts see the rising list of the accepted numbers that are less than the width below the greatest.
+///
+/// It is kept as the greatest accepted number, and a bit for each of the 64 numbers up to it.
 #[derive(Drop)]
 pub struct Window {
     /// The greatest accepted number; 0 before any is accepted.
