@@ -1,0 +1,97 @@
+# Completion of osc for bash: `source completion/osc.bash`, or copy it to /usr/share/bash-completion/completions/osc.
+# What is between the marks `words:` is written by `python3 scripts/words --write`, from the program's help.
+
+# words: words
+declare -gA _osc_words=(
+    ["osc"]="sim token key server proxy client lab help --help -h --version -V"
+    ["sim"]="--bytes --lines --only --help -h"
+    ["token"]="--key --key-file --aud --id --secret --secret-file --scope --salt --context --alg --exp --for --nbf --iv --help -h"
+    ["key"]="--help -h"
+    ["server"]="--config --check --turns --log --help -h"
+    ["proxy"]="--config --check --turns --log --help -h"
+    ["client"]="--turns --timeout --method --path --payload --text --payload-file --format --config --raw --check --help -h"
+    ["lab"]="--turns --help -h"
+    ["help"]="sim token key server proxy client lab"
+)
+# words: end
+
+# words: values
+declare -gA _osc_values=(
+    ["sim --only"]=CLIENT
+    ["token --key"]=HEX
+    ["token --key-file"]=FILE
+    ["token --aud"]=TEXT
+    ["token --id"]=HEX
+    ["token --secret"]=HEX
+    ["token --secret-file"]=FILE
+    ["token --scope"]=TEXT
+    ["token --salt"]=HEX
+    ["token --context"]=HEX
+    ["token --alg"]=N
+    ["token --exp"]=N
+    ["token --for"]=TIME
+    ["token --nbf"]=N
+    ["token --iv"]=HEX
+    ["server --config"]=FILE
+    ["server --turns"]=N
+    ["proxy --config"]=FILE
+    ["proxy --turns"]=N
+    ["client --turns"]=N
+    ["client --timeout"]=SECONDS
+    ["client --method"]=METHOD
+    ["client --path"]=PATH
+    ["client --payload"]=HEX
+    ["client --text"]=TEXT
+    ["client --payload-file"]=FILE
+    ["client --format"]=N
+    ["client --config"]=FILE
+    ["lab --turns"]=N
+)
+# words: end
+
+# _osc_offer WORDS: those of the words that begin as the last word does.
+_osc_offer() {
+    mapfile -t COMPREPLY < <(compgen -W "$1" -- "${COMP_WORDS[COMP_CWORD]}")
+}
+
+# _osc_left WORDS: the words that don't stand on the line yet. No option may stand there twice.
+_osc_left() {
+    local word
+    for word in $1; do
+        if [[ " ${COMP_WORDS[*]:0:COMP_CWORD} " != *" $word "* ]]; then printf '%s ' "$word"; fi
+    done
+}
+
+# _osc_files: the files whose names begin as the last word does.
+_osc_files() {
+    compopt -o filenames 2>/dev/null
+    mapfile -t COMPREPLY < <(compgen -f -- "${COMP_WORDS[COMP_CWORD]}")
+}
+
+_osc() {
+    local command=${COMP_WORDS[1]-} before=${COMP_WORDS[COMP_CWORD - 1]} last=${COMP_WORDS[COMP_CWORD]}
+    COMPREPLY=()
+    if [ "$COMP_CWORD" = 1 ]; then
+        _osc_offer "${_osc_words[osc]}"
+        return
+    fi
+    case "$command $before" in
+    'client --method') _osc_offer 'GET POST PUT DELETE' ;;
+    'sim --only') _osc_offer 'c1 c2 c3 c4 c5 c6 c7 c8 c9' ;;
+    'token --alg') _osc_offer '10 30' ;;
+    *)
+        case ${_osc_values["$command $before"]-} in
+        FILE) _osc_files ;;
+        '')
+            if [ "${_osc_values["$command"]-}" = FILE ] && [[ $last != -* ]]; then
+                _osc_files
+            else
+                _osc_offer "$(_osc_left "${_osc_words["$command"]-}")"
+            fi
+            ;;
+        esac
+        ;;
+    esac
+}
+
+complete -F _osc osc
