@@ -1,3 +1,0 @@
--- What private functions owe one another; no public contract rests on it.
-pub mod Objects
-pub mod Building
