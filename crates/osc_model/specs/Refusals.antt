@@ -160,3 +160,7 @@ unverified = 36
 -- the call isn't one for now
 abbrev pub not_now : ℕ
 not_now = 37
+
+-- a token is revoked
+abbrev pub revoked : ℕ
+revoked = 38

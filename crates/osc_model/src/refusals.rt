@@ -110,3 +110,6 @@ pub const UNVERIFIED: u8 = 36;
 
 /// The call isn't one for now.
 pub const NOT_NOW: u8 = 37;
+
+/// A token is revoked.
+pub const REVOKED: u8 = 38;
