@@ -1,10 +1,11 @@
 -- What becomes of the contexts in a desk's table.
-use Rattle.std.proofs.Common.{◌≡◌, ◌≢◌, ◌⊎◌, ℕ, ◌/◌, ◌≤◌, ◌<◌, Bool, true, false, cond, ◌&&◌, ◌||◌, nat_le, nat_lt, List, [], ◌∷◌, ◌++◌, map, Option, Some, None, option_map, bytes_eq, refl, sym, ap, ap₂, ◌∙◌, inl, inr, ⊎_elim, subst, le-leb, lt-ltb}
+use Rattle.std.proofs.Common.{◌≡◌, ◌≢◌, ◌⊎◌, ℕ, ◌/◌, ◌≤◌, ◌<◌, Bool, true, false, cond, ◌&&◌, ◌||◌, nat_le, nat_lt, List, [], ◌∷◌, ◌++◌, map, Option, Some, None, option_map, bytes_eq, refl, sym, ap, ap₂, ◌∙◌, inl, inr, ⊎_elim, subst, le-leb, lt-ltb, not}
 use Rattle.std.specs.Option.{option_map_or, ForSome}
 use Rattle.std.proofs.lemmas.List.{map-append}
 use Rattle.std.specs.List.{IsDistinct}
 use Rattle.std.proofs.lemmas.Slice.Eq.{bytes_eq-Decides}
-use Rattle.osc_model.specs.declared.node.Moment.{Moment}
+use Rattle.osc_model.specs.{stands as stands_at}
+use Rattle.osc_authz.specs.Standing.{Standing}
 use Rattle.osc_authz.specs.SecurityContext.{SecurityContext}
 use Rattle.osc_authz.specs.{listed, contexts, is_live, holds_live, alive, has_id, taking, accepted_in, accepted, with_pending, IsTable, In, OfToken, pending_of, of_token, of_tokens, IsConfirmedOf, IsPendingOf, confirmed_by, IsLive, AreKept, HasAdded, HasTaken}
 use Rattle.osc_authz.specs.declared.token_entry.TokenEntry.{TokenEntry}
@@ -114,17 +115,18 @@ one_holding table g h is_table m n e = one_of_text (λ (x : TokenEntry). x.id) t
 
 -- ---- those that live
 
-live_test : (begins ends : Option ℕ) (t : ℕ) → ForSome begins (λ s. s ≤ t) → ForSome ends (λ s. t < s) → (option_map_or (λ s. nat_le s t) begins true && option_map_or (λ s. nat_lt t s) ends true) ≡ true
-live_test None None t b e = refl
-live_test None (Some end) t b e = lt-ltb t end (e end refl)
-live_test (Some begin) None t b e = let one : nat_le begin t ≡ true = le-leb begin t (b begin refl) in rw one refl
-live_test (Some begin) (Some end) t b e =
+live_test : (begins ends : Option ℕ) (t : ℕ) (revoked : Bool) → ForSome begins (λ s. s ≤ t) → ForSome ends (λ s. t < s) → revoked ≡ false
+    → (option_map_or (λ s. nat_le s t) begins true && option_map_or (λ s. nat_lt t s) ends true && not revoked) ≡ true
+live_test None None t revoked b e r = rw r refl
+live_test None (Some end) t revoked b e r = let one : nat_lt t end ≡ true = lt-ltb t end (e end refl) in rw (one, r) refl
+live_test (Some begin) None t revoked b e r = let one : nat_le begin t ≡ true = le-leb begin t (b begin refl) in rw (one, r) refl
+live_test (Some begin) (Some end) t revoked b e r =
     let one : nat_le begin t ≡ true = le-leb begin t (b begin refl) in
     let two : nat_lt t end ≡ true = lt-ltb t end (e end refl) in
-    rw (one, two) refl
+    rw (one, two, r) refl
 
-lives : (now : Moment) (c : SecurityContext) → IsLive now c → is_live now c ≡ true
-lives now c live = live_test c.not_before c.expires (now.ms / 1000) live.begun live.not_over
+lives : (now : Standing) (c : SecurityContext) → IsLive now c → is_live now c ≡ true
+lives now c live = live_test c.not_before c.expires (now.at.ms / 1000) (stands_at now.tree c.revocation) live.begun live.not_over live.unrevoked
 
 first_or : (a b : Bool) → a ≡ true → (a || b) ≡ true
 first_or true b e = refl
@@ -135,22 +137,22 @@ second_or true b e = refl
 second_or false b e = e
 
 -- an entry with a context that lives
-holds : (now : Moment) (d : SecurityContext) (h : TokenEntry) (b : Bool) → is_live now d ≡ true → slot b h ≡ Some d → holds_live now h ≡ true
+holds : (now : Standing) (d : SecurityContext) (h : TokenEntry) (b : Bool) → is_live now d ≡ true → slot b h ≡ Some d → holds_live now h ≡ true
 holds now d h true live e = first_or (option_map_or (is_live now) h.confirmed false) (option_map_or (is_live now) h.pending false) (ap (λ (o : Option SecurityContext). option_map_or (is_live now) o false) e ∙ live)
 holds now d h false live e = second_or (option_map_or (is_live now) h.confirmed false) (option_map_or (is_live now) h.pending false) (ap (λ (o : Option SecurityContext). option_map_or (is_live now) o false) e ∙ live)
 
-of_alive : (now : Moment) (table : List TokenEntry) (c : OfToken) → In c (of_tokens (alive now table)) → In c (of_tokens table)
+of_alive : (now : Standing) (table : List TokenEntry) (c : OfToken) → In c (of_tokens (alive now table)) → In c (of_tokens table)
 of_alive now table c m =
     let s = stands (alive now table) c m in
     stood table c (record { entry = s.entry; among = (in_filter (holds_live now) table s.entry s.among).0; token = s.token; here = s.here })
 
-is_alive : (now : Moment) (table : List TokenEntry) (c : OfToken) → In c (of_tokens table) → IsLive now c.held → In c (of_tokens (alive now table))
+is_alive : (now : Standing) (table : List TokenEntry) (c : OfToken) → In c (of_tokens table) → IsLive now c.held → In c (of_tokens (alive now table))
 is_alive now table c m live =
     let s = stands table c m in
     let its = holds now c.held s.entry c.is_confirmed (lives now c.held live) s.here in
     stood (alive now table) c (record { entry = s.entry; among = filtered_in (holds_live now) table s.entry s.among its; token = s.token; here = s.here })
 
-pub kept : (now : Moment) (table : List TokenEntry) → AreKept now (of_tokens table) (of_tokens (alive now table))
+pub kept : (now : Standing) (table : List TokenEntry) → AreKept now (of_tokens table) (of_tokens (alive now table))
 kept now table = record { only = of_alive now table; live = is_alive now table }
 
 -- ---- one more
@@ -263,7 +265,7 @@ module _ (token : List ℕ) (held : SecurityContext) where
       inl (stood (with_pending token held table) c (record { entry = r.new; among = r.among; token = s.token ∙ sym r.id; here = ap (λ b. slot b r.new) k ∙ e ∙ sym (ap (λ b. slot b s.entry) k) ∙ s.here })))
       r.pending
 
-  pub table_added : (now : Moment) (table : List TokenEntry) → IsTable (with_pending token held (alive now table))
+  pub table_added : (now : Standing) (table : List TokenEntry) → IsTable (with_pending token held (alive now table))
       → HasAdded now token held (of_tokens table) (of_tokens (with_pending token held (alive now table)))
   table_added now table is_table = record {
     only = λ c m. ⊎_elim (λ (e : c ≡ pending_of token held). inl e) (λ (i : In c (of_tokens (alive now table))). inr (of_alive now table c i)) (only_one (alive now table) c m);
@@ -408,7 +410,7 @@ module _ (number : ℕ) (x : OfToken) (table : List TokenEntry) (is_table : IsTa
       o)
       (others_stay id number h c.held c.is_confirmed s.here (tested id number h.pending) refl (tested id number h.confirmed) refl)
 
-  pub table_taken : (now : Moment) → HasTaken now number x (of_tokens table) (of_tokens (accepted id number table))
+  pub table_taken : (now : Standing) → HasTaken now number x (of_tokens table) (of_tokens (accepted id number table))
   table_taken now = record {
     only = only;
     here = is_after (confirmed_by number x) place.entry place.among place.token confirmed;

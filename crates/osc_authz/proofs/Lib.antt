@@ -9,6 +9,7 @@ mod PayloadLemmas
 mod AnswerLemmas
 mod FinishLemmas
 mod PostLemmas
+mod OpenLemmas
 mod OutcomeLemmas
 mod ExchangeLemmas
 mod AgreementLemmas

@@ -10,7 +10,7 @@ use Rattle.std.proofs.lemmas.List.Quantifiers.{position-Some}
 use Rattle.std.proofs.lemmas.List.Sums.{fails_before_first}
 use Rattle.std.proofs.lemmas.Map.Made.{is_member-Decides}
 use Rattle.std.proofs.lemmas.Slice.Eq.{bytes_eq-Decides}
-use Rattle.osc_model.specs.declared.node.Moment.{Moment}
+use Rattle.osc_authz.specs.Standing.{Standing}
 use Rattle.osc_authz.specs.declared.token_entry.TokenEntry.{TokenEntry}
 use Rattle.osc_authz.specs.SecurityContext.{SecurityContext}
 use Rattle.osc_authz.specs.Inner.Marks.{AddsMarks, is_among, is_marked}
@@ -29,7 +29,7 @@ among_more (x ∷ xs) rest byte =
     ap (λ b. bytes_eq (byte ∷ []) x.name.client_id || b) (among_more xs rest byte)
     ∙ sym (or_assoc (bytes_eq (byte ∷ []) x.name.client_id) (is_among (map (λ context. context.name.client_id) (xs ++ [])) byte) (is_among (map (λ context. context.name.client_id) rest) byte))
 
-pub staying_more : (now : Moment) (token : List ℕ) (entry : TokenEntry) (table : List TokenEntry) (byte : ℕ)
+pub staying_more : (now : Standing) (token : List ℕ) (entry : TokenEntry) (table : List TokenEntry) (byte : ℕ)
     → is_among (ids (without_pending token (alive now (entry ∷ table)))) byte
     ≡ (is_among (ids (without_pending token (alive now (entry ∷ [])))) byte || is_among (ids (without_pending token (alive now table))) byte)
 staying_more now token entry table byte = by (holds_live now entry)
@@ -46,7 +46,7 @@ staying_more now token entry table byte = by (holds_live now entry)
     by false = refl
 
 -- what is yet to be marked, once one more entry has been gone over
-pub marked_more : (now : Moment) (token : List ℕ) (table : List TokenEntry) (i : ℕ) (entry : TokenEntry) (byte : ℕ) (old new all : Bool)
+pub marked_more : (now : Standing) (token : List ℕ) (table : List TokenEntry) (i : ℕ) (entry : TokenEntry) (byte : ℕ) (old new all : Bool)
     → i < length table → entry ≡ get_or table i entry
     → new ≡ (is_among (ids (without_pending token (alive now (entry ∷ [])))) byte || old)
     → (is_among (ids (without_pending token (alive now (drop i table)))) byte || old) ≡ all
@@ -102,7 +102,7 @@ least_is_free client_id others one all byte first then size found = record {
     marked = all_marked client_id others one all first then
 
 -- A table has too few contexts for all bytes to be marked.
-pub one_is_unmarked : (now : Moment) (token client_id : List ℕ) (table : List TokenEntry) (one all : List Bool) → IsTable table
+pub one_is_unmarked : (now : Standing) (token client_id : List ℕ) (table : List TokenEntry) (one all : List Bool) → IsTable table
     → AddsMarks (client_id ∷ []) (replicate 256 false) one → AddsMarks (ids (without_pending token (alive now table))) one all → length all ≡ 256
     → position not all ≡ None → ⊥
 one_is_unmarked now token client_id table one all is_table first then size none =

@@ -1,9 +1,10 @@
 -- The context that a request means, and those with one recipient ID.
-use Rattle.std.proofs.Common.{◌≡◌, ℕ, ◌/◌, ◌≤◌, ◌<◌, Bool, true, false, cond, if◌then◌else◌, ◌&&◌, nat_le, nat_lt, List, [], ◌∷◌, find, Option, Some, None, refl, sym, ap, ◌∙◌, inl, inr, subst, leb-true, ltb-true}
+use Rattle.std.proofs.Common.{◌≡◌, ℕ, ◌/◌, ◌≤◌, ◌<◌, Bool, true, false, cond, if◌then◌else◌, not, ◌&&◌, nat_le, nat_lt, List, [], ◌∷◌, find, Option, Some, None, refl, sym, ap, ◌∙◌, inl, inr, subst, leb-true, ltb-true}
 use Rattle.std.specs.Option.{option_map_or, ForSome}
 use Rattle.std.proofs.lemmas.Bool.{and_parts}
 use Rattle.std.proofs.lemmas.Slice.Eq.{bytes_eq-Decides}
-use Rattle.osc_model.specs.declared.node.Moment.{Moment}
+use Rattle.osc_model.specs.{stands}
+use Rattle.osc_authz.specs.Standing.{Standing}
 use Rattle.osc_authz.specs.{OfToken, of_tokens, IsLive, In, contexts, has_id, is_live, is_named, if_meant, meant}
 use Rattle.osc_authz.specs.SecurityContext.{SecurityContext}
 use Rattle.osc_authz.specs.declared.token_entry.TokenEntry.{TokenEntry}
@@ -30,8 +31,12 @@ live_tested begins ends t b e = (one begins b, two ends e)
     two None h s is = absurd (cc)
     two (Some n) h s is = let same : n ≡ s = cc in subst (λ (x : ℕ). t < x) same (ltb-true t n h)
 
+unless : (b : Bool) → not b ≡ true → b ≡ false
+unless true e = cc
+unless false e = refl
+
 -- the context is held, lives and has the ID
-held_is : (now : Moment) (kid : List ℕ) (kid_context : Option (List ℕ)) (table : List TokenEntry) (c : SecurityContext) → meant now kid kid_context table ≡ Some c
+held_is : (now : Standing) (kid : List ℕ) (kid_context : Option (List ℕ)) (table : List TokenEntry) (c : SecurityContext) → meant now kid kid_context table ≡ Some c
     → In c (contexts table) × IsLive now c × (c.name.client_id ≡ kid)
 held_is now kid kid_context table c e = by (find (has_id kid) (contexts table)) refl e
   where
@@ -44,12 +49,14 @@ held_is now kid kid_context table c e = by (find (has_id kid) (contexts table)) 
     by (Some d) is e =
         let p = passed d (is_live now d && is_named kid_context d) refl e in
         let f = found (has_id kid) (contexts table) c (is ∙ ap (λ (x : SecurityContext). Some x) p.0) in
-        let parts = and_parts (option_map_or (λ s. nat_le s (now.ms / 1000)) c.not_before true) (option_map_or (λ s. nat_lt (now.ms / 1000) s) c.expires true) (ap (is_live now) (sym p.0) ∙ p.1) in
-        let live = live_tested c.not_before c.expires (now.ms / 1000) parts.0 parts.1 in
-        (f.0, record { begun = live.0; not_over = live.1 }, sym ((bytes_eq-Decides kid c.name.client_id).0 f.1))
+        let seconds = now.at.ms / 1000 in
+        let rest = and_parts (option_map_or (λ s. nat_le s seconds) c.not_before true && option_map_or (λ s. nat_lt seconds s) c.expires true) (not (stands now.tree c.revocation)) (ap (is_live now) (sym p.0) ∙ p.1) in
+        let parts = and_parts (option_map_or (λ s. nat_le s seconds) c.not_before true) (option_map_or (λ s. nat_lt seconds s) c.expires true) rest.0 in
+        let live = live_tested c.not_before c.expires seconds parts.0 parts.1 in
+        (f.0, record { begun = live.0; not_over = live.1; unrevoked = unless (stands now.tree c.revocation) rest.1 }, sym ((bytes_eq-Decides kid c.name.client_id).0 f.1))
 
 -- the same of the context of its token id
-pub meant_is : (now : Moment) (kid : List ℕ) (kid_context : Option (List ℕ)) (table : List TokenEntry) (held : SecurityContext) → meant now kid kid_context table ≡ Some held
+pub meant_is : (now : Standing) (kid : List ℕ) (kid_context : Option (List ℕ)) (table : List TokenEntry) (held : SecurityContext) → meant now kid kid_context table ≡ Some held
     → (c : OfToken) × In c (of_tokens table) × (c.held ≡ held) × IsLive now held × (held.name.client_id ≡ kid)
 meant_is now kid kid_context table held e =
     let h = held_is now kid kid_context table held e in

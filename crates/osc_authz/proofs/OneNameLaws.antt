@@ -1,8 +1,8 @@
 -- A post that is answered 2.01, and the name that both ends have by it.
-use Rattle.std.proofs.Common.{◌≡◌, ◌≢◌, ℕ, ◌<◌, ◌≤◌, ◌^◌, List, [], ◌∷◌, length, Option, Some, None, Result, Ok, Err, refl, sym, ap, ◌∙◌, subst, arith, length-take}
+use Rattle.std.proofs.Common.{◌≡◌, ◌≢◌, ℕ, ◌<◌, ◌≤◌, ◌^◌, List, [], ◌∷◌, length, Option, Some, None, Result, Ok, Err, refl, sym, ap, ◌∙◌, inl, inr, subst, arith, length-take}
 use Rattle.std.specs.Prelude.{IfSome}
 use Rattle.std.specs.Option.{ForSome}
-use Rattle.osc_model.specs.{code, nonce_drawn}
+use Rattle.osc_model.specs.{code, nonce_drawn, revocation_of}
 use Rattle.osc_model.specs.Scope.{Scope}
 use Rattle.osc_model.specs.declared.context.ContextName.{ContextName}
 use Rattle.osc_model.specs.declared.node.Draw.{Draw}
@@ -13,11 +13,12 @@ use Rattle.osc_cose.specs.{enc_structure, object_item}
 use Rattle.osc_scope.specs.{Entry, IsScope, scope_of}
 use Rattle.osc_token.specs.{ComesTo, FitTheirTypes, HasLawfulParts, IsToken, algorithm_header, claims_item, token_object}
 use Rattle.osc_token.specs.declared.claims.Claims.{Claims}
-use Rattle.osc_authz.specs.{IsAgreed, new_context, Agrees, Answers, refused, full, agreed, ClientContextState, Finishes, made_name, pending_of, DeskState, IsPost, IsAnswer, post_item, answer_item, In, Posts, offered, alive, contexts, with_pending, IsLawfulContext}
+use Rattle.osc_authz.specs.{IsAgreed, new_context, Agrees, Answers, refused, revoked, full, agreed, ClientContextState, Finishes, made_name, pending_of, DeskState, IsPost, IsAnswer, post_item, answer_item, In, IsKeyFor, Posts, offered, alive, contexts, with_pending, IsLawfulContext}
 use Rattle.osc_authz.specs.Begun.{Begun}
 use Rattle.osc_authz.specs.SecurityContext.{SecurityContext}
 use Rattle.osc_authz.specs.HoldsToken.{HoldsToken}
 use Rattle.osc_authz.specs.Posting.{Posting}
+use Rattle.osc_authz.specs.Standing.{Standing}
 use Rattle.osc_authz.specs.declared.error.FinishError.{FinishError}
 use Rattle.osc_authz.specs.declared.error.PostError.{PostError}
 use Rattle.osc_authz.specs.declared.granted.ClientDesk.{ClientDesk}
@@ -44,21 +45,25 @@ pub agreed_post : (IsSealing : List ℕ → List ℕ → List ℕ → List ℕ �
     → Posts IsSealing before posting post after → post.answer ≡ Ok answer → IsAgreed IsSealing before posting post answer after
 agreed_post IsSealing before after posting post answer (Posts.no_post none is same) ok = absurd (no_answer post answer _ _ is ok)
 agreed_post IsSealing before after posting post answer (Posts.not_genuine token nonce1 client_id posts none is same) ok = absurd (no_answer post answer _ _ is ok)
-agreed_post IsSealing before after posting post answer (Posts.opened nonce1 client_id token its o answers is) ok = by answers
+agreed_post IsSealing before after posting post answer (Posts.opened key nonce1 client_id token its o its_key answers is) ok = by answers
   where
     answer_is : its ≡ Ok answer
     answer_is = sym (ap (λ (p : Post). p.answer) is) ∙ ok
 
     by : Answers before (offered posting nonce1 client_id) token.text its after → IsAgreed IsSealing before posting post answer after
     by (refused error comes e unchanged) = absurd (not_refused its answer _ e answer_is)
-    by (full claims scope comes many e unchanged) = absurd (not_refused its answer _ e answer_is)
-    by (agreed claims scope made comes room agrees e) = record {
+    by (revoked claims scope comes gone e unchanged) = absurd (not_refused its answer _ e answer_is)
+    by (full claims scope comes un many e unchanged) = absurd (not_refused its answer _ e answer_is)
+    by (agreed claims scope made comes un room agrees e) = record {
+      key = key;
       nonce1 = nonce1;
       client_id = client_id;
       its = token;
       claims = claims;
       scope = scope;
       opened = o;
+      key_is = its_key;
+      unrevoked = un;
       granted = comes;
       agrees = subst (λ m. Agrees before (offered posting nonce1 client_id) claims scope m after) (one_answer_of made answer (sym e ∙ answer_is)) agrees;
       noted = ap (λ (p : Post). p.opened) is;
@@ -96,13 +101,13 @@ module _ (IsSealing : List ℕ → List ℕ → List ℕ → List ℕ → List �
     → (read ≡ claims) × (granted ≡ scope_of entries))
     (one_token : (key bytes protected iv text others ivs other : List ℕ) → IsToken IsSealing key bytes protected iv text → IsToken IsSealing key bytes others ivs other
     → (protected ≡ others) × (iv ≡ ivs) × (text ≡ other))
-    (before after : DeskState) (now : Moment) (draw : Draw) (post : Post) (answer : PostAnswer)
+    (before after : DeskState) (on : Standing) (draw : Draw) (post : Post) (answer : PostAnswer)
     (claims : Claims) (entries : List Entry) (client : ClientDesk) (begun : Begun) (finished : Result ClientContextState FinishError)
     (size : length draw.0 ≡ 32) (nonce_size : length begun.nonce1 ≡ 8) (holds : HoldsToken IsSealing before.key claims entries client)
-    (posts : Posts IsSealing before (record { at = now; body = spelling (post_item client.token begun.nonce1 (begun.recipient_id ∷ [])); draw = draw }) post after)
+    (posts : Posts IsSealing before (record { on = on; body = spelling (post_item client.token begun.nonce1 (begun.recipient_id ∷ [])); draw = draw }) post after)
     (ok : post.answer ≡ Ok answer) where
   abbrev posting : Posting
-  posting = record { at = now; body = spelling (post_item client.token begun.nonce1 (begun.recipient_id ∷ [])); draw = draw }
+  posting = record { on = on; body = spelling (post_item client.token begun.nonce1 (begun.recipient_id ∷ [])); draw = draw }
 
   abbrev a : IsAgreed IsSealing before posting post answer after
   a = agreed_posts before after posting post answer posts ok
@@ -112,24 +117,37 @@ module _ (IsSealing : List ℕ → List ℕ → List ℕ → List ℕ → List �
       one_post _ a.opened.token a.nonce1 a.client_id client.token begun.nonce1 (begun.recipient_id ∷ []) a.opened.is_post
       (written_post client.token begun.nonce1 (begun.recipient_id ∷ []) holds.token_size (omega (arith, nonce_size)) (omega (arith, nonce_size)) (omega arith))
 
+  is_minted : IsToken IsSealing before.key (spelling (object_item (token_object holds.iv holds.ciphertext))) algorithm_header holds.iv (spelling (claims_item claims))
+  is_minted = minted_tokens before.key holds.iv (spelling (claims_item claims)) holds.ciphertext holds.iv_size holds.short holds.sealed
+
+  -- it opens under the desk's key
+  own_key : IsKeyFor IsSealing before a.opened.token a.key → a.key ≡ before.key
+  own_key (inl own) = own
+  own_key (inr old) =
+      absurd (old.1 (
+        record { protected = algorithm_header; iv = holds.iv; text = spelling (claims_item claims) },
+        subst (λ x. IsToken IsSealing before.key x algorithm_header holds.iv (spelling (claims_item claims))) (sym (posted.0 ∙ holds.token)) is_minted,
+      ))
+
   text_is : a.its.text ≡ spelling (claims_item claims)
   text_is =
       (one_token before.key _ a.its.protected a.its.iv a.its.text algorithm_header holds.iv (spelling (claims_item claims))
-      (subst (λ x. IsToken IsSealing before.key x a.its.protected a.its.iv a.its.text) (posted.0 ∙ holds.token) a.opened.is_token)
-      (minted_tokens before.key holds.iv (spelling (claims_item claims)) holds.ciphertext holds.iv_size holds.short holds.sealed)).2
+      (subst (λ x. IsToken IsSealing before.key x a.its.protected a.its.iv a.its.text) (posted.0 ∙ holds.token)
+      (subst (λ x. IsToken IsSealing x a.opened.token a.its.protected a.its.iv a.its.text) (own_key a.key_is) a.opened.is_token))
+      is_minted).2
 
   granted : (a.claims ≡ claims) × (a.scope ≡ scope_of entries)
   granted =
-      minted_texts claims a.claims entries a.scope before.audience now holds.fit holds.is_scope
-      (subst (λ x. ComesTo x before.audience now (Ok (a.claims, a.scope))) text_is a.granted)
+      minted_texts claims a.claims entries a.scope before.audience on.at holds.fit holds.is_scope
+      (subst (λ x. ComesTo x before.audience on.at (Ok (a.claims, a.scope))) text_is a.granted)
 
   abbrev its : SecurityContext
-  its = new_context a.claims a.scope a.nonce1 a.client_id answer
+  its = new_context before.revoked a.claims a.scope a.nonce1 a.client_id answer
 
   held : In its (contexts after.table)
   held =
-      let table : List TokenEntry = with_pending a.claims.material.id its (alive now before.table) in
-      subst (λ (d : DeskState). In its (contexts d.table)) (sym a.agrees.added) (is_held table (pending_of a.claims.material.id its) (has_pending a.claims.material.id its (alive now before.table)))
+      let table : List TokenEntry = with_pending a.claims.material.id its (alive on before.table) in
+      subst (λ (d : DeskState). In its (contexts d.table)) (sym a.agrees.added) (is_held table (pending_of a.claims.material.id its) (has_pending a.claims.material.id its (alive on before.table)))
 
   nonce2_size : length answer.nonce2 ≡ 8
   nonce2_size =
@@ -168,6 +186,7 @@ module _ (IsSealing : List ℕ → List ℕ → List ℕ → List ℕ → List �
   pub one_name : Finishes client begun (code 2 1) (spelling (answer_item answer.nonce2 (answer.recipient_id ∷ []))) finished
       → (its : SecurityContext) × In its (contexts after.table) × (its.scope ≡ scope_of entries)
       × (its.not_before ≡ claims.not_before) × (its.expires ≡ claims.expires)
+      × (its.revocation ≡ revocation_of before.revoked claims.material.id)
       × (finished ≡ Ok (record { name = its.name; next = 0 }))
       × (its.window ≡ []) × IsLawfulContext its
       × (HasLawfulParts claims → IfSome its.name.id_context (λ bytes. length bytes ≤ 64))
@@ -177,6 +196,7 @@ module _ (IsSealing : List ℕ → List ℕ → List ℕ → List ℕ → List �
     granted.1,
     ap (λ (c : Claims). c.not_before) granted.0,
     ap (λ (c : Claims). c.expires) granted.0,
+    ap (λ (c : Claims). revocation_of before.revoked c.material.id) granted.0,
     by finishes,
     refl,
     record { byte = answer.recipient_id; one_byte = refl; apart = λ same. a.agrees.free.free (0, omega arith, sym same) },

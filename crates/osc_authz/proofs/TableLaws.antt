@@ -10,7 +10,7 @@ use Rattle.std.proofs.lemmas.List.Elements.{All-nil, All-from_recursion, recursi
 use Rattle.std.proofs.lemmas.Map.Keys.{IsDistinct-push}
 use Rattle.std.proofs.lemmas.Slice.Eq.{bytes_eq-Decides}
 use Rattle.osc_model.specs.declared.context.ContextName.{ContextName}
-use Rattle.osc_model.specs.declared.node.Moment.{Moment}
+use Rattle.osc_authz.specs.Standing.{Standing}
 use Rattle.osc_authz.specs.declared.token_entry.TokenEntry.{TokenEntry}
 use Rattle.osc_authz.specs.SecurityContext.{SecurityContext}
 use Rattle.osc_authz.specs.{IsTable, IsLawfulContext, IsFull, IsLeastFree, accepted, accepted_in, alive, contexts, has_id, has_token, holds_live, ids, listed, taking, without_pending, without_pending_in, with_pending}
@@ -80,7 +80,7 @@ pub filtered_is_table : (test : TokenEntry → Bool) (table : List TokenEntry) �
 filtered_is_table test table is_table =
     part_is_table (filter test table) table (part_map (λ entry. entry.id) (part_filter test table)) (filtered_names test table) is_table
 
-pub alive_is_table : (now : Moment) (table : List TokenEntry) → IsTable table → IsTable (alive now table)
+pub alive_is_table : (now : Standing) (table : List TokenEntry) → IsTable table → IsTable (alive now table)
 alive_is_table now table is_table = filtered_is_table (holds_live now) table is_table
 
 -- ---- another entry in the place of each
@@ -286,7 +286,7 @@ with_pending_is_table token client_id held byte table is_table room free recipie
     }
 
 -- the same once the token ids without a live context have gone
-pub added_is_table : (token client_id : List ℕ) (now : Moment) (held : SecurityContext) (byte : ℕ) (table : List TokenEntry) → IsTable table → ¬ IsFull token (alive now table)
+pub added_is_table : (token client_id : List ℕ) (now : Standing) (held : SecurityContext) (byte : ℕ) (table : List TokenEntry) → IsTable table → ¬ IsFull token (alive now table)
     → IsLeastFree (client_id ∷ ids (without_pending token (alive now table))) byte → held.name.client_id ≡ byte ∷ [] → held.name.server_id ≡ client_id
     → IsTable (with_pending token held (alive now table))
 added_is_table token client_id now held byte table is_table room free recipient sender =

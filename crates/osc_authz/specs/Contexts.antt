@@ -1,8 +1,8 @@
 -- What becomes of a server's contexts in a step.
 use Rattle.std.specs.Prelude.{◌≡◌, ◌≢◌, ◌⊎◌, ℕ, Bool, true, false, List, [], ◌∷◌, ◌++◌, Option, Some, None}
-use Rattle.osc_model.specs.{HasBegun, IsNotOver}
-use Rattle.osc_model.specs.declared.node.Moment.{Moment}
+use Rattle.osc_model.specs.{HasBegun, IsNotOver, stands}
 use Rattle.osc_authz.specs.SecurityContext.{SecurityContext}
+use Rattle.osc_authz.specs.Standing.{Standing}
 use Rattle.osc_authz.specs.Table.{taking}
 use Rattle.osc_authz.specs.Members.{In}
 use Rattle.osc_authz.specs.declared.token_entry.TokenEntry.{TokenEntry}
@@ -45,28 +45,29 @@ confirmed_by number context = confirmed_of context.token (taking number context.
 
 -- ---- what stays, comes and goes
 
--- the time of the context's token
-pub record IsLive (now : Moment) (held : SecurityContext) : Type 0 where
-  pub begun : HasBegun held.not_before now
-  pub not_over : IsNotOver held.expires now
+-- It is the time of the context's token, which isn't revoked.
+pub record IsLive (on : Standing) (held : SecurityContext) : Type 0 where
+  pub begun : HasBegun held.not_before on.at
+  pub not_over : IsNotOver held.expires on.at
+  pub unrevoked : stands on.tree held.revocation ≡ false
 
 -- None is added, and none changes. Each that lives stays.
-pub record AreKept (now : Moment) (old new : List OfToken) : Type 0 where
+pub record AreKept (on : Standing) (old new : List OfToken) : Type 0 where
   pub only : (c : OfToken) → In c new → In c old
-  pub live : (c : OfToken) → In c old → IsLive now c.held → In c new
+  pub live : (c : OfToken) → In c old → IsLive on c.held → In c new
 
 -- One of this token id is added, pending, in the place of the pending one of that id. None changes, and each other that lives
 -- stays.
-pub record HasAdded (now : Moment) (token : List ℕ) (added : SecurityContext) (old new : List OfToken) : Type 0 where
+pub record HasAdded (on : Standing) (token : List ℕ) (added : SecurityContext) (old new : List OfToken) : Type 0 where
   pub only : (c : OfToken) → In c new → (c ≡ pending_of token added) ⊎ In c old
   pub here : In (pending_of token added) new
   pub replaced : (c : OfToken) → In c new → IsPendingOf token c → c ≡ pending_of token added
-  pub live : (c : OfToken) → In c old → IsLive now c.held → In c new ⊎ IsPendingOf token c
+  pub live : (c : OfToken) → In c old → IsLive on c.held → In c new ⊎ IsPendingOf token c
 
 -- One of them takes a number into its window and is confirmed, in the place of an older confirmed one of its token id. No other
 -- changes or has its name, and each other that lives stays.
-pub record HasTaken (now : Moment) (number : ℕ) (context : OfToken) (old new : List OfToken) : Type 0 where
+pub record HasTaken (on : Standing) (number : ℕ) (context : OfToken) (old new : List OfToken) : Type 0 where
   pub only : (c : OfToken) → In c new → (c ≡ confirmed_by number context) ⊎ (In c old × (c.held.name ≢ context.held.name))
   pub here : In (confirmed_by number context) new
   pub older_gone : (c : OfToken) → In c new → IsConfirmedOf context.token c → c ≡ confirmed_by number context
-  pub live : (c : OfToken) → In c old → IsLive now c.held → In c new ⊎ ((c ≡ context) ⊎ IsConfirmedOf context.token c)
+  pub live : (c : OfToken) → In c old → IsLive on c.held → In c new ⊎ ((c ≡ context) ⊎ IsConfirmedOf context.token c)

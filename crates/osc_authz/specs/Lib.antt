@@ -1,5 +1,6 @@
 -- Definitions that the contracts cite.
 pub mod Exchange
+pub mod Standing
 pub mod SecurityContext
 pub mod Table
 pub mod Desk
@@ -17,7 +18,7 @@ pub mod HoldsToken
 pub mod Welcome
 pub mod Inner
 pub use Agreed.{IsAgreed}
-pub use Agreement.{Agrees, Answers, agreed, full, new_context, refused}
+pub use Agreement.{Agrees, Answers, agreed, full, new_context, refused, revoked}
 pub use Begun.{ClientContextState}
 pub use Client.{Finishes, another_code, equal_ids, made, made_name, no_answer, offered_id}
 pub use Contexts.{AreKept, HasAdded, HasTaken, IsConfirmedOf, IsLive, IsPendingOf, OfToken, confirmed_by, of_token, of_tokens, pending_of}
@@ -26,7 +27,7 @@ pub use Errors.{post_number}
 pub use Exchange.{IsAnswer, IsPost, answer_item, post_item}
 pub use Granted.{IsSecret, IsShort}
 pub use Members.{In}
-pub use Post.{IsOpened, Posts, code_of, no_post, not_genuine, opened}
+pub use Post.{IsKeyFor, IsKeyOf, IsOpened, Opens, Posts, code_of, no_post, not_genuine, opened}
 pub use Posting.{Offer, OpenedToken, offered}
 pub use Table.{IsFull, IsLawfulContext, IsLeastFree, IsTable, accepted, accepted_in, alive, confirmed_at, contexts, has_id, has_token, holds_id, holds_live, ids, if_meant, is_live, is_named, listed, meant, taking, with_id, with_pending, without_pending, without_pending_in}
 pub use Welcome.{IsWelcome}

@@ -3,10 +3,12 @@ use Rattle.std.specs.Prelude.{ℕ, List, Option}
 use Rattle.osc_model.specs.Scope.{Scope}
 use Rattle.osc_model.specs.declared.context.ContextName.{ContextName}
 
--- its name, the rights and the time of the token that made it, and the window of the numbers that it accepted
+-- its name, the rights and the time of the token that made it, the path at which a resource says that this token is revoked, where its
+-- server has a revocation path, and the window of the numbers that it accepted
 pub record SecurityContext : Type 0 where
   pub name : ContextName
   pub scope : Scope
   pub not_before : Option ℕ
   pub expires : Option ℕ
+  pub revocation : Option (List ℕ)
   pub window : List ℕ

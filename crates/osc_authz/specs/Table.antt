@@ -1,11 +1,12 @@
 -- The security contexts of a server, by the ids of the tokens that made them. For each token id there are a confirmed context,
 -- whose key the client was seen to have, and a pending one of the newest post, until a request opens under it.
-use Rattle.std.specs.Prelude.{◌≡◌, ◌≢◌, ℕ, ◌/◌, ◌≤◌, ◌<◌, Bool, true, false, ◌&&◌, ◌||◌, nat_le, nat_lt, if◌then◌else◌, List, [], ◌∷◌, ◌++◌, length, map, filter, find, bytes_eq, slice_get, Option, Some, None, option_map, option_and_then}
+use Rattle.std.specs.Prelude.{◌≡◌, ◌≢◌, ℕ, ◌/◌, ◌≤◌, ◌<◌, Bool, true, false, not, ◌&&◌, ◌||◌, nat_le, nat_lt, if◌then◌else◌, List, [], ◌∷◌, ◌++◌, length, map, filter, find, bytes_eq, slice_get, Option, Some, None, option_map, option_and_then}
 use Rattle.std.specs.Option.{option_map_or}
 use Rattle.std.specs.List.{All, Contains, IsDistinct, list_any}
-use Rattle.osc_model.specs.declared.node.Moment.{Moment}
+use Rattle.osc_model.specs.{stands}
 use Rattle.osc_window.specs.{with_accepted}
 use Rattle.osc_authz.specs.SecurityContext.{SecurityContext}
+use Rattle.osc_authz.specs.Standing.{Standing}
 use Rattle.osc_authz.specs.declared.token_entry.TokenEntry.{TokenEntry}
 
 abbrev pub listed : Option SecurityContext → List SecurityContext
@@ -34,18 +35,19 @@ pub record IsTable (table : List TokenEntry) : Type 0 where
 
 -- ---- which of them live
 
--- a token is in its time
-abbrev pub is_live : Moment → SecurityContext → Bool
-is_live now held =
-    option_map_or (λ seconds. nat_le seconds (now.ms / 1000)) held.not_before true
-    && option_map_or (λ seconds. nat_lt (now.ms / 1000) seconds) held.expires true
+-- its token is in its time, and isn't revoked
+abbrev pub is_live : Standing → SecurityContext → Bool
+is_live on held =
+    option_map_or (λ seconds. nat_le seconds (on.at.ms / 1000)) held.not_before true
+    && option_map_or (λ seconds. nat_lt (on.at.ms / 1000) seconds) held.expires true
+    && not (stands on.tree held.revocation)
 
-abbrev pub holds_live : Moment → TokenEntry → Bool
-holds_live now entry = option_map_or (is_live now) entry.confirmed false || option_map_or (is_live now) entry.pending false
+abbrev pub holds_live : Standing → TokenEntry → Bool
+holds_live on entry = option_map_or (is_live on) entry.confirmed false || option_map_or (is_live on) entry.pending false
 
 -- the token ids that have a live context
-abbrev pub alive : Moment → List TokenEntry → List TokenEntry
-alive now table = filter (holds_live now) table
+abbrev pub alive : Standing → List TokenEntry → List TokenEntry
+alive on table = filter (holds_live on) table
 
 -- ---- looking up
 
@@ -69,12 +71,12 @@ is_named None held = true
 is_named (Some kid_context) held = option_map_or (bytes_eq kid_context) held.name.id_context false
 
 -- the live context that a request's kid and kid context name (RFC 8613 section 8.2)
-abbrev pub if_meant : Moment → Option (List ℕ) → Option SecurityContext → Option SecurityContext
-if_meant now kid_context None = None
-if_meant now kid_context (Some held) = if is_live now held && is_named kid_context held then Some held else None
+abbrev pub if_meant : Standing → Option (List ℕ) → Option SecurityContext → Option SecurityContext
+if_meant on kid_context None = None
+if_meant on kid_context (Some held) = if is_live on held && is_named kid_context held then Some held else None
 
-abbrev pub meant : Moment → List ℕ → Option (List ℕ) → List TokenEntry → Option SecurityContext
-meant now kid kid_context table = if_meant now kid_context (with_id kid table)
+abbrev pub meant : Standing → List ℕ → Option (List ℕ) → List TokenEntry → Option SecurityContext
+meant on kid kid_context table = if_meant on kid_context (with_id kid table)
 
 -- ---- a request opened
 

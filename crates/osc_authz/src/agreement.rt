@@ -1,6 +1,7 @@
 //! The context that both ends of an exchange agree on (RFC 9203 section 4.3).
 
-ghost use Rattle.std.specs.Prelude.{◌≡◌, ◌≢◌, ◌≤◌, [], ◌∷◌, length, IfOk};
+ghost use Rattle.std.specs.Prelude.{◌≡◌, ◌≢◌, ◌≤◌, ℕ, List, Option, [], ◌∷◌, length, IfOk};
+ghost use Rattle.osc_model.specs.{revocation_of};
 ghost use Rattle.osc_authz.specs.Agreement.{exchanged_name, new_context};
 
 use crate::context::ServerContext;
@@ -8,7 +9,7 @@ use crate::derivation::derived;
 use crate::payload::PostFields;
 use crate::post::PostAnswer;
 use osc_context::joined_salt;
-use osc_model::{Bytes, ContextName, SharedName, Side};
+use osc_model::{Bytes, ContextName, Path, SharedName, Side};
 use osc_scope::Scope;
 use osc_token::{Claims, InputMaterial};
 use std::alloc::{AllocError, Global};
@@ -42,19 +43,20 @@ fn name_of(
     Ok((id, SharedName::new(alloc, name)?))
 }
 
-/// The id of the token, and the context that it and this answer to a post make.
+/// The id of the token, and the context that it and this answer to a post make, at a server where a resource at this path revokes it.
 pub(crate) fn context_of(
     alloc: Global,
     claims: Claims,
     scope: Scope,
     fields: &PostFields<'_>,
     answer: &PostAnswer,
+    revocation: Option<Path>,
 ) -> Result<(Bytes, ServerContext), AllocError>
     requires short { length fields.now.client_id.now ≤ 7 }
     requires apart { fields.now.client_id.now ≢ answer.now.recipient_id ∷ [] }
     ensures id { IfOk result (λ made. made.0 ≡ claims.material.id) }
-    ensures context { IfOk result (λ made. made.1
-        ≡ new_context claims scope fields.now.nonce1.now fields.now.client_id.now answer.now) }
+    ensures context { (revoked : Option (List ℕ)) → revocation ≡ revocation_of revoked claims.material.id
+        → IfOk result (λ made. made.1 ≡ new_context revoked claims scope fields.now.nonce1.now fields.now.client_id.now answer.now) }
 {
     let Claims {
         material,
@@ -71,6 +73,7 @@ pub(crate) fn context_of(
         scope,
         not_before,
         expires,
+        revocation,
     };
     Ok((id, context))
 }

@@ -6,8 +6,9 @@ ghost use Rattle.osc_context.specs.{accepted_of, sender_of, recipient_of, greate
 ghost use Rattle.osc_window.specs.{IsFresh};
 ghost use Rattle.osc_authz.specs.Table.{is_live as is_live_of, has_id as has_id_of, is_named as is_named_of, taking};
 
+use crate::standing::{Standing, is_there};
 use osc_context::{AcceptedNumber, RecipientContext, SenderContext};
-use osc_model::{Moment, SharedName};
+use osc_model::{Path, SharedName};
 use osc_scope::Scope;
 use std::marker::Model;
 
@@ -19,6 +20,8 @@ pub struct ServerContext {
     pub(crate) scope: Scope,
     pub(crate) not_before: Option<u64>,
     pub(crate) expires: Option<u64>,
+    // Where a resource says that its token is revoked.
+    pub(crate) revocation: Option<Path>,
 }
 
 impl Drop for ServerContext {
@@ -30,6 +33,7 @@ impl Drop for ServerContext {
             scope: _,
             not_before: _,
             expires: _,
+            revocation: _,
         } = self;
     }
 }
@@ -46,7 +50,7 @@ impl Model for ServerContext {
 
     ghost coded = { Prim.hlevel (codes, coded_scope) };
 
-    ghost view = { λ context. record { name = context.name; scope = context.scope; not_before = context.not_before; expires = context.expires; window = context.recipient.window } };
+    ghost view = { λ context. record { name = context.name; scope = context.scope; not_before = context.not_before; expires = context.expires; revocation = context.revocation; window = context.recipient.window } };
 
     ghost invariant = { λ context. (context.sender ≡ sender_of context.name Server 0) × (context.recipient ≡ recipient_of context.name Server context.recipient.window) };
 }
@@ -80,13 +84,14 @@ impl ServerContext {
         &self.scope
     }
 
-    /// Whether its token is in its time.
-    pub(crate) fn is_live(&self, now: Moment) -> bool
-        ensures { result ≡ is_live_of now self.now }
+    /// Whether its token is in its time, and isn't revoked.
+    pub(crate) fn is_live(&self, on: &Standing<'_>) -> bool
+        ensures { result ≡ is_live_of on.now self.now }
     {
-        let seconds = now.ms / 1000;
+        let seconds = on.at.ms / 1000;
         self.not_before.is_none_or(|first| first <= seconds)
             && self.expires.is_none_or(|end| seconds < end)
+            && !is_there(on.tree, &self.revocation)
     }
 
     /// Whether this is its recipient ID.

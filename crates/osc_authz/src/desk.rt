@@ -1,20 +1,22 @@
 //! The server's end of exchanges.
 
-ghost use Rattle.std.specs.Prelude.{◌≡◌, ◌≤◌, ℕ, List, [], length, IfOk, IsErr, IsSome, OnErr, Some, Ok, option_map};
+ghost use Rattle.std.specs.Prelude.{◌≡◌, ◌≤◌, ◌⊎◌, ℕ, List, [], length, IfOk, IsErr, IsSome, OnErr, Some, None, Ok, option_map};
 ghost use Rattle.std.specs.Option.{IfSome};
 ghost use Rattle.osc_model.specs.declared.context.Side.TheVariants.{Server};
 ghost use Rattle.osc_context.specs.{accepted_of, greatest_number};
 ghost use Rattle.osc_window.specs.{IsFresh};
 ghost use Rattle.osc_cbor.specs.{DataItem, IsWhole};
 ghost use Rattle.osc_model.specs.Scope.{Scope as AnyScope};
-ghost use Rattle.osc_token.specs.{ComesTo};
+ghost use Rattle.osc_model.specs.{revocation_of};
+ghost use Rattle.osc_token.specs.{ComesTo, IsToken, token_note};
 ghost use Rattle.osc_token.specs.declared.claims.Claims.{Claims as AnyClaims};
 ghost use Rattle.osc_authz.specs.Agreement.{Agrees, Answers};
 ghost use Rattle.osc_authz.specs.SecurityContext.{SecurityContext};
 ghost use Rattle.osc_authz.specs.Inner.Payload.{post_fields as fields_of};
 ghost use Rattle.osc_token.specs.Inner.Reading.{IsItem};
 ghost use Rattle.osc_authz.specs.Table.{IsTable, IsFull, accepted, alive, confirmed_at, meant, taking, with_id};
-ghost use Rattle.osc_authz.specs.Post.{Posts};
+ghost use Rattle.osc_authz.specs.Post.{IsKeyFor, IsKeyOf, Opens, Posts};
+ghost use Rattle.osc_authz.specs.Posting.{OpenedToken};
 
 use crate::agreement::context_of;
 use crate::context::ServerContext;
@@ -22,23 +24,38 @@ use crate::error::PostError;
 use crate::payload::{PostFields, post_fields};
 use crate::places::{NOWHERE, Places, places_of};
 use crate::post::{Post, PostAnswer};
+use crate::standing::{Standing, is_there};
 use crate::table;
 use crate::token_entry::TokenEntry;
 use osc_cbor::ItemRef;
 use osc_ccm::Aead;
 use osc_context::AcceptedNumber;
-use osc_model::{Draw, Moment};
+use osc_model::{Draw, Note, Path, revoked_path};
 use osc_scope::Scope;
 use osc_token::{Audience, Claims, TokenError, judge, open_token};
 use std::alloc::{AllocError, Global};
 use std::marker::Model;
+
+/// What a desk begins with.
+pub struct DeskParts {
+    /// The key that the desk shares with the issuer of tokens.
+    pub key: [u8; 16],
+    /// The former key, at a change of key: a token that doesn't open under the key is opened with this one.
+    pub old_key: Option<[u8; 16]>,
+    /// For whom tokens must be.
+    pub audience: Audience,
+    /// The path below which a resource revokes a token, by the hexadecimal text of the token's id.
+    pub revoked: Option<Path>,
+}
 
 /// The desk at authz-info: it judges tokens, and keeps the contexts that they made. For each token id it has at most one
 /// context that a request has opened under, and one of the newest post; at most 64 token ids have one. A look-up takes the
 /// same time however many there are, and no memory.
 pub struct ServerDesk {
     key: [u8; 16],
+    old_key: Option<[u8; 16]>,
     audience: Audience,
+    revoked: Option<Path>,
     table: Vec<TokenEntry>,
     // Where each recipient ID stands in the table.
     places: Places,
@@ -48,7 +65,9 @@ impl Drop for ServerDesk {
     fn drop(self) {
         let ServerDesk {
             key: _,
+            old_key: _,
             audience: _,
+            revoked: _,
             table: _,
             places: _,
         } = self;
@@ -65,22 +84,65 @@ impl Model for ServerDesk {
 
     ghost coded = { Prim.hlevel (codes, coded_scope) };
 
-    ghost view = { λ desk. record { key = desk.key; audience = desk.audience; table = desk.table.items } };
+    ghost view = { λ desk. record { key = desk.key; old_key = desk.old_key; audience = desk.audience; revoked = desk.revoked; table = desk.table.items } };
 
     ghost use Rattle.osc_authz.specs.Inner.Places.{IsIndex};
 
     ghost invariant = { λ desk. IsTable desk.table.items × IsIndex desk.places desk.table.items };
 }
 
+/// What a post offers whose token opened: when and on which resources, its fields, and the random bytes of the step.
+#[derive(Drop)]
+struct Offered<'a> {
+    on: &'a Standing<'a>,
+    fields: PostFields<'a>,
+    draw: &'a Draw,
+}
+
+impl<'a> Model for Offered<'a> {
+    ghost use Rattle.osc_authz.specs.Posting.{Offer};
+    ghost use Rattle.std.specs.Coded.{codes};
+    ghost use Rattle.osc_model.specs.{coded_tree};
+
+    ghost Value = { Offer };
+
+    ghost coded = { Prim.hlevel (codes, coded_tree) };
+
+    ghost view = { λ offer. record { on = offer.on.now; draw = offer.draw.now; nonce1 = offer.fields.nonce1.now; client_id = offer.fields.client_id.now } };
+}
+
 impl ServerDesk {
-    /// The desk of a server that shares this key with the issuer of tokens for this audience. It has no contexts, and takes
-    /// no memory.
+    /// The desk of a server that shares this key with the issuer of tokens for this audience. It has no contexts, no old key and no
+    /// revocation path, and takes no memory.
     pub fn new(alloc: Global, key: [u8; 16], audience: Audience) -> ServerDesk
-        ensures { result ≡ record { key = key; audience = audience; table = [] } }
+        ensures { result ≡ record { key = key; old_key = None; audience = audience; revoked = None; table = [] } }
     {
+        ServerDesk::of(
+            alloc,
+            DeskParts {
+                key,
+                old_key: None,
+                audience,
+                revoked: None,
+            },
+        )
+    }
+
+    /// The desk of these parts. It has no contexts, and takes no memory.
+    pub fn of(alloc: Global, parts: DeskParts) -> ServerDesk
+        ensures { result ≡ record { key = parts.key; old_key = parts.old_key; audience = parts.audience; revoked = parts.revoked; table = [] } }
+    {
+        let DeskParts {
+            key,
+            old_key,
+            audience,
+            revoked,
+        } = parts;
         ServerDesk {
             key,
+            old_key,
             audience,
+            revoked,
             table: Vec::new(alloc),
             places: [NOWHERE; 256],
         }
@@ -95,16 +157,16 @@ impl ServerDesk {
     pub fn post<A: Aead>(
         &mut self,
         alloc: Global,
-        now: Moment,
+        on: &Standing<'_>,
         body: &[u8],
         draw: &Draw,
     ) -> Result<Post, AllocError>
-        ensures posted { IfOk result (λ post. Posts A.is_sealing self.old (record { at = now; body = body.now; draw = draw.now }) post self.new) }
+        ensures posted { IfOk result (λ post. Posts A.is_sealing self.old (record { on = on.now; body = body.now; draw = draw.now }) post self.new) }
         ensures err { OnErr result (self.new ≡ self.old) }
         ensures memory { IsErr result → (d : DataItem) × IsWhole body.now d }
         ensures table { IsTable self.new.table }
     {
-        let posted = self.post_bytes::<A>(alloc, now, body, draw);
+        let posted = self.post_bytes::<A>(alloc, on, body, draw);
         // The clause `table` is the desk's invariant after the post.
         let _ = &self.table;
         posted
@@ -114,16 +176,16 @@ impl ServerDesk {
     fn post_bytes<A: Aead>(
         &mut self,
         alloc: Global,
-        now: Moment,
+        on: &Standing<'_>,
         body: &[u8],
         draw: &Draw,
     ) -> Result<Post, AllocError>
-        ensures posted { IfOk result (λ post. Posts A.is_sealing self.old (record { at = now; body = body.now; draw = draw.now }) post self.new) }
+        ensures posted { IfOk result (λ post. Posts A.is_sealing self.old (record { on = on.now; body = body.now; draw = draw.now }) post self.new) }
         ensures err { OnErr result (self.new ≡ self.old) }
         ensures memory { IsErr result → (d : DataItem) × IsWhole body.now d }
     {
         match ItemRef::whole(body) {
-            Some(item) => self.post_item::<A>(alloc, now, &item, draw),
+            Some(item) => self.post_item::<A>(alloc, on, &item, draw),
             None => Ok(Post::refused(PostError::Fields)),
         }
     }
@@ -132,21 +194,22 @@ impl ServerDesk {
     fn post_item<A: Aead>(
         &mut self,
         alloc: Global,
-        now: Moment,
+        on: &Standing<'_>,
         item: &ItemRef<'_>,
         draw: &Draw,
     ) -> Result<Post, AllocError>
         ensures posted { (body : List ℕ) → IsItem body item.now
-            → IfOk result (λ post. Posts A.is_sealing self.old (record { at = now; body = body; draw = draw.now }) post self.new) }
+            → IfOk result (λ post. Posts A.is_sealing self.old (record { on = on.now; body = body; draw = draw.now }) post self.new) }
         ensures err { OnErr result (self.new ≡ self.old) }
         ensures memory { IsErr result → IsSome (fields_of item.now) }
     {
         let Some(fields) = post_fields(item) else {
             return Ok(Post::refused(PostError::Fields));
         };
-        match open_token::<A>(alloc, fields.token, &self.key)? {
+        match self.open::<A>(alloc, fields.token)? {
             Some(note) => {
-                let answer = self.answer(alloc, now, &fields, note.plaintext.as_slice(), draw)?;
+                let offer = Offered { on, fields, draw };
+                let answer = self.answer(alloc, &offer, note.plaintext.as_slice())?;
                 Ok(Post {
                     opened: Some(note),
                     answer,
@@ -156,68 +219,105 @@ impl ServerDesk {
         }
     }
 
+    /// The note of a token's opening, under the key, or else under the old one.
+    fn open<A: Aead>(&self, alloc: Global, token: &[u8]) -> Result<Option<Note>, AllocError>
+        ensures opened { IfOk result (λ found. (note : _) → found ≡ Some note
+            → (key : List ℕ) × (its : OpenedToken) × IsToken A.is_sealing key token.now its.protected its.iv its.text
+            × IsKeyFor A.is_sealing self.now token.now key × (note ≡ token_note key its.protected its.iv its.text)) }
+        ensures none { IfOk result (λ found. found ≡ None → (key : List ℕ) → IsKeyOf self.now key → ¬ Opens A.is_sealing key token.now) }
+    {
+        match open_token::<A>(alloc, token, &self.key)? {
+            Some(note) => Ok(Some(note)),
+            None => self.open_by_old::<A>(alloc, token),
+        }
+    }
+
+    /// The note of a token's opening under the old key, if there is one.
+    fn open_by_old<A: Aead>(&self, alloc: Global, token: &[u8]) -> Result<Option<Note>, AllocError>
+        ensures opened { IfOk result (λ found. (note : _) → found ≡ Some note
+            → (key : List ℕ) × (its : OpenedToken) × IsToken A.is_sealing key token.now its.protected its.iv its.text
+            × (self.now.old_key ≡ Some key) × (note ≡ token_note key its.protected its.iv its.text)) }
+        ensures none { IfOk result (λ found. found ≡ None → (key : List ℕ) → self.now.old_key ≡ Some key → ¬ Opens A.is_sealing key token.now) }
+    {
+        match &self.old_key {
+            Some(key) => open_token::<A>(alloc, token, key),
+            None => Ok(None),
+        }
+    }
+
     /// What is answered to a post whose token opened to this text. Without memory nothing is changed; once the text is judged, that
     /// comes only where nothing is refused.
     fn answer(
         &mut self,
         alloc: Global,
-        now: Moment,
-        fields: &PostFields<'_>,
+        offer: &Offered<'_>,
         text: &[u8],
-        draw: &Draw,
     ) -> Result<Result<PostAnswer, PostError>, AllocError>
-        requires { length fields.now.client_id.now ≤ 7 }
-        ensures answers { IfOk result (λ answer.
-            Answers self.old (record { at = now; draw = draw.now; nonce1 = fields.now.nonce1.now; client_id = fields.now.client_id.now }) text.now answer self.new) }
+        requires { length offer.now.client_id ≤ 7 }
+        ensures answers { IfOk result (λ answer. Answers self.old offer.now text.now answer self.new) }
         ensures err { OnErr result (self.new ≡ self.old) }
     {
-        let verdict = judge(alloc, text, &self.audience, now)?;
-        self.answer_to(alloc, now, fields, verdict, draw)
+        let on = offer.on;
+        let verdict = judge(alloc, text, &self.audience, on.at)?;
+        self.answer_to(alloc, offer, verdict)
     }
 
-    /// What is answered to a post whose token was judged so. Without memory nothing is changed; what is refused takes none.
+    /// What is answered to a post whose token was judged so. Without memory nothing is changed; a refusal of the token takes none.
     fn answer_to(
         &mut self,
         alloc: Global,
-        now: Moment,
-        fields: &PostFields<'_>,
+        offer: &Offered<'_>,
         verdict: Result<(Claims, Scope), TokenError>,
-        draw: &Draw,
     ) -> Result<Result<PostAnswer, PostError>, AllocError>
-        requires { length fields.now.client_id.now ≤ 7 }
-        ensures answers { (text : List ℕ) → ComesTo text self.old.audience now verdict
-            → IfOk result (λ answer. Answers self.old (record { at = now; draw = draw.now; nonce1 = fields.now.nonce1.now; client_id = fields.now.client_id.now }) text answer self.new) }
+        requires { length offer.now.client_id ≤ 7 }
+        ensures answers { (text : List ℕ) → ComesTo text self.old.audience offer.now.on.at verdict
+            → IfOk result (λ answer. Answers self.old offer.now text answer self.new) }
         ensures memory { IsErr result → (claims : AnyClaims) × (scope : AnyScope) × (verdict ≡ Ok (claims, scope))
-            × (¬ IsFull claims.material.id (alive now self.old.table)) }
+            × (IsSome self.old.revoked ⊎ (¬ IsFull claims.material.id (alive offer.now.on self.old.table))) }
         ensures err { OnErr result (self.new ≡ self.old) }
     {
         match verdict {
-            Ok((claims, scope)) => self.agree_unless_full(alloc, now, fields, claims, scope, draw),
+            Ok((claims, scope)) => self.agree_unless_refused(alloc, offer, claims, scope),
             Err(error) => Ok(Err(PostError::Token(error))),
         }
     }
 
-    /// Adds the context of these claims, unless the table is full. Without memory nothing is changed; a full table is
-    /// refused without memory.
-    fn agree_unless_full(
+    /// Adds the context of these claims, unless they are revoked or the table is full. Without memory nothing is changed; without a
+    /// revocation path, a full table is refused without memory.
+    fn agree_unless_refused(
         &mut self,
         alloc: Global,
-        now: Moment,
-        fields: &PostFields<'_>,
+        offer: &Offered<'_>,
         claims: Claims,
         scope: Scope,
-        draw: &Draw,
     ) -> Result<Result<PostAnswer, PostError>, AllocError>
-        requires { length fields.now.client_id.now ≤ 7 }
-        ensures answers { (text : List ℕ) → ComesTo text self.old.audience now (Ok (claims, scope))
-            → IfOk result (λ answer. Answers self.old (record { at = now; draw = draw.now; nonce1 = fields.now.nonce1.now; client_id = fields.now.client_id.now }) text answer self.new) }
-        ensures memory { IsErr result → ¬ IsFull claims.material.id (alive now self.old.table) }
+        requires { length offer.now.client_id ≤ 7 }
+        ensures answers { (text : List ℕ) → ComesTo text self.old.audience offer.now.on.at (Ok (claims, scope))
+            → IfOk result (λ answer. Answers self.old offer.now text answer self.new) }
+        ensures memory { IsErr result → IsSome self.old.revoked ⊎ (¬ IsFull claims.material.id (alive offer.now.on self.old.table)) }
         ensures err { OnErr result (self.new ≡ self.old) }
     {
-        if table::is_full(&self.table, now, claims.material.id.as_slice()) {
+        let revocation = self.revocation_of(alloc, claims.material.id.as_slice())?;
+        let on = offer.on;
+        if is_there(on.tree, &revocation) {
+            return Ok(Err(PostError::Revoked));
+        }
+        if table::is_full(&self.table, on, claims.material.id.as_slice()) {
             return Ok(Err(PostError::Full));
         }
-        Ok(Ok(self.agree(alloc, now, fields, claims, scope, draw)?))
+        Ok(Ok(self.agree(alloc, offer, claims, scope, revocation)?))
+    }
+
+    /// The path at which a resource revokes the tokens of this id: none where the server has no revocation path, or the id is too long for
+    /// one. Without memory for it an `AllocError`.
+    pub fn revocation_of(&self, alloc: Global, id: &[u8]) -> Result<Option<Path>, AllocError>
+        ensures path { IfOk result (λ path. path ≡ revocation_of self.now.revoked id.now) }
+        ensures memory { IsErr result → IsSome self.now.revoked }
+    {
+        match &self.revoked {
+            Some(root) => revoked_path(alloc, root, id),
+            None => Ok(None),
+        }
     }
 
     /// Adds the context of these claims, and answers the nonce and the recipient ID of the server. All memory is taken
@@ -225,26 +325,32 @@ impl ServerDesk {
     fn agree(
         &mut self,
         alloc: Global,
-        now: Moment,
-        fields: &PostFields<'_>,
+        offer: &Offered<'_>,
         claims: Claims,
         scope: Scope,
-        draw: &Draw,
+        revocation: Option<Path>,
     ) -> Result<PostAnswer, AllocError>
-        requires short { length fields.now.client_id.now ≤ 7 }
-        requires room { ¬ IsFull claims.material.id (alive now self.old.table) }
-        ensures agreed { IfOk result (λ answer.
-            Agrees self.old (record { at = now; draw = draw.now; nonce1 = fields.now.nonce1.now; client_id = fields.now.client_id.now }) claims scope answer self.new) }
+        requires short { length offer.now.client_id ≤ 7 }
+        requires room { ¬ IsFull claims.material.id (alive offer.now.on self.old.table) }
+        requires revocation { revocation ≡ revocation_of self.old.revoked claims.material.id }
+        ensures agreed { IfOk result (λ answer. Agrees self.old offer.now claims scope answer self.new) }
         ensures err { OnErr result (self.new ≡ self.old) }
     {
         let token = claims.material.id.as_slice();
         let answer = PostAnswer {
-            nonce2: draw.nonce(),
-            recipient_id: table::free_id(&self.table, now, token, fields.client_id),
+            nonce2: offer.draw.nonce(),
+            recipient_id: table::free_id(&self.table, offer.on, token, offer.fields.client_id),
         };
-        let (token, context) = context_of(alloc, claims, scope, fields, &answer)?;
+        let (token, context) = context_of(
+            alloc,
+            claims,
+            scope,
+            &offer.fields,
+            &answer,
+            revocation,
+        )?;
         self.table.reserve_exact(1)?;
-        table::add_pending(&mut self.table, now, token, context);
+        table::add_pending(&mut self.table, offer.on, token, context);
         self.places = places_of(&self.table);
         Ok(answer)
     }
@@ -252,15 +358,15 @@ impl ServerDesk {
     /// The live context that a request's kid and kid context name.
     pub fn find(
         &self,
-        now: Moment,
+        on: &Standing<'_>,
         kid: &[u8],
         kid_context: Option<&[u8]>,
     ) -> Option<&ServerContext>
-        ensures found { option_map (λ context. context.now) result ≡ meant now kid.now (option_map (λ bytes. bytes.now) kid_context.entry) self.now.table }
+        ensures found { option_map (λ context. context.now) result ≡ meant on.now kid.now (option_map (λ bytes. bytes.now) kid_context.entry) self.now.table }
         ensures table { IsTable self.now.table }
     {
         match table::with_id(&self.table, &self.places, kid) {
-            Some(context) if context.is_live(now) && context.is_named(kid_context) => Some(context),
+            Some(context) if context.is_live(on) && context.is_named(kid_context) => Some(context),
             _ => None,
         }
     }

@@ -18,6 +18,9 @@ pub enum PostError {
     /// Its token is refused.
     #[error("the token is refused")]
     Token(TokenError),
+    /// Its token is revoked.
+    #[error("the token is revoked")]
+    Revoked,
     /// 64 other tokens have a live context.
     #[error("too many tokens have a context")]
     Full,
@@ -31,6 +34,7 @@ impl PostError {
         match self {
             PostError::Fields => refusals::FIELDS,
             PostError::Token(error) => error.number(),
+            PostError::Revoked => refusals::REVOKED,
             PostError::Full => refusals::FULL,
         }
     }
@@ -42,6 +46,7 @@ impl PostError {
         match self {
             PostError::Fields => Code::BAD_REQUEST,
             PostError::Token(error) => token_code(error),
+            PostError::Revoked => Code::UNAUTHORIZED,
             PostError::Full => Code::SERVICE_UNAVAILABLE,
         }
     }

@@ -1,10 +1,10 @@
 //! Laws of the definitions, for the crates above. These functions do nothing: whoever calls one has its clauses for a proof.
 
-ghost use Rattle.std.specs.Prelude.{◌≡◌, ◌↔◌, ◌≤◌, ◌<◌, ◌^◌, ℕ, List, [], ◌∷◌, length, true, Option, Some, Ok, Result, IfSome};
+ghost use Rattle.std.specs.Prelude.{◌≡◌, ◌↔◌, ◌≤◌, ◌<◌, ◌^◌, ℕ, List, [], ◌∷◌, length, true, false, Option, Some, Ok, Result, IfSome};
 ghost use Rattle.osc_cbor.specs.{spelling};
-ghost use Rattle.osc_model.specs.{code, nonce_drawn, HasBegun, IsNotOver};
+ghost use Rattle.osc_model.specs.{code, nonce_drawn, revocation_of, stands, HasBegun, IsNotOver};
 ghost use Rattle.osc_model.specs.declared.code.Code.{Code as AnyCode};
-ghost use Rattle.osc_model.specs.declared.node.Moment.{Moment as AnyMoment};
+ghost use Rattle.osc_authz.specs.Standing.{Standing};
 ghost use Rattle.osc_model.specs.declared.node.Draw.{Draw as AnyDraw};
 ghost use Rattle.osc_scope.specs.{Entry, scope_of};
 ghost use Rattle.osc_token.specs.{HasLawfulParts};
@@ -59,18 +59,18 @@ pub fn lengths_of_answers()
     ensures { (nonce2 : List ℕ) (id : ℕ) → length nonce2 ≡ 8 → length (spelling (answer_item nonce2 (id ∷ []))) ≡ 16 }
 {}
 
-/// A context is live exactly in the time of its token.
+/// A context is live exactly in the time of its token, as long as that isn't revoked.
 pub fn live_in_its_time()
-    ensures { (held : SecurityContext) (now : AnyMoment)
-        → is_live now held ≡ true ↔ (HasBegun held.not_before now × IsNotOver held.expires now) }
+    ensures { (held : SecurityContext) (on : Standing)
+        → is_live on held ≡ true ↔ (HasBegun held.not_before on.at × IsNotOver held.expires on.at × (stands on.tree held.revocation ≡ false)) }
 {}
 
 /// The context that a request means is held, pending or confirmed, and live, and has the request's kid as its recipient ID.
 pub fn meant_contexts()
-    ensures { (now : AnyMoment) (kid : List ℕ) (kid_context : Option (List ℕ)) (table : List TokenEntry) (held : SecurityContext)
-        → meant now kid kid_context table ≡ Some held
+    ensures { (on : Standing) (kid : List ℕ) (kid_context : Option (List ℕ)) (table : List TokenEntry) (held : SecurityContext)
+        → meant on kid kid_context table ≡ Some held
         → (context : OfToken) × In context (of_tokens table) × (context.held ≡ held)
-        × IsLive now held × (held.name.client_id ≡ kid) }
+        × IsLive on held × (held.name.client_id ≡ kid) }
 {}
 
 /// SecurityContext contexts with one recipient ID are one context, of one token id, and either confirmed or pending.
@@ -85,9 +85,9 @@ pub fn one_context()
 
 /// A live context of a table is the one that a request means by its recipient ID and its id context.
 pub fn held_contexts_are_meant()
-    ensures { (now : AnyMoment) (table : List TokenEntry) (held : SecurityContext)
-        → IsTable table → In held (contexts table) → IsLive now held
-        → meant now held.name.client_id held.name.id_context table ≡ Some held }
+    ensures { (on : Standing) (table : List TokenEntry) (held : SecurityContext)
+        → IsTable table → In held (contexts table) → IsLive on held
+        → meant on held.name.client_id held.name.id_context table ≡ Some held }
 {
     one_context();
     live_in_its_time();
@@ -95,24 +95,24 @@ pub fn held_contexts_are_meant()
 
 /// Where the token ids without a live context leave the table, no context comes, and each that lives stays.
 pub fn live_contexts()
-    ensures { (now : AnyMoment) (table : List TokenEntry)
-        → AreKept now (of_tokens table) (of_tokens (alive now table)) }
+    ensures { (on : Standing) (table : List TokenEntry)
+        → AreKept on (of_tokens table) (of_tokens (alive on table)) }
 {}
 
 /// One more pending context of a token id, where the token ids without a live context have left the table, takes the place of
 /// the one that was pending for this id, and each other that lives stays.
 pub fn one_more_context()
-    ensures { (now : AnyMoment) (token : List ℕ) (held : SecurityContext) (table : List TokenEntry)
-        → IsTable (with_pending token held (alive now table))
-        → HasAdded now token held (of_tokens table) (of_tokens (with_pending token held (alive now table))) }
+    ensures { (on : Standing) (token : List ℕ) (held : SecurityContext) (table : List TokenEntry)
+        → IsTable (with_pending token held (alive on table))
+        → HasAdded on token held (of_tokens table) (of_tokens (with_pending token held (alive on table))) }
 {}
 
 /// Where the context with an ID accepts a number, its window takes the number, it is confirmed in the place of the older one of
 /// its token id, and no other context changes.
 pub fn numbers_taken()
-    ensures { (now : AnyMoment) (number : ℕ) (context : OfToken) (table : List TokenEntry)
+    ensures { (on : Standing) (number : ℕ) (context : OfToken) (table : List TokenEntry)
         → IsTable table → In context (of_tokens table)
-        → HasTaken now number context (of_tokens table) (of_tokens (accepted context.held.name.client_id number table)) }
+        → HasTaken on number context (of_tokens table) (of_tokens (accepted context.held.name.client_id number table)) }
 {}
 
 /// A post that is answered 2.01 opened, was granted, and made a context.
@@ -124,10 +124,10 @@ pub fn posts_that_agree<A: Aead>()
 
 /// A post with a token that is welcome is answered 2.01, with the nonce of the draw.
 pub fn welcome_posts<A: Aead>()
-    ensures { (before after : DeskState) (now : AnyMoment) (draw : AnyDraw) (post : AnyPost) (claims : AnyClaims) (entries : List Entry)
+    ensures { (before after : DeskState) (on : Standing) (draw : AnyDraw) (post : AnyPost) (claims : AnyClaims) (entries : List Entry)
         (client : AnyClient) (nonce1 : List ℕ) (id : ℕ)
-        → IsWelcome A.is_sealing before now claims entries client → length nonce1 ≡ 8
-        → Posts A.is_sealing before (record { at = now; body = spelling (post_item client.token nonce1 (id ∷ [])); draw = draw }) post after
+        → IsWelcome A.is_sealing before on claims entries client → length nonce1 ≡ 8
+        → Posts A.is_sealing before (record { on = on; body = spelling (post_item client.token nonce1 (id ∷ [])); draw = draw }) post after
         → (answer : AnyAnswer) × (post.answer ≡ Ok answer) × (answer.nonce2 ≡ nonce_drawn draw) }
 {
     what_is_written();
@@ -140,15 +140,16 @@ pub fn welcome_posts<A: Aead>()
 /// finishes by that answer, it makes a context with the name of one that the server holds. That one has accepted no number yet,
 /// and its IDs are lawful; where the claims are, its id context has at most 64 bytes.
 pub fn one_name<A: Aead>()
-    ensures { (before after : DeskState) (now : AnyMoment) (draw : AnyDraw) (post : AnyPost) (answer : AnyAnswer)
+    ensures { (before after : DeskState) (on : Standing) (draw : AnyDraw) (post : AnyPost) (answer : AnyAnswer)
         (claims : AnyClaims) (entries : List Entry) (client : AnyClient) (begun : Begun) (finished : Result ClientContextState AnyFinishError)
         → length draw.0 ≡ 32 → length begun.nonce1 ≡ 8 → HoldsToken A.is_sealing before.key claims entries client
         → Posts A.is_sealing before
-        (record { at = now; body = spelling (post_item client.token begun.nonce1 (begun.recipient_id ∷ [])); draw = draw }) post after
+        (record { on = on; body = spelling (post_item client.token begun.nonce1 (begun.recipient_id ∷ [])); draw = draw }) post after
         → post.answer ≡ Ok answer
         → Finishes client begun (code 2 1) (spelling (answer_item answer.nonce2 (answer.recipient_id ∷ []))) finished
         → (held : SecurityContext) × In held (contexts after.table) × (held.scope ≡ scope_of entries)
         × (held.not_before ≡ claims.not_before) × (held.expires ≡ claims.expires)
+        × (held.revocation ≡ revocation_of before.revoked claims.material.id)
         × (finished ≡ Ok (record { name = held.name; next = 0 }))
         × (held.window ≡ []) × IsLawfulContext held
         × (HasLawfulParts claims → IfSome held.name.id_context (λ bytes. length bytes ≤ 64)) }

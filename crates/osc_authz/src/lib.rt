@@ -16,12 +16,14 @@ mod marks;
 mod payload;
 mod places;
 mod post;
+mod standing;
 mod table;
 mod token_entry;
 
 pub use client::{ClientContext, OpenExchange};
 pub use context::ServerContext;
-pub use desk::ServerDesk;
+pub use desk::{DeskParts, ServerDesk};
 pub use error::{FinishError, GrantError, PostError};
 pub use granted::ClientDesk;
 pub use post::{Post, PostAnswer};
+pub use standing::Standing;

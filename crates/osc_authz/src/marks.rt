@@ -5,8 +5,8 @@ ghost use Rattle.osc_authz.specs.Inner.Marks.{AddsMarks};
 ghost use Rattle.osc_authz.specs.Table.{alive, ids, listed, without_pending};
 
 use crate::context::ServerContext;
+use crate::standing::Standing;
 use crate::token_entry::TokenEntry;
-use osc_model::Moment;
 
 /// A mark for each byte, which stands for the ID that is this one byte.
 pub(crate) type Marks = [bool; 256];
@@ -21,19 +21,19 @@ pub(crate) fn mark(marks: &mut Marks, id: &[u8])
 }
 
 /// Marks the recipient IDs that stay in use once the dead and the pending context of this token id have gone.
-pub(crate) fn mark_staying(marks: &mut Marks, table: &[TokenEntry], now: Moment, token: &[u8])
-    ensures { AddsMarks (ids (without_pending token.now (alive now table.now))) marks.old marks.new }
+pub(crate) fn mark_staying(marks: &mut Marks, table: &[TokenEntry], on: &Standing<'_>, token: &[u8])
+    ensures { AddsMarks (ids (without_pending token.now (alive on.now table.now))) marks.old marks.new }
 {
     for entry in table {
-        mark_entry(marks, entry, now, token);
+        mark_entry(marks, entry, on, token);
     }
 }
 
 /// The same of one token id.
-fn mark_entry(marks: &mut Marks, entry: &TokenEntry, now: Moment, token: &[u8])
-    ensures { AddsMarks (ids (without_pending token.now (alive now (entry.now ∷ [])))) marks.old marks.new }
+fn mark_entry(marks: &mut Marks, entry: &TokenEntry, on: &Standing<'_>, token: &[u8])
+    ensures { AddsMarks (ids (without_pending token.now (alive on.now (entry.now ∷ [])))) marks.old marks.new }
 {
-    if entry.holds_live(now) {
+    if entry.holds_live(on) {
         mark_context(marks, &entry.confirmed);
         if !entry.is_of_token(token) {
             mark_context(marks, &entry.pending);

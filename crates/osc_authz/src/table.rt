@@ -12,9 +12,10 @@ ghost use Rattle.osc_authz.specs.Table.{IsTable, IsFull, IsLeastFree, accepted, 
 use crate::context::ServerContext;
 use crate::marks::{least_unmarked, mark, mark_staying};
 use crate::places::{Places, place_of_id, places_of};
+use crate::standing::Standing;
 use crate::token_entry::TokenEntry;
 use osc_context::AcceptedNumber;
-use osc_model::{Bytes, Moment};
+use osc_model::Bytes;
 
 /// How many token ids have a context at most.
 const MOST: usize = 64;
@@ -97,21 +98,21 @@ fn take_number(
 }
 
 /// Whether 64 other token ids have a live context.
-pub(crate) fn is_full(table: &[TokenEntry], now: Moment, token: &[u8]) -> bool
-    ensures { IsTrue result ↔ IsFull token.now (alive now table.now) }
+pub(crate) fn is_full(table: &[TokenEntry], on: &Standing<'_>, token: &[u8]) -> bool
+    ensures { IsTrue result ↔ IsFull token.now (alive on.now table.now) }
 {
-    count_alive(table, now) >= MOST && !has_alive(table, now, token)
+    count_alive(table, on) >= MOST && !has_alive(table, on, token)
 }
 
 /// The least byte that is no recipient ID in use, once the dead and the pending context of this token id have gone, and
 /// isn't the client's ID.
-pub(crate) fn free_id(table: &[TokenEntry], now: Moment, token: &[u8], client_id: &[u8]) -> u8
+pub(crate) fn free_id(table: &[TokenEntry], on: &Standing<'_>, token: &[u8], client_id: &[u8]) -> u8
     requires { IsTable table.now }
-    ensures { IsLeastFree (client_id.now ∷ ids (without_pending token.now (alive now table.now))) result }
+    ensures { IsLeastFree (client_id.now ∷ ids (without_pending token.now (alive on.now table.now))) result }
 {
     let mut marks = [false; 256];
     mark(&mut marks, client_id);
-    mark_staying(&mut marks, table, now, token);
+    mark_staying(&mut marks, table, on, token);
     match least_unmarked(&marks) {
         Some(byte) => byte as u8,
         // 128 contexts and the client have fewer IDs than there are bytes.
@@ -122,41 +123,41 @@ pub(crate) fn free_id(table: &[TokenEntry], now: Moment, token: &[u8], client_id
 /// Lets the token ids without a live context go, and adds this pending one, for which there is room.
 pub(crate) fn add_pending(
     table: &mut Vec<TokenEntry>,
-    now: Moment,
+    on: &Standing<'_>,
     token: Bytes,
     context: ServerContext,
 )
     requires { vec_len table.old < vec_capacity table.old }
-    ensures { table.new.items ≡ with_pending token context (alive now table.old.items) }
+    ensures { table.new.items ≡ with_pending token context (alive on.now table.old.items) }
 {
-    keep_alive(table, now);
+    keep_alive(table, on);
     put_pending(table, token, context);
 }
 
 /// How many token ids have a live context.
-fn count_alive(table: &[TokenEntry], now: Moment) -> usize
-    ensures { result ≡ length (alive now table.now) }
+fn count_alive(table: &[TokenEntry], on: &Standing<'_>) -> usize
+    ensures { result ≡ length (alive on.now table.now) }
 {
-    table.iter().filter(|entry| entry.holds_live(now)).count()
+    table.iter().filter(|entry| entry.holds_live(on)).count()
 }
 
 /// Whether this token id has a live context.
-fn has_alive(table: &[TokenEntry], now: Moment, token: &[u8]) -> bool
-    ensures { result ≡ has_token token.now (alive now table.now) }
+fn has_alive(table: &[TokenEntry], on: &Standing<'_>, token: &[u8]) -> bool
+    ensures { result ≡ has_token token.now (alive on.now table.now) }
 {
     table
         .iter()
-        .filter(|entry| entry.holds_live(now))
+        .filter(|entry| entry.holds_live(on))
         .any(|entry| entry.is_of_token(token))
 }
 
 /// Lets the token ids without a live context go.
-fn keep_alive(table: &mut Vec<TokenEntry>, now: Moment)
-    ensures items { table.new.items ≡ alive now table.old.items }
+fn keep_alive(table: &mut Vec<TokenEntry>, on: &Standing<'_>)
+    ensures items { table.new.items ≡ alive on.now table.old.items }
     ensures len { vec_len table.new ≤ vec_len table.old }
     ensures capacity { vec_capacity table.new ≡ vec_capacity table.old }
 {
-    table.retain(|entry| entry.holds_live(now));
+    table.retain(|entry| entry.holds_live(on));
 }
 
 /// Makes this the pending context of its token id, in the room that there is.

@@ -9,8 +9,9 @@ ghost use Rattle.osc_authz.specs.SecurityContext.{SecurityContext};
 ghost use Rattle.osc_authz.specs.Table.{is_live as is_live_of, holds_live as holds_live_of, holds_id, listed, has_id, taking, accepted_in};
 
 use crate::context::ServerContext;
+use crate::standing::Standing;
 use osc_context::AcceptedNumber;
-use osc_model::{Bytes, Moment};
+use osc_model::Bytes;
 
 /// The contexts of one token id: one that a request has opened under, and one of the newest post.
 pub struct TokenEntry {
@@ -29,12 +30,12 @@ impl Drop for TokenEntry {
     }
 }
 
-/// Whether a context is there, and its token is in its time.
-fn is_live(context: &Option<ServerContext>, now: Moment) -> bool
-    ensures { result ≡ option_map_or (is_live_of now) context.now false }
+/// Whether a context is there and live.
+fn is_live(context: &Option<ServerContext>, on: &Standing<'_>) -> bool
+    ensures { result ≡ option_map_or (is_live_of on.now) context.now false }
 {
     match context {
-        Some(context) => context.is_live(now),
+        Some(context) => context.is_live(on),
         None => false,
     }
 }
@@ -65,10 +66,10 @@ fn take_number(context: &mut Option<ServerContext>, number: u64) -> AcceptedNumb
 
 impl TokenEntry {
     /// Whether one of the contexts is live.
-    pub fn holds_live(&self, now: Moment) -> bool
-        ensures { result ≡ holds_live_of now self.now }
+    pub fn holds_live(&self, on: &Standing<'_>) -> bool
+        ensures { result ≡ holds_live_of on.now self.now }
     {
-        is_live(&self.confirmed, now) || is_live(&self.pending, now)
+        is_live(&self.confirmed, on) || is_live(&self.pending, on)
     }
 
     /// Whether this is its token id.

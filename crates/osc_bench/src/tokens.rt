@@ -1,10 +1,11 @@
 //! Tokens read, and posts to authz-info.
 
-use osc_authz::{ClientDesk, ServerDesk};
+use osc_authz::{ClientDesk, ServerDesk, Standing};
 use osc_ccm::Ccm;
 use osc_fixtures::{KEY, Right, desk, drawn, own, token};
 use osc_model::Moment;
 use osc_token::{Audience, read};
+use osc_tree::Tree;
 use std::alloc::{AllocError, Global};
 
 /// GET, POST and DELETE on `/log`.
@@ -122,7 +123,12 @@ fn is_made(
     body: &[u8],
     byte: u8,
 ) -> Result<bool, AllocError> {
-    let post = desk.post::<Ccm<8>>(alloc, Moment::START, body, &drawn(byte))?;
+    let tree = Tree::new(alloc);
+    let on = Standing {
+        at: Moment::START,
+        tree: &tree,
+    };
+    let post = desk.post::<Ccm<8>>(alloc, &on, body, &drawn(byte))?;
     let is_made = post.answer.is_ok();
     drop(post);
     Ok(is_made)

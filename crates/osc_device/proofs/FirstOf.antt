@@ -103,11 +103,10 @@ lawful_parts parts own lawful audience id scope = record {
 }
 
 module _ (is_sealing : Sealings) (tag : ℕ) (sealed_length : IsLongerBy tag (is_sealing EightByteTag)) (short_tag : tag ≤ most_tag)
-    (may_exchange : (before after start : Beginning) (holder : Holder) (now : Moment) (enrols : Enrols is_sealing before holder after)
-    → start.key ≡ before.key → HasLawfulParts holder.claims → FitAToken holder.claims → holder.claims.audience ≡ start.audience
-    → HasBegun holder.claims.not_before now → IsNotOver holder.claims.expires now
+    (held : (before after start : Beginning) (holder : Holder) (enrols : Enrols is_sealing before holder after)
+    → start.key ≡ before.key → HasLawfulParts holder.claims → FitAToken holder.claims
     → length holder.iv ≡ 13 → length enrols.placed.node.desk.token < 2 ^ 64
-    → MayExchange is_sealing enrols.placed.node (begun start).nodes.server now holder.claims enrols.enrolled.entries)
+    → HoldsToken (is_sealing EightByteTag) start.key holder.claims enrols.enrolled.entries enrols.placed.node.desk)
     (parts : ServerParts) (own : OwnToken) (device : State) (is : IsBegun is_sealing parts own device)
     (lawful : IsLawful (own_claims parts own)) (has : HasLawfulParts (own_claims parts own)) (iv_size : length own.iv ≡ 13) where
   abbrev start : Beginning
@@ -134,12 +133,10 @@ module _ (is_sealing : Sealings) (tag : ℕ) (sealed_length : IsLongerBy tag (is
 
   pub granted : IsGranted is_sealing device (own_claims parts own) is.enrols.enrolled.entries
   granted =
-      let now : Moment = record { ms = 0; early = omega arith } in
-      let may = may_exchange (server_alone parts) start start (own_holder parts own) now is.enrols same_key has lawful.fits same_audience
-      (λ seconds none. absurd cc) (λ seconds none. absurd cc) iv_size token_size in
+      let holds = held (server_alone parts) start start (own_holder parts own) is.enrols same_key has lawful.fits iv_size token_size in
       record {
         holds = subst (λ (server : Server). HoldsToken (is_sealing EightByteTag) server.desk.key (own_claims parts own) is.enrols.enrolled.entries device.own.desk) (sym is.server)
-            (subst (λ (client : Client). HoldsToken (is_sealing EightByteTag) start.key (own_claims parts own) is.enrols.enrolled.entries client.desk) (sym is.own_is) may.welcome.holds);
+            (subst (λ (client : Client). HoldsToken (is_sealing EightByteTag) start.key (own_claims parts own) is.enrols.enrolled.entries client.desk) (sym is.own_is) holds);
         lawful = has;
         audience = same_audience ∙ sym (ap (λ (server : Server). server.desk.audience) is.server);
         not_before = refl;

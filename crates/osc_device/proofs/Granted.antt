@@ -1,9 +1,10 @@
 -- A device whose token counts may post it.
-use Rattle.std.proofs.Common.{◌≡◌, ◌≢◌, ◌∙◌, ap, sym, subst, ℕ, List, [], length, drop, Option, Some, None, arith}
+use Rattle.std.proofs.Common.{◌≡◌, ◌≢◌, ◌∙◌, ap, sym, subst, ℕ, List, [], length, drop, false, Option, Some, None, arith}
 use Rattle.std.proofs.lemmas.List.{length-drop, length-take}
 use Rattle.osc_client.specs.{Exchanges, PostFits, begun_by}
 use Rattle.osc_client.specs.State.{State as Client}
-use Rattle.osc_model.specs.{nonce_drawn, token_drawn}
+use Rattle.osc_model.specs.{is_revoked, nonce_drawn, token_drawn}
+use Rattle.osc_server.specs.{standing_of}
 use Rattle.osc_model.specs.declared.step.ClientResult.{ClientResult}
 use Rattle.osc_model.specs.declared.step.ClientResult.TheVariants.{Refused}
 use Rattle.osc_model.specs.declared.step.Step.{Step}
@@ -20,10 +21,10 @@ use Rattle.osc_device.specs.{MayOpen, IsGranted, own_address}
 use Rattle.osc_device.specs.State.{State}
 
 pub may_open : (is_sealing : Sealings) (device : State) (now : Moment) (draw : Draw) (claims : Claims) (entries : List Entry)
-    → IsGranted is_sealing device claims entries
+    → IsGranted is_sealing device claims entries → is_revoked device.server.desk.revoked device.server.tree claims.material.id ≡ false
     → device.own.waiting ≡ None → device.server.desk.table ≡ [] → device.server.endpoint.seen ≡ []
     → MayOpen is_sealing device now draw claims entries
-may_open is_sealing device now draw claims entries granted idle empty unheard = record {
+may_open is_sealing device now draw claims entries granted unrevoked idle empty unheard = record {
   may_exchange = record {
     idle = idle;
     welcome = record {
@@ -32,7 +33,8 @@ may_open is_sealing device now draw claims entries granted idle empty unheard = 
       audience = granted.audience;
       begun = λ seconds is. let none = sym granted.not_before ∙ is in absurd cc;
       not_over = λ seconds is. let none = sym granted.expires ∙ is in absurd cc;
-      room = λ full. let none : IsFull claims.material.id (alive now []) = subst (λ (table : List TokenEntry). IsFull claims.material.id (alive now table)) empty full in absurd (omega (arith, none.many));
+      unrevoked = unrevoked;
+      room = λ full. let none : IsFull claims.material.id (alive (standing_of device.server now) []) = subst (λ (table : List TokenEntry). IsFull claims.material.id (alive (standing_of device.server now) table)) empty full in absurd (omega (arith, none.many));
     };
   };
   unheard = ap (looked now own_address (own_id draw device.own.endpoint.next_id)) unheard;

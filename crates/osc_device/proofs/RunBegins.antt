@@ -62,7 +62,7 @@ fit claims lawful = record {
 
 module _ (is_sealing : Sealings)
     (texts_law : (claims : Claims) (entries : List Entry) (grant : Grant) → FitTheirTypes claims → IsScope claims.scope entries
-    → grant.secret ≡ claims.material.secret → grant.scope ≡ scope_of entries → grant.not_before ≡ claims.not_before → grant.expires ≡ claims.expires
+    → grant.id ≡ claims.material.id → grant.secret ≡ claims.material.secret → grant.scope ≡ scope_of entries → grant.not_before ≡ claims.not_before → grant.expires ≡ claims.expires
     → IsTextOf grant (spelling (claims_item claims)))
     (parts : ServerParts) (own : OwnToken) (device : State) (is : IsBegun is_sealing parts own device) (lawful : HasLawfulParts (own_claims parts own))
     (others : List Minted) (clients : List ClientState) (are : AreOthers others clients) where
@@ -77,7 +77,7 @@ module _ (is_sealing : Sealings)
       ⊎_elim (λ (h : In m others). are.texts m h)
       (λ (h : In m (one ∷ [])). ⊎_elim
       (λ (e : m ≡ one). subst (λ (n : Minted). IsTextOf n.grant n.text) (sym e)
-      (texts_law (own_claims parts own) entries one.grant (fit (own_claims parts own) lawful) is.enrols.enrolled.scope refl refl refl refl))
+      (texts_law (own_claims parts own) entries one.grant (fit (own_claims parts own) lawful) is.enrols.enrolled.scope refl refl refl refl refl))
       (λ (e : ⊥). absurd e) h)
       (in_either m others (one ∷ []) there)
 

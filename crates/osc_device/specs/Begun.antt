@@ -45,6 +45,7 @@ server_alone parts = record {
   open_scope = parts.open_scope;
   key = parts.key;
   audience = parts.audience;
+  revoked = parts.revoked;
   server_at = server_address;
   minted = [];
   clients = [];

@@ -37,8 +37,13 @@ pub(crate) fn server_alone(alloc: Global, parts: ServerParts) -> Start
         open_scope,
         key,
         audience,
+        revoked,
     } = parts;
-    Start::new(alloc, tree, open_scope, key, audience, SERVER)
+    let mut start = Start::new(alloc, tree, open_scope, key, audience, SERVER);
+    if let Some(path) = revoked {
+        start.revoke_below(path);
+    }
+    start
 }
 
 /// The device as a client that is to be enrolled at a server of this audience.

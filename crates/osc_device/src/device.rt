@@ -1,5 +1,5 @@
 //! The device.
-ghost use Rattle.std.specs.Prelude.{◌≡◌, ◌≢◌, ◌∷◌, ◌<◌, ◌≤◌, ◌↔◌, true, false, [], List, None, Some, length, IfErr, IfNone, IfOk, IfSome, OnErr};
+ghost use Rattle.std.specs.Prelude.{◌≡◌, ◌≢◌, ◌∷◌, ◌<◌, ◌≤◌, ◌↔◌, ℕ, true, false, [], List, None, Some, length, IfErr, IfNone, IfOk, IfSome, OnErr};
 ghost use Rattle.osc_model.specs.Refusals as refusal;
 ghost use Rattle.osc_scope.specs.{Entry, IsScope};
 ghost use Rattle.osc_token.specs.declared.claims.Claims.{Claims as AnyClaims};
@@ -7,7 +7,7 @@ ghost use Rattle.osc_client.specs.{Begins, PostFits, acts_at, restarted, core as
 ghost use Rattle.osc_client.specs.State.{State as Own};
 ghost use Rattle.osc_run.specs.{ClientStep, Came, Due, by_server, ServerStep};
 ghost use Rattle.osc_server.specs.{core, IsStep, again};
-ghost use Rattle.osc_model.specs.{quiet};
+ghost use Rattle.osc_model.specs.{quiet, revocation_of};
 ghost use Rattle.osc_model.specs.declared.node.Draw.{Draw as AnyDraw};
 ghost use Rattle.osc_model.specs.declared.node.Moment.{Moment as AnyMoment};
 ghost use Rattle.osc_message.specs.{after_tick, fresh};
@@ -325,6 +325,75 @@ impl Device {
     {
         let request = own_request(alloc, Method::Get, path, None, Bytes::new(alloc));
         self.ask::<A>(alloc, now, &request, draw, server_draw)
+    }
+
+    /// Revokes the tokens of this id: puts an empty value at the path that stands for it, as [`Device::put`] does. From then on no token of
+    /// the id is taken, and no request is served under its contexts, until [`Device::allow`] or whoever may removes the value. The device's own
+    /// scope must name the path.
+    ///
+    /// `None` where the server has no revocation path, or the id is too long for one. Without memory for the request an `AllocError`. Then
+    /// nothing has changed.
+    pub fn revoke<A: Ciphers>(
+        &mut self,
+        alloc: Global,
+        now: Moment,
+        id: &[u8],
+        draw: &Draw,
+        server_draw: &Draw,
+    ) -> Result<Option<Round>, AllocError>
+        ensures asked { IfOk result (λ found. IfSome found (λ round. (path : List ℕ) × (revocation_of self.old.server.desk.revoked id.now ≡ Some path)
+            × AsksItsServer A.is_sealing A.TAG self.old
+            (record { at = now; draw = draw.now; server_draw = server_draw.now; request = own_request_of Put path None [] }) round self.new
+            × IsAnsweredWhereReady self.old (record { at = now; draw = draw.now; request = own_request_of Put path None [] }) round self.new)) }
+        ensures none { IfOk result (λ found. IfNone found ((revocation_of self.old.server.desk.revoked id.now ≡ None) × (self.new ≡ self.old))) }
+        ensures run { IfOk result (λ found. IfSome found (λ round. AllGoOn self.old (λ number. noted number round) self.new)) }
+        ensures entry { IfOk result (λ found. IfSome found (λ round. IsOfAnEntry self.old round)) }
+        ensures err { OnErr result (self.new ≡ self.old) }
+    {
+        match self.server.desk().revocation_of(alloc, id)? {
+            Some(path) => {
+                let round = self.put::<A>(
+                    alloc,
+                    now,
+                    path,
+                    None,
+                    Bytes::new(alloc),
+                    draw,
+                    server_draw,
+                )?;
+                Ok(Some(round))
+            }
+            None => Ok(None),
+        }
+    }
+
+    /// Lets the tokens of this id in again: removes what is at the path that stands for it, as [`Device::remove`] does.
+    ///
+    /// `None` and an `AllocError` as for [`Device::revoke`].
+    pub fn allow<A: Ciphers>(
+        &mut self,
+        alloc: Global,
+        now: Moment,
+        id: &[u8],
+        draw: &Draw,
+        server_draw: &Draw,
+    ) -> Result<Option<Round>, AllocError>
+        ensures asked { IfOk result (λ found. IfSome found (λ round. (path : List ℕ) × (revocation_of self.old.server.desk.revoked id.now ≡ Some path)
+            × AsksItsServer A.is_sealing A.TAG self.old
+            (record { at = now; draw = draw.now; server_draw = server_draw.now; request = own_request_of Delete path None [] }) round self.new
+            × IsAnsweredWhereReady self.old (record { at = now; draw = draw.now; request = own_request_of Delete path None [] }) round self.new)) }
+        ensures none { IfOk result (λ found. IfNone found ((revocation_of self.old.server.desk.revoked id.now ≡ None) × (self.new ≡ self.old))) }
+        ensures run { IfOk result (λ found. IfSome found (λ round. AllGoOn self.old (λ number. noted number round) self.new)) }
+        ensures entry { IfOk result (λ found. IfSome found (λ round. IsOfAnEntry self.old round)) }
+        ensures err { OnErr result (self.new ≡ self.old) }
+    {
+        match self.server.desk().revocation_of(alloc, id)? {
+            Some(path) => {
+                let round = self.remove::<A>(alloc, now, path, draw, server_draw)?;
+                Ok(Some(round))
+            }
+            None => Ok(None),
+        }
     }
 
     /// Posts the device's token to the server, as [`Client::exchange`] does, so that it has a context. Without memory for the post an

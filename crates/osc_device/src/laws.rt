@@ -3,7 +3,7 @@
 ghost use Rattle.std.specs.Prelude.{◌≡◌, ◌∷◌, ◌<◌, ◌^◌, [], false, List, None, length};
 ghost use Rattle.osc_model.specs.declared.node.Draw.{Draw as AnyDraw};
 ghost use Rattle.osc_model.specs.declared.node.Moment.{Moment as AnyMoment};
-ghost use Rattle.osc_model.specs.{quiet};
+ghost use Rattle.osc_model.specs.{is_revoked, quiet};
 ghost use Rattle.osc_model.specs.StepNotes.{StepNotes};
 ghost use Rattle.osc_scope.specs.{Entry};
 ghost use Rattle.osc_token.specs.{HasLawfulParts};
@@ -53,11 +53,12 @@ pub fn a_context_is_made<A: Ciphers>()
     osc_rounds::laws::an_exchange_is_made::<A>();
 }
 
-/// A device whose token counts may post it once it waits for nothing, as where it begins and where it starts again: the server has no context
-/// there, and heard nothing.
+/// A device whose token counts, and isn't revoked, may post it once it waits for nothing, as where it begins and where it starts again: the
+/// server has no context there, and heard nothing.
 pub fn a_granted_device_may_open<A: Ciphers>()
     ensures { (device : State) (now : AnyMoment) (draw : AnyDraw) (claims : AnyClaims) (entries : List Entry)
         → IsGranted A.is_sealing device claims entries
+        → is_revoked device.server.desk.revoked device.server.tree claims.material.id ≡ false
         → device.own.waiting ≡ None → device.server.desk.table ≡ [] → device.server.endpoint.seen ≡ []
         → MayOpen A.is_sealing device now draw claims entries }
 {}

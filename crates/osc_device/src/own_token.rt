@@ -1,6 +1,6 @@
 //! What a device is made of.
 
-use osc_model::Bytes;
+use osc_model::{Bytes, Path};
 use osc_scope::Scope;
 use osc_token::Audience;
 use osc_tree::Tree;
@@ -17,6 +17,11 @@ pub struct ServerParts {
     pub key: [u8; 16],
     /// For whom tokens are that the server takes.
     pub audience: Audience,
+    /// The path below which a resource revokes a token, by the hexadecimal digits of the token's id ([`Device::revoke`]); none where no token
+    /// can be revoked.
+    ///
+    /// [`Device::revoke`]: crate::Device::revoke
+    pub revoked: Option<Path>,
 }
 
 /// The device's own token, which no other has: it is minted under the server's key, for its audience, and counts at all times.

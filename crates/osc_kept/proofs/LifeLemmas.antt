@@ -1,8 +1,10 @@
 -- The lives of a server are one run.
-use Rattle.std.proofs.Common.{◌≡◌, ◌⊎◌, List, [], ◌∷◌, ◌++◌, inl, inr, refl}
+use Rattle.std.proofs.Common.{◌≡◌, ◌⊎◌, List, [], ◌∷◌, ◌++◌, inl, inr, refl, ap}
 use Rattle.osc_model.specs.{quiet}
+use Rattle.osc_model.specs.StepNotes.{StepNotes}
+use Rattle.osc_model.specs.declared.node.Moment.{Moment}
 use Rattle.osc_model.specs.declared.step.Datagram.{Datagram}
-use Rattle.osc_run.specs.{IsReached, Noted, OfServer, ServerRestarted, ServerState, WorldState, by_server}
+use Rattle.osc_run.specs.{IsReached, Noted, OfServer, Posted, Served, ServerIdle, ServerRestarted, ServerState, ServerStep, WorldState, by_server}
 use Rattle.osc_kept.specs.{Cut, IsLived, Notes, StartsOver}
 
 noted_of : (old : ServerState) (cut : Cut old) → (noted : List Noted) × Notes old cut noted
@@ -16,15 +18,22 @@ noted_of old cut = by cut.sent refl cut.either
 pub starts_over : (old : WorldState) (cut : Cut old.server) → (new : WorldState) × (over : StartsOver old new) × (over.cut ≡ cut)
 starts_over old cut = (_, record { cut = cut; noted = (noted_of old.server cut).0; notes = (noted_of old.server cut).1; is = refl }, refl)
 
+-- the revocation path stays
+revoked_stays : (old new : ServerState) (now : Moment) (notes : StepNotes) → ServerStep old now notes new → new.revoked ≡ old.revoked
+revoked_stays old new now notes (ServerIdle is) = is.revoked
+revoked_stays old new now notes (Posted is) = is.revoked
+revoked_stays old new now notes (Served is) = is.revoked
+revoked_stays old new now notes (ServerRestarted is) = ap (λ (s : ServerState). s.revoked) is.is
+
 -- from one world of a run to another
 abbrev over_from : (v : WorldState) → Cut v.server → List Noted → WorldState
-over_from v cut noted = record v { server = record { contexts = []; tree = cut.found }; notes = by_server quiet ∷ (noted ++ v.notes) }
+over_from v cut noted = record v { server = record v.server { contexts = []; tree = cut.found }; notes = by_server quiet ∷ (noted ++ v.notes) }
 
 reached_over : (v w : WorldState) (cut : Cut v.server) (noted : List Noted) → Notes v.server cut noted → w ≡ over_from v cut noted → IsReached v → IsReached w
 reached_over v w cut _ (Notes.unheard none before) is reached = (
   v ∷ reached.0,
   (
-    OfServer cut.now _ quiet (ServerRestarted (record { noted = refl; is = λ i. record { contexts = []; tree = before i } })) is,
+    OfServer cut.now _ quiet (ServerRestarted (record { noted = refl; is = λ i. record v.server { contexts = []; tree = before i } })) is,
     reached.1,
   ),
 )
@@ -32,7 +41,7 @@ reached_over v w cut _ (Notes.counted after) is reached =
     let between : WorldState = record v { server = cut.new; notes = by_server cut.step.notes ∷ v.notes } in (
       between ∷ (v ∷ reached.0),
       (
-        OfServer cut.now _ quiet (ServerRestarted (record { noted = refl; is = λ i. record { contexts = []; tree = after i } })) is,
+        OfServer cut.now _ quiet (ServerRestarted (record { noted = refl; is = λ i. record { contexts = []; tree = after i; revoked = revoked_stays v.server cut.new cut.now cut.step.notes cut.kind (~ i) } })) is,
         (OfServer cut.now cut.new cut.step.notes cut.kind refl, reached.1),
       ),
     )

@@ -30,7 +30,7 @@ pub record StartsOver (old new : WorldState) : Type 0 where
   pub cut : Cut old.server
   pub noted : List Noted
   pub notes : Notes old.server cut noted
-  pub is : new ≡ record old { server = record { contexts = []; tree = cut.found }; notes = by_server quiet ∷ (noted ++ old.notes) }
+  pub is : new ≡ record old { server = record old.server { contexts = []; tree = cut.found }; notes = by_server quiet ∷ (noted ++ old.notes) }
 
 -- a world whose server's power may go at any moment, any number of times
 pub data IsLived : WorldState → Type 0 where

@@ -7,7 +7,7 @@ use Rattle.std.proofs.lemmas.List.{length-take}
 use Rattle.std.proofs.lemmas.Str.{IsUtf8-from_ascii, is_utf8-from_IsUtf8}
 use Rattle.std.proofs.lemmas.Str.Ascii.{IsAscii-nil}
 use Rattle.std.proofs.lemmas.Option.{same_Some}
-use Rattle.osc_model.specs.{read_as, code, nonce_drawn, HasBegun, IsNotOver, quiet}
+use Rattle.osc_model.specs.{read_as, code, nonce_drawn, HasBegun, IsNotOver, quiet, revocation_of, stands}
 use Rattle.osc_model.specs.Arrival.{Arrival}
 use Rattle.osc_model.specs.Scope.{Scope}
 use Rattle.osc_model.specs.declared.algorithm.Algorithm.TheVariants.{EightByteTag}
@@ -36,13 +36,14 @@ use Rattle.osc_token.specs.declared.claims.Claims.{Claims}
 use Rattle.osc_authz.specs.{ClientContextState, Finishes, DeskState, answer_item, post_item, In, Posts, IsLawfulContext, contexts, IsWelcome}
 use Rattle.osc_authz.specs.Begun.{Begun}
 use Rattle.osc_authz.specs.SecurityContext.{SecurityContext}
+use Rattle.osc_authz.specs.Standing.{Standing}
 use Rattle.osc_authz.specs.HoldsToken.{HoldsToken}
 use Rattle.osc_authz.specs.declared.error.FinishError.{FinishError}
 use Rattle.osc_authz.specs.declared.error.PostError.{PostError}
 use Rattle.osc_authz.specs.declared.granted.ClientDesk.{ClientDesk}
 use Rattle.osc_authz.specs.declared.post.Post.{Post}
 use Rattle.osc_authz.specs.declared.post.PostAnswer.{PostAnswer}
-use Rattle.osc_server.specs.{case_of as server_case, Hears as ServerHears, Answers as ServerAnswers, AnswersNew as ServerAnswersNew, AnswersPost, post_reply, reply_to}
+use Rattle.osc_server.specs.{standing_of, case_of as server_case, Hears as ServerHears, Answers as ServerAnswers, AnswersNew as ServerAnswersNew, AnswersPost, post_reply, reply_to}
 use Rattle.osc_server.specs.State.{State as Server}
 use Rattle.osc_server.specs.declared.case.Case.{Case as ServerCase}
 use Rattle.osc_server.specs.declared.case.Case.TheVariants.{Posted}
@@ -182,18 +183,19 @@ module _ (is_sealing : Sealings) where
     pub one_reception : (bytes : List ℕ) (a b : Received) → Receives bytes a → Receives bytes b → a ≡ b
     pub spelled_length : (m : Message) → length (spelling m) ≡ spelled_length m
     pub answer_length : (nonce2 : List ℕ) (id : ℕ) → length nonce2 ≡ 8 → length (item_spelling (answer_item nonce2 (id ∷ []))) ≡ 16
-    pub welcome : (before after : DeskState) (now : Moment) (draw : Draw) (post : Post) (claims : Claims) (entries : List Entry) (holder : ClientDesk) (nonce1 : List ℕ) (id : ℕ)
-        → IsWelcome (is_sealing EightByteTag) before now claims entries holder → length nonce1 ≡ 8
-        → Posts (is_sealing EightByteTag) before (record { at = now; body = item_spelling (post_item holder.token nonce1 (id ∷ [])); draw = draw }) post after
+    pub welcome : (before after : DeskState) (on : Standing) (draw : Draw) (post : Post) (claims : Claims) (entries : List Entry) (holder : ClientDesk) (nonce1 : List ℕ) (id : ℕ)
+        → IsWelcome (is_sealing EightByteTag) before on claims entries holder → length nonce1 ≡ 8
+        → Posts (is_sealing EightByteTag) before (record { on = on; body = item_spelling (post_item holder.token nonce1 (id ∷ [])); draw = draw }) post after
         → (answer : PostAnswer) × (post.answer ≡ Ok answer) × (answer.nonce2 ≡ nonce_drawn draw)
-    pub one_name : (before after : DeskState) (now : Moment) (draw : Draw) (post : Post) (answer : PostAnswer)
+    pub one_name : (before after : DeskState) (on : Standing) (draw : Draw) (post : Post) (answer : PostAnswer)
         (claims : Claims) (entries : List Entry) (client : ClientDesk) (begun : Begun) (finished : Result ClientContextState FinishError)
         → length draw.0 ≡ 32 → length begun.nonce1 ≡ 8 → HoldsToken (is_sealing EightByteTag) before.key claims entries client
-        → Posts (is_sealing EightByteTag) before (record { at = now; body = item_spelling (post_item client.token begun.nonce1 (begun.recipient_id ∷ [])); draw = draw }) post after
+        → Posts (is_sealing EightByteTag) before (record { on = on; body = item_spelling (post_item client.token begun.nonce1 (begun.recipient_id ∷ [])); draw = draw }) post after
         → post.answer ≡ Ok answer
         → Finishes client begun (code 2 1) (item_spelling (answer_item answer.nonce2 (answer.recipient_id ∷ []))) finished
         → (held : SecurityContext) × In held (contexts after.table) × (held.scope ≡ scope_of entries)
         × (held.not_before ≡ claims.not_before) × (held.expires ≡ claims.expires)
+        × (held.revocation ≡ revocation_of before.revoked claims.material.id)
         × (finished ≡ Ok (record { name = held.name; next = 0 }))
         × (held.window ≡ []) × IsLawfulContext held × (HasLawfulParts claims → HasShortContext held.name)
 
@@ -214,9 +216,9 @@ module _ (is_sealing : Sealings) (laws : ExchangeLaws is_sealing)
 
   agreed_to : AnswersPost is_sealing server (read_as came (post_to host id token body)) step new → IsAgreedTo is_sealing server came exchange step new
   agreed_to it =
-      let posts : Posts (is_sealing EightByteTag) server.desk (posted exchange came) it.post new.desk =
-      subst (λ (bytes : List ℕ). Posts (is_sealing EightByteTag) server.desk (record { at = came.at; body = bytes; draw = came.draw }) it.post new.desk) (payload_again body) it.posts in
-      let answered = laws.welcome server.desk new.desk came.at came.draw it.post exchange.claims exchange.entries exchange.holder exchange.begun.nonce1 exchange.begun.recipient_id awaits.welcome awaits.nonce posts in
+      let posts : Posts (is_sealing EightByteTag) server.desk (posted server.tree exchange came) it.post new.desk =
+      subst (λ (bytes : List ℕ). Posts (is_sealing EightByteTag) server.desk (record { on = standing_of server came.at; body = bytes; draw = came.draw }) it.post new.desk) (payload_again body) it.posts in
+      let answered = laws.welcome server.desk new.desk (standing_of server came.at) came.draw it.post exchange.claims exchange.entries exchange.holder exchange.begun.nonce1 exchange.begun.recipient_id awaits.welcome awaits.nonce posts in
       let reply_is : reply_to server.endpoint (read_as came (post_to host id token body)) (post_reply it.post.answer) ≡ agreement Acknowledgement id token answered.0 =
       ap (λ (a : Result PostAnswer PostError). reply_to server.endpoint (read_as came (post_to host id token body)) (post_reply a)) answered.1 in
       record {
@@ -227,6 +229,7 @@ module _ (is_sealing : Sealings) (laws : ExchangeLaws is_sealing)
         nonce = answered.2;
         out = ap (λ (s : Step). s.out) it.sent.sent ∙ ap (λ (m : Message). datagram came.from m ∷ []) reply_is;
         notes = ap (λ (s : Step). s.notes) it.sent.sent;
+        tree = ap (λ (s : Server). s.tree) it.sent.kept;
       }
 
   pub hears_post : IsCarried came.what → ServerHears is_sealing server (in_bytes came) step new → IsAgreedTo is_sealing server came exchange step new
@@ -286,19 +289,20 @@ module _ (is_sealing : Sealings) (laws : ExchangeLaws is_sealing)
       → (held : SecurityContext) × IsHeld agreed now entries held × (finished ≡ Ok (made_of held))
   finishes finished finish =
       let one =
-      laws.one_name server.desk agreed.desk now came.draw is.post is.answer exchange.claims entries holder its finished size awaits.nonce awaits.welcome.holds is.posts is.agrees finish in (
+      laws.one_name server.desk agreed.desk (standing_of server now) came.draw is.post is.answer exchange.claims entries holder its finished size awaits.nonce awaits.welcome.holds is.posts is.agrees finish in (
         one.0,
         record {
           here = one.1;
           live = record {
             begun = subst (λ (bound : Option ℕ). HasBegun bound now) (sym one.3) awaits.welcome.begun;
             not_over = subst (λ (bound : Option ℕ). IsNotOver bound now) (sym one.4) awaits.welcome.not_over;
+            unrevoked = (λ i. stands (is.tree i) (one.5 i)) ∙ awaits.welcome.unrevoked;
           };
           scope = one.2;
-          window = one.6;
-          short = one.8 awaits.welcome.lawful;
+          window = one.7;
+          short = one.9 awaits.welcome.lawful;
         },
-        one.5,
+        one.6,
       )
 
   module _ (kind : Kind) (to : ℕ) (under : List ℕ) where

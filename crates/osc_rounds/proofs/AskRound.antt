@@ -31,10 +31,11 @@ use Rattle.osc_context.specs.{longest_id}
 use Rattle.osc_protect.specs.{HasShortContext, IsProtectedRequest, longest_message, plain_bytes, request_length, request_value}
 use Rattle.osc_authz.specs.{ClientContextState, IsLive, In, IsLawfulContext, IsTable, contexts, meant}
 use Rattle.osc_authz.specs.SecurityContext.{SecurityContext}
+use Rattle.osc_authz.specs.Standing.{Standing}
 use Rattle.osc_authz.specs.declared.token_entry.TokenEntry.{TokenEntry}
 use Rattle.osc_run.specs.{request_note, Replies as AppliesTo}
 use Rattle.osc_server.specs.State.{State as Server}
-use Rattle.osc_server.specs.{Hears as ServerHears, answered, reply_to}
+use Rattle.osc_server.specs.{standing_of, Hears as ServerHears, answered, reply_to}
 use Rattle.osc_client.specs.{IsLawfulClient, Asked, plain_of, plain_request, waits, HostAndPort, through}
 use Rattle.osc_client.specs.State.{State as Client}
 use Rattle.osc_client.specs.declared.waiting.Awaited.TheVariants.{Ask}
@@ -50,8 +51,8 @@ use Rattle.osc_rounds.proofs.Sendable.{IsShortReply, TextLaw, request_sendable, 
 module _ (is_sealing : Sealings) (tag : Tags) where
   pub record RoundLaws : Type 0 where
     pub itself : (a : Peer) → same_peer a a ≡ true
-    pub meant_is : (now : Moment) (table : List TokenEntry) (held : SecurityContext) → IsTable table → In held (contexts table) → IsLive now held
-        → meant now held.name.client_id held.name.id_context table ≡ Some held
+    pub meant_is : (on : Standing) (table : List TokenEntry) (held : SecurityContext) → IsTable table → In held (contexts table) → IsLive on held
+        → meant on held.name.client_id held.name.id_context table ≡ Some held
     pub request : RequestLaws is_sealing
     pub reply : ReplyLaws is_sealing
     pub spelled_length : (m : Message) → length (spelling m) ≡ spelled_length m
@@ -209,7 +210,7 @@ module _ (is_sealing : Sealings) (tag : Tags) (laws : RoundLaws is_sealing tag)
   awaits_request : AwaitsRequest server now at held context.next (own_id draw client.endpoint.next_id)
   awaits_request = record {
     lawful = record { context = short; client_id = client_id_short };
-    means = laws.meant_is now server.desk.table held lawful.table ends.here ends.live;
+    means = laws.meant_is (standing_of server now) server.desk.table held lawful.table ends.here ends.live;
     number_lawful = ends.number;
     fresh = ends.fresh;
     unheard = goes.unheard;

@@ -19,7 +19,7 @@ use Rattle.osc_ccm.specs.{Sealings, Tags}
 use Rattle.osc_protect.specs.{HasShortContext, plain_bytes, request_value, response_value}
 use Rattle.osc_authz.specs.{ClientContextState}
 use Rattle.osc_authz.specs.SecurityContext.{SecurityContext}
-use Rattle.osc_server.specs.{Hears as ServerHears}
+use Rattle.osc_server.specs.{standing_of, Hears as ServerHears}
 use Rattle.osc_server.specs.State.{State as Server}
 use Rattle.osc_client.specs.{Hears as ClientHears, Asked, plain_of, plain_request, waits, HostAndPort, proxy_options, through}
 use Rattle.osc_client.specs.State.{State as Client}
@@ -317,7 +317,7 @@ module _ (is_sealing : Sealings) (tag : Tags) (laws : ThroughLaws is_sealing tag
     awaits_request : AwaitsRequest server now proxy_at held context.next id
     awaits_request = record {
       lawful = record { context = short; client_id = client_id_short };
-      means = laws.round.meant_is now server.desk.table held lawful.table ends.here ends.live;
+      means = laws.round.meant_is (standing_of server now) server.desk.table held lawful.table ends.here ends.live;
       number_lawful = ends.number;
       fresh = ends.fresh;
       unheard = unheard;

@@ -29,7 +29,7 @@ use Rattle.osc_ccm.specs.{Sealings}
 use Rattle.osc_authz.specs.SecurityContext.{SecurityContext}
 use Rattle.osc_authz.specs.{meant, accepted}
 use Rattle.osc_run.specs.{Replies as AppliesTo}
-use Rattle.osc_server.specs.{case_of as server_case, Answers as ServerAnswers, AnswersNew as ServerAnswersNew, AnswersProtected, IsMeant, IsRefused, IsSealed, Sends, Serves, notes_of_request, refused, reply_to, served, Hears as ServerHears}
+use Rattle.osc_server.specs.{met, standing_of, case_of as server_case, Answers as ServerAnswers, AnswersNew as ServerAnswersNew, AnswersProtected, IsMeant, IsRefused, IsSealed, Sends, Serves, notes_of_request, refused, reply_to, served, Hears as ServerHears}
 use Rattle.osc_server.specs.State.{State as Server}
 use Rattle.osc_server.specs.declared.case.Case.{Case}
 use Rattle.osc_server.specs.declared.case.Case.TheVariants.{Protected}
@@ -194,16 +194,16 @@ module _ (is_sealing : Sealings) (laws : RequestLaws is_sealing)
   once = opens_once is_sealing laws name number m p awaits.lawful.context awaits.lawful.client_id awaits.number_lawful made
 
   -- which context it means
-  same_held : (request : SealedRequest) (other : SecurityContext) → IsMeant old.desk came request other → held ≡ other
+  same_held : (request : SealedRequest) (other : SecurityContext) → IsMeant (met old) came request other → held ≡ other
   same_held request other is =
       same_Some held other
-      (sym awaits.means ∙ ap (λ (r : SealedRequest). meant now r.kid r.kid_context old.desk.table) (sym (whatever request is.is_request)) ∙ is.is_meant)
+      (sym awaits.means ∙ ap (λ (r : SealedRequest). meant (standing_of old now) r.kid r.kid_context old.desk.table) (sym (whatever request is.is_request)) ∙ is.is_meant)
 
   -- none of the reasons stands
-  not_refused : (refusal : Refusal) → IsRefused is_sealing old.desk came refusal → ⊥
+  not_refused : (refusal : Refusal) → IsRefused is_sealing (met old) came refusal → ⊥
   not_refused Malformed is = is what is_read
   not_refused NoContext is =
-      let none : Some held ≡ None = sym awaits.means ∙ ap (λ (r : SealedRequest). meant now r.kid r.kid_context old.desk.table) (sym (whatever is.0 is.1)) ∙ is.2 in cc
+      let none : Some held ≡ None = sym awaits.means ∙ ap (λ (r : SealedRequest). meant (standing_of old now) r.kid r.kid_context old.desk.table) (sym (whatever is.0 is.1)) ∙ is.2 in cc
   not_refused Replayed is =
       let number_is : number ≡ is.0.number = ap (λ (r : SealedRequest). r.number) (sym (whatever is.0 is.2.is_request)) in
       is.3 (subst (IsFresh is.1.window) number_is (subst (λ (h : SecurityContext). IsFresh h.window number) (same_held is.0 is.1 is.2) awaits.fresh))

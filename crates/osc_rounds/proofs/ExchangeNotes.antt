@@ -1,5 +1,5 @@
 -- What the steps of an exchange that goes straight to the server note.
-use Rattle.std.proofs.Common.{◌≡◌, ◌∙◌, sym, ap, subst, refl, ℕ, ◌^◌, ◌<◌, ◌≤◌, List, [], ◌∷◌, length, Option, Some, None, Result, Ok, unwrap_or, arith}
+use Rattle.std.proofs.Common.{◌≡◌, ◌∙◌, sym, ap, inl, inr, subst, refl, ℕ, ◌^◌, ◌<◌, ◌≤◌, List, [], ◌∷◌, length, Option, Some, None, Result, Ok, unwrap_or, arith}
 use Rattle.std.specs.Prelude.{◌≢◌}
 use Rattle.std.proofs.lemmas.List.{length-take}
 use Rattle.osc_model.specs.{read_as, nonce_drawn, token_drawn, quiet}
@@ -28,13 +28,14 @@ use Rattle.osc_protect.specs.{longest_message}
 use Rattle.osc_scope.specs.{Entry}
 use Rattle.osc_token.specs.{IsToken, algorithm_header, claims_item, token_note, token_object}
 use Rattle.osc_token.specs.declared.claims.Claims.{Claims}
-use Rattle.osc_authz.specs.{IsAgreed, DeskState, IsPost, post_item, Posts, IsWelcome}
+use Rattle.osc_authz.specs.{IsAgreed, IsKeyFor, DeskState, IsPost, post_item, Posts, IsWelcome}
 use Rattle.osc_authz.specs.Posting.{Posting}
+use Rattle.osc_authz.specs.Standing.{Standing}
 use Rattle.osc_authz.specs.declared.error.PostError.{PostError}
 use Rattle.osc_authz.specs.declared.granted.ClientDesk.{ClientDesk}
 use Rattle.osc_authz.specs.declared.post.Post.{Post}
 use Rattle.osc_authz.specs.declared.post.PostAnswer.{PostAnswer}
-use Rattle.osc_server.specs.{case_of as server_case, Hears as ServerHears, Answers as ServerAnswers, AnswersNew as ServerAnswersNew, AnswersPost, nonce_of_post, notes_of_post, refusal_of_post}
+use Rattle.osc_server.specs.{standing_of, case_of as server_case, Hears as ServerHears, Answers as ServerAnswers, AnswersNew as ServerAnswersNew, AnswersPost, nonce_of_post, notes_of_post, refusal_of_post}
 use Rattle.osc_server.specs.State.{State as Server}
 use Rattle.osc_server.specs.declared.case.Case.{Case as ServerCase}
 use Rattle.osc_client.specs.{IsLawfulClient, Exchanges, begins, begun_by, busy, post_by, post_with, HostAndPort, through}
@@ -50,9 +51,9 @@ use Rattle.osc_rounds.proofs.Unheard.{still_unheard}
 
 module _ (is_sealing : Sealings) where
   pub record TokenLaws : Type 0 where
-    pub welcome : (before after : DeskState) (now : Moment) (draw : Draw) (post : Post) (claims : Claims) (entries : List Entry) (holder : ClientDesk) (nonce1 : List ℕ) (id : ℕ)
-        → IsWelcome (is_sealing EightByteTag) before now claims entries holder → length nonce1 ≡ 8
-        → Posts (is_sealing EightByteTag) before (record { at = now; body = item_spelling (post_item holder.token nonce1 (id ∷ [])); draw = draw }) post after
+    pub welcome : (before after : DeskState) (on : Standing) (draw : Draw) (post : Post) (claims : Claims) (entries : List Entry) (holder : ClientDesk) (nonce1 : List ℕ) (id : ℕ)
+        → IsWelcome (is_sealing EightByteTag) before on claims entries holder → length nonce1 ≡ 8
+        → Posts (is_sealing EightByteTag) before (record { on = on; body = item_spelling (post_item holder.token nonce1 (id ∷ [])); draw = draw }) post after
         → (answer : PostAnswer) × (post.answer ≡ Ok answer) × (answer.nonce2 ≡ nonce_drawn draw)
     pub agreed : (before after : DeskState) (posting : Posting) (post : Post) (answer : PostAnswer)
         → Posts (is_sealing EightByteTag) before posting post after → post.answer ≡ Ok answer → IsAgreed (is_sealing EightByteTag) before posting post answer after
@@ -70,17 +71,17 @@ module _ (is_sealing : Sealings) where
 -- ---- a post with a welcome token
 
 module _ (is_sealing : Sealings) (laws : TokenLaws is_sealing)
-    (before after : DeskState) (now : Moment) (draw : Draw) (post : Post) (claims : Claims) (entries : List Entry) (holder : ClientDesk) (nonce1 : List ℕ) (client_id : ℕ)
-    (welcome : IsWelcome (is_sealing EightByteTag) before now claims entries holder) (size : length nonce1 ≡ 8)
-    (posts : Posts (is_sealing EightByteTag) before (record { at = now; body = item_spelling (post_item holder.token nonce1 (client_id ∷ [])); draw = draw }) post after) where
+    (before after : DeskState) (on : Standing) (draw : Draw) (post : Post) (claims : Claims) (entries : List Entry) (holder : ClientDesk) (nonce1 : List ℕ) (client_id : ℕ)
+    (welcome : IsWelcome (is_sealing EightByteTag) before on claims entries holder) (size : length nonce1 ≡ 8)
+    (posts : Posts (is_sealing EightByteTag) before (record { on = on; body = item_spelling (post_item holder.token nonce1 (client_id ∷ [])); draw = draw }) post after) where
   abbrev offering : Posting
-  offering = record { at = now; body = item_spelling (post_item holder.token nonce1 (client_id ∷ [])); draw = draw }
+  offering = record { on = on; body = item_spelling (post_item holder.token nonce1 (client_id ∷ [])); draw = draw }
 
   abbrev text : List ℕ
   text = item_spelling (claims_item claims)
 
   answer : (answer : PostAnswer) × (post.answer ≡ Ok answer) × (answer.nonce2 ≡ nonce_drawn draw)
-  answer = laws.welcome before after now draw post claims entries holder nonce1 client_id welcome size posts
+  answer = laws.welcome before after on draw post claims entries holder nonce1 client_id welcome size posts
 
   is_agreed : IsAgreed (is_sealing EightByteTag) before offering post answer.0 after
   is_agreed = laws.agreed before after offering post answer.0 posts answer.1
@@ -91,12 +92,25 @@ module _ (is_sealing : Sealings) (laws : TokenLaws is_sealing)
       is_agreed.opened.is_post
       (laws.written holder.token nonce1 (client_id ∷ []) welcome.holds.token_size (omega (arith, size)) (omega (arith, size)) (omega arith))).0
 
+  -- it opens under the desk's key
+  own_key : IsKeyFor (is_sealing EightByteTag) before is_agreed.opened.token is_agreed.key → is_agreed.key ≡ before.key
+  own_key (inl own) = own
+  own_key (inr old) =
+      let holds = welcome.holds in
+      absurd (old.1 (record { protected = algorithm_header; iv = holds.iv; text = text },
+      subst (λ (b : List ℕ). IsToken (is_sealing EightByteTag) before.key b algorithm_header holds.iv text) (sym (its_token ∙ holds.token))
+      (laws.minted before.key holds.iv text holds.ciphertext holds.iv_size holds.short holds.sealed)))
+
+  its_key : is_agreed.key ≡ before.key
+  its_key = own_key is_agreed.key_is
+
   its_text : is_agreed.its.text ≡ text
   its_text =
       let holds = welcome.holds in
       let bytes : List ℕ = item_spelling (object_item (token_object holds.iv holds.ciphertext)) in
       let opened : IsToken (is_sealing EightByteTag) before.key bytes is_agreed.its.protected is_agreed.its.iv is_agreed.its.text =
-      subst (λ (b : List ℕ). IsToken (is_sealing EightByteTag) before.key b is_agreed.its.protected is_agreed.its.iv is_agreed.its.text) (its_token ∙ holds.token) is_agreed.opened.is_token in
+      subst (λ (k : List ℕ). IsToken (is_sealing EightByteTag) k bytes is_agreed.its.protected is_agreed.its.iv is_agreed.its.text) its_key
+      (subst (λ (b : List ℕ). IsToken (is_sealing EightByteTag) is_agreed.key b is_agreed.its.protected is_agreed.its.iv is_agreed.its.text) (its_token ∙ holds.token) is_agreed.opened.is_token) in
       let same = laws.one_token before.key bytes is_agreed.its.protected is_agreed.its.iv is_agreed.its.text algorithm_header holds.iv text opened
       (laws.minted before.key holds.iv text holds.ciphertext holds.iv_size holds.short holds.sealed) in
       same.2
@@ -107,7 +121,8 @@ module _ (is_sealing : Sealings) (laws : TokenLaws is_sealing)
     protected = is_agreed.its.protected;
     iv = is_agreed.its.iv;
     is =
-        ap (λ (o : Option Note). let n : StepNotes = record quiet { opens = o; drawn = nonce_of_post post.answer; refused = refusal_of_post post.answer } in n) is_agreed.noted
+        ap (λ (o : Option Note). let n : StepNotes = record quiet { opens = o; drawn = nonce_of_post post.answer; refused = refusal_of_post post.answer } in n)
+        (is_agreed.noted ∙ ap (λ (k : List ℕ). Some (token_note k is_agreed.its.protected is_agreed.its.iv is_agreed.its.text)) its_key)
         ∙ ap (λ (a : Result PostAnswer PostError). let n : StepNotes = record quiet { opens = Some (token_note before.key is_agreed.its.protected is_agreed.its.iv is_agreed.its.text); drawn = nonce_of_post a; refused = refusal_of_post a } in n) answer.1
         ∙ ap (λ (d : List ℕ). let n : StepNotes = record quiet { opens = Some (token_note before.key is_agreed.its.protected is_agreed.its.iv is_agreed.its.text); drawn = Some d } in n) answer.2
         ∙ ap (λ (t : List ℕ). let n : StepNotes = record quiet { opens = Some (token_note before.key is_agreed.its.protected is_agreed.its.iv t); drawn = Some (nonce_drawn draw) } in n) its_text;
@@ -116,16 +131,16 @@ module _ (is_sealing : Sealings) (laws : TokenLaws is_sealing)
 -- what a server notes of it, whichever way the post came
 pub answer_notes : (is_sealing : Sealings) (laws : TokenLaws is_sealing)
     (server agreed : Server) (came : Arrival Message) (step : Step) (claims : Claims) (entries : List Entry) (holder : ClientDesk) (nonce1 : List ℕ) (client_id : ℕ)
-    → IsWelcome (is_sealing EightByteTag) server.desk came.at claims entries holder → length nonce1 ≡ 8
+    → IsWelcome (is_sealing EightByteTag) server.desk (standing_of server came.at) claims entries holder → length nonce1 ≡ 8
     → came.what.payload ≡ payload_of (item_spelling (post_item holder.token nonce1 (client_id ∷ [])))
     → AnswersPost is_sealing server came step agreed
     → AreNotesOfAgreement server.desk.key (claims_text claims) came.draw step.notes
 answer_notes is_sealing laws server agreed came step claims entries holder nonce1 client_id welcome size payload it =
     let body : List ℕ = item_spelling (post_item holder.token nonce1 (client_id ∷ [])) in
     let bytes : unwrap_or came.what.payload [] ≡ body = ap (λ (p : Option (List ℕ)). unwrap_or p []) payload ∙ payload_again body in
-    let posts : Posts (is_sealing EightByteTag) server.desk (record { at = came.at; body = body; draw = came.draw }) it.post agreed.desk =
-    subst (λ (b : List ℕ). Posts (is_sealing EightByteTag) server.desk (record { at = came.at; body = b; draw = came.draw }) it.post agreed.desk) bytes it.posts in
-    let notes = post_notes is_sealing laws server.desk agreed.desk came.at came.draw it.post claims entries holder nonce1 client_id welcome size posts in
+    let posts : Posts (is_sealing EightByteTag) server.desk (record { on = standing_of server came.at; body = body; draw = came.draw }) it.post agreed.desk =
+    subst (λ (b : List ℕ). Posts (is_sealing EightByteTag) server.desk (record { on = standing_of server came.at; body = b; draw = came.draw }) it.post agreed.desk) bytes it.posts in
+    let notes = post_notes is_sealing laws server.desk agreed.desk (standing_of server came.at) came.draw it.post claims entries holder nonce1 client_id welcome size posts in
     record { protected = notes.protected; iv = notes.iv; is = ap (λ (s : Step). s.notes) it.sent.sent ∙ notes.is }
 
 -- ---- what went out

@@ -1,6 +1,7 @@
 -- The two ends of an exchange (RFC 9203 section 4), whatever way its post and the answer go: the server agrees to a post, and the client
 -- waits for that.
 use Rattle.std.specs.Prelude.{◌≡◌, ℕ, true, List, [], ◌∷◌, length, Some, None, Ok}
+use Rattle.osc_model.specs.Tree.{Tree}
 use Rattle.osc_model.specs.Arrival.{Arrival}
 use Rattle.osc_model.specs.{code, nonce_drawn}
 use Rattle.osc_model.specs.declared.algorithm.Algorithm.TheVariants.{EightByteTag}
@@ -24,7 +25,7 @@ use Rattle.osc_authz.specs.declared.granted.ClientDesk.{ClientDesk}
 use Rattle.osc_authz.specs.declared.post.Post.{Post}
 use Rattle.osc_authz.specs.declared.post.PostAnswer.{PostAnswer}
 use Rattle.osc_server.specs.State.{State as Server}
-use Rattle.osc_server.specs.{notes_of_post, post_reply}
+use Rattle.osc_server.specs.{standing_of, notes_of_post, post_reply}
 use Rattle.osc_client.specs.State.{State as Client}
 use Rattle.osc_client.specs.declared.waiting.Awaited.TheVariants.{Exchange}
 use Rattle.osc_client.specs.declared.waiting.Waiting.{Waiting}
@@ -42,8 +43,8 @@ abbrev pub body_of : ClientDesk → Begun → List ℕ
 body_of holder begun = item_spelling (post_item holder.token begun.nonce1 (begun.recipient_id ∷ []))
 
 -- the same, as it comes to a desk
-abbrev pub posted : BegunExchange → Arrival Message → Posting
-posted exchange came = record { at = came.at; body = body_of exchange.holder exchange.begun; draw = came.draw }
+abbrev pub posted : Tree → BegunExchange → Arrival Message → Posting
+posted tree exchange came = record { on = record { at = came.at; tree = tree }; body = body_of exchange.holder exchange.begun; draw = came.draw }
 
 -- 2.01 with the nonce and the recipient ID of the server, in a message of this kind, message ID and token (section 4.2)
 abbrev pub agreement : Kind → ℕ → List ℕ → PostAnswer → Message
@@ -54,20 +55,21 @@ module _ (is_sealing : Sealings) where
   -- The token of this client is welcome at the server, the client's nonce is one of 8 bytes, and no message of the post's ID was heard
   -- from there.
   pub record AwaitsPost (server : Server) (came : Arrival Message) (exchange : BegunExchange) : Type 0 where
-    pub welcome : IsWelcome (is_sealing EightByteTag) server.desk came.at exchange.claims exchange.entries exchange.holder
+    pub welcome : IsWelcome (is_sealing EightByteTag) server.desk (standing_of server came.at) exchange.claims exchange.entries exchange.holder
     pub nonce : length exchange.begun.nonce1 ≡ 8
     pub unheard : looked came.at came.from came.what.id server.endpoint.seen ≡ None
 
   -- The server's desk agreed to what this exchange posts, and one datagram says so, in the acknowledgement of the post. The step notes what
-  -- the desk did: it opened the token and drew a nonce.
+  -- the desk did: it opened the token and drew a nonce. The resources stay.
   pub record IsAgreedTo (old : Server) (came : Arrival Message) (exchange : BegunExchange) (step : Step) (new : Server) : Type 0 where
     pub answer : PostAnswer
     pub post : Post
-    pub posts : Posts (is_sealing EightByteTag) old.desk (posted exchange came) post new.desk
+    pub posts : Posts (is_sealing EightByteTag) old.desk (posted old.tree exchange came) post new.desk
     pub agrees : post.answer ≡ Ok answer
     pub nonce : answer.nonce2 ≡ nonce_drawn came.draw
     pub out : step.out ≡ datagram came.from (agreement Acknowledgement came.what.id came.what.token answer) ∷ []
     pub notes : step.notes ≡ notes_of_post post
+    pub tree : new.tree ≡ old.tree
 
 -- the client waits for the answer to this exchange, under this token, from its next hop, which has this address
 pub record AwaitsAgreement (client : Client) (from : Peer) (holder : ClientDesk) (begun : Begun) (its_token : List ℕ) : Type 0 where

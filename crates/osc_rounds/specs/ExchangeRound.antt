@@ -16,7 +16,7 @@ use Rattle.osc_authz.specs.SecurityContext.{SecurityContext}
 use Rattle.osc_server.specs.State.{State as Server}
 use Rattle.osc_client.specs.State.{State as Client}
 use Rattle.osc_client.specs.{Hears as ClientHears}
-use Rattle.osc_server.specs.{Hears as ServerHears}
+use Rattle.osc_server.specs.{standing_of, Hears as ServerHears}
 use Rattle.osc_rounds.specs.Coming.{coming}
 
 -- the client's end of an exchange, once it is over: nothing goes out, nothing waits, and it has this context
@@ -28,7 +28,7 @@ pub record IsMade (held : SecurityContext) (step : Step) (new : Client) : Type 0
 -- the server holds a live context with this scope, which has accepted no number yet, and whose id context is no longer than one may be
 pub record IsHeld (server : Server) (now : Moment) (entries : List Entry) (held : SecurityContext) : Type 0 where
   pub here : In held (contexts server.desk.table)
-  pub live : IsLive now held
+  pub live : IsLive (standing_of server now) held
   pub scope : held.scope ≡ scope_of entries
   pub window : held.window ≡ []
   pub short : HasShortContext held.name

@@ -20,7 +20,7 @@ use Rattle.osc_token.specs.declared.claims.Claims.{Claims}
 use Rattle.osc_ccm.specs.{Sealings}
 use Rattle.osc_authz.specs.SecurityContext.{SecurityContext}
 use Rattle.osc_authz.specs.{IsWelcome}
-use Rattle.osc_server.specs.{Hears as ServerHears}
+use Rattle.osc_server.specs.{standing_of, Hears as ServerHears}
 use Rattle.osc_server.specs.State.{State as Server}
 use Rattle.osc_client.specs.{Hears as ClientHears, post_by, HostAndPort, IsLawfulOrigin}
 use Rattle.osc_client.specs.State.{State as Client}
@@ -73,7 +73,7 @@ module _ (is_sealing : Sealings) where
     pub through : client.origin ≡ Some exchange.origin
     pub next_hop : client.next_hop ≡ exchange.proxy_at
     pub idle : client.waiting ≡ None
-    pub welcome : IsWelcome (is_sealing EightByteTag) exchange.server.desk exchange.now exchange.claims exchange.entries client.desk
+    pub welcome : IsWelcome (is_sealing EightByteTag) exchange.server.desk (standing_of exchange.server exchange.now) exchange.claims exchange.entries client.desk
     -- what the type of an origin says; and a draw has a nonce and a token, of 8 bytes each
     pub origin_lawful : IsLawfulOrigin exchange.origin
     pub draw_size : 16 ≤ length exchange.draw.0

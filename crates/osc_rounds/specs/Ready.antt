@@ -14,6 +14,7 @@ use Rattle.osc_token.specs.declared.claims.Claims.{Claims}
 use Rattle.osc_ccm.specs.{Sealings}
 use Rattle.osc_authz.specs.{ClientContextState, IsLive, In, contexts, IsWelcome}
 use Rattle.osc_authz.specs.SecurityContext.{SecurityContext}
+use Rattle.osc_server.specs.{standing_of}
 use Rattle.osc_server.specs.State.{State as Server}
 use Rattle.osc_client.specs.State.{State as Client}
 use Rattle.osc_client.specs.{HostAndPort}
@@ -64,7 +65,7 @@ pub record MayAsk (client : Client) (server : Server) (now : Moment) (context : 
   pub has : client.context ≡ Some context
   pub here : In held (contexts server.desk.table)
   pub one_name : held.name ≡ context.name
-  pub live : IsLive now held
+  pub live : IsLive (standing_of server now) held
   pub number : context.next ≤ greatest_number
   pub fresh : IsFresh held.window context.next
 
@@ -73,4 +74,4 @@ module _ (is_sealing : Sealings) where
   -- The client waits for nothing, and holds a token of these claims, with this scope, that is welcome at the server.
   pub record MayExchange (client : Client) (server : Server) (now : Moment) (claims : Claims) (entries : List Entry) : Type 0 where
     pub idle : client.waiting ≡ None
-    pub welcome : IsWelcome (is_sealing EightByteTag) server.desk now claims entries client.desk
+    pub welcome : IsWelcome (is_sealing EightByteTag) server.desk (standing_of server now) claims entries client.desk

@@ -1,7 +1,7 @@
 -- Each held context has the rights of a grant, and what is served under it goes on with a legal history.
 use Rattle.std.proofs.Common.{◌≡◌, ◌==◌, if◌then◌else◌, ℕ, Bool, true, false, List, [], ◌∷◌, ◌++◌, Option, Some, Result, Ok, Err, IsSomeAnd, bytes_eq, refl, sym, ap, ◌∙◌, inl, inr, subst}
 use Rattle.std.proofs.lemmas.Slice.Eq.{bytes_eq-Decides}
-use Rattle.osc_model.specs.{Outcome, apply_read, MayReply, HasBegun, IsNotOver, IsTimely, grant_of, scope_of, IsSameRequest, IsLegal, MayFollow, effect}
+use Rattle.osc_model.specs.{Outcome, apply_read, MayReply, HasBegun, IsNotOver, IsTimely, grant_of, scope_of, IsSameRequest, IsLegal, MayFollow, effect, is_revoked, revocation_of, stands, tree_after}
 use Rattle.osc_model.specs.Grant.{Grant}
 use Rattle.osc_model.specs.Scope.{Scope}
 use Rattle.osc_model.specs.StepNotes.{StepNotes}
@@ -16,7 +16,7 @@ use Rattle.osc_window.specs.{IsFresh}
 use Rattle.osc_token.specs.{ComesTo, token_note}
 use Rattle.osc_authz.specs.SecurityContext.{SecurityContext}
 use Rattle.osc_authz.specs.{In}
-use Rattle.osc_run.specs.{Noted, ServerState, Minted, grants_of, Replies, Applied, OutOfMemory, IsPosted, IsServed, IsTextOf, IsGenuineOpening, HasOwnSecrets, history}
+use Rattle.osc_run.specs.{Noted, ServerState, Minted, grants_of, Replies, Applied, OutOfMemory, IsPosted, IsServed, IsTextOf, IsGenuineOpening, HasOwnSecrets, IsUnrevoked, AreUnrevoked, history}
 use Rattle.osc_options.specs.{read_request}
 use Rattle.osc_run.proofs.LawsBelow.{Laws}
 use Rattle.osc_run.proofs.Lists.{all_of, collected_push}
@@ -44,19 +44,20 @@ grant_found (x ∷ others) m name own i e = by (bytes_eq x.grant.secret name.sec
     by true same (inr there) later = absurd (each_differs x.grant.secret others own.0 m there (e ∙ sym ((bytes_eq-Decides x.grant.secret name.secret).0 same)))
     by false same (inr there) later = rw same (later there)
 
--- ---- the rights of a held context
+-- ---- the rights of a held context, at a server that may have a revocation path
 
-pub record Granted (minted : List Minted) (c : SecurityContext) : Type 0 where
+pub record Granted (minted : List Minted) (revoked : Option (List ℕ)) (c : SecurityContext) : Type 0 where
   pub source : Minted
   pub granted : In source minted
   pub secret : source.grant.secret ≡ c.name.secret
   pub scope : source.grant.scope ≡ c.scope
   pub not_before : source.grant.not_before ≡ c.not_before
   pub expires : source.grant.expires ≡ c.expires
+  pub revocation : revocation_of revoked source.grant.id ≡ c.revocation
 
 -- a context that a genuine token added
 pub posted_granted : (minted : List Minted) (earlier : List Noted) (old new : ServerState) (now : Moment) (notes : StepNotes) (p : IsPosted old now notes new)
-    → ((m : Minted) → In m minted → IsTextOf m.grant m.text) → IsGenuineOpening minted earlier (token_note p.key p.protected p.iv p.text) → Granted minted (added_of old new now notes p).held
+    → ((m : Minted) → In m minted → IsTextOf m.grant m.text) → IsGenuineOpening minted earlier (token_note p.key p.protected p.iv p.text) → Granted minted old.revoked (added_of old new now notes p).held
 posted_granted minted earlier old new now notes p texts genuine =
     let m = genuine.token (refl, refl) in
     let rights = texts m.0 m.1 p.audience now p.claims p.scope (subst (λ (text : List ℕ). ComesTo text p.audience now (Ok (p.claims, p.scope))) (sym m.2) p.granted) in
@@ -67,6 +68,7 @@ posted_granted minted earlier old new now notes p texts genuine =
       scope = sym rights.scope;
       not_before = sym rights.not_before;
       expires = sym rights.expires;
+      revocation = sym (ap (revocation_of old.revoked) rights.id);
     }
 
 -- ---- one more entry
@@ -89,15 +91,23 @@ may_reply : (old : Tree) (outcome : Outcome) (reply : Reply) (new : Tree) → Re
 may_reply old outcome reply new (Applied a b) = inl a
 may_reply old outcome reply new (OutOfMemory t a b) = inr (a, t)
 
+-- one more entry that came while its token wasn't revoked
+one_more_unrevoked : (grants : List Grant) (revoked : Option (List ℕ)) (first : Tree) (entries : List Entry) (entry : Entry)
+    → AreUnrevoked grants revoked first entries → IsUnrevoked grants revoked (effect read_request grants first entries) entry
+    → AreUnrevoked grants revoked first (entries ++ entry ∷ [])
+one_more_unrevoked grants revoked first [] entry all it = (it, tt)
+one_more_unrevoked grants revoked first (e ∷ entries) entry all it =
+    (all.0, one_more_unrevoked grants revoked (tree_after read_request grants first e) entries entry all.1 it)
+
 -- what a request is served under a context that has a grant's rights
 module _ (laws : Laws) (minted : List Minted) (first : Tree) (notes : List Noted) (old new : ServerState) (now : Moment) (s : Noted) (p : IsServed old now s.notes new) where
   abbrev its : Entry
   its = entry_of old new now s.notes p
 
-  scope_is : HasOwnSecrets minted → Granted minted p.context.held → scope_of (grant_of (grants_of minted) p.context.held.name) ≡ p.context.held.scope
+  scope_is : HasOwnSecrets minted → Granted minted old.revoked p.context.held → scope_of (grant_of (grants_of minted) p.context.held.name) ≡ p.context.held.scope
   scope_is own g = ap scope_of (grant_found minted g.source p.context.held.name own g.granted g.secret) ∙ g.scope
 
-  may_follow : HasOwnSecrets minted → Granted minted p.context.held → ServerPart old.contexts notes → effect read_request (grants_of minted) first (history notes) ≡ old.tree
+  may_follow : HasOwnSecrets minted → Granted minted old.revoked p.context.held → ServerPart old.contexts notes → effect read_request (grants_of minted) first (history notes) ≡ old.tree
       → MayFollow read_request (grants_of minted) first (history notes) its
   may_follow own g k tree =
       let found = grant_found minted g.source p.context.held.name own g.granted g.secret in
@@ -114,12 +124,12 @@ module _ (laws : Laws) (minted : List Minted) (first : Tree) (notes : List Noted
   more : history (s ∷ notes) ≡ history notes ++ its ∷ []
   more = collected_push (λ (r : Noted). r.notes.served) s notes its (ap (λ (r : StepNotes). r.served) p.noted)
 
-  pub still_legal : HasOwnSecrets minted → Granted minted p.context.held → ServerPart old.contexts notes → effect read_request (grants_of minted) first (history notes) ≡ old.tree
+  pub still_legal : HasOwnSecrets minted → Granted minted old.revoked p.context.held → ServerPart old.contexts notes → effect read_request (grants_of minted) first (history notes) ≡ old.tree
       → IsLegal read_request (grants_of minted) first (history notes) → IsLegal read_request (grants_of minted) first (history (s ∷ notes))
   still_legal own g k tree legal =
       subst (IsLegal read_request (grants_of minted) first) (sym more) (laws.one_more_legal read_request (grants_of minted) first (history notes) its legal (may_follow own g k tree))
 
-  pub still_effects : HasOwnSecrets minted → Granted minted p.context.held → effect read_request (grants_of minted) first (history notes) ≡ old.tree
+  pub still_effects : HasOwnSecrets minted → Granted minted old.revoked p.context.held → effect read_request (grants_of minted) first (history notes) ≡ old.tree
       → effect read_request (grants_of minted) first (history (s ∷ notes)) ≡ new.tree
   still_effects own g tree =
       let its_scope = scope_is own g in
@@ -127,3 +137,17 @@ module _ (laws : Laws) (minted : List Minted) (first : Tree) (notes : List Noted
       ∙ laws.one_more_effect read_request (grants_of minted) first (history notes) its
       ∙ (λ i. if p.reply.code.0 == 160 then tree i else (apply_read (tree i) (its_scope i) (read_request p.text)).tree)
       ∙ tree_is laws old.tree p.context.held.scope (read_request p.text) p.reply new.tree p.tree
+
+  is_unrevoked : HasOwnSecrets minted → Granted minted old.revoked p.context.held → IsUnrevoked (grants_of minted) old.revoked old.tree its
+  is_unrevoked own g =
+      let found = grant_found minted g.source p.context.held.name own g.granted g.secret in
+      subst (λ (o : Option Grant). IsSomeAnd o (λ grant. is_revoked old.revoked old.tree grant.id ≡ false)) (sym found)
+      (ap (stands old.tree) g.revocation ∙ p.is_live.unrevoked)
+
+  pub still_unrevoked : HasOwnSecrets minted → Granted minted old.revoked p.context.held → effect read_request (grants_of minted) first (history notes) ≡ old.tree
+      → AreUnrevoked (grants_of minted) old.revoked first (history notes) → AreUnrevoked (grants_of minted) new.revoked first (history (s ∷ notes))
+  still_unrevoked own g tree all =
+      subst (λ (r : Option (List ℕ)). AreUnrevoked (grants_of minted) r first (history (s ∷ notes))) (sym p.revoked)
+      (subst (AreUnrevoked (grants_of minted) old.revoked first) (sym more)
+      (one_more_unrevoked (grants_of minted) old.revoked first (history notes) its all
+      (subst (λ (t : Tree). IsUnrevoked (grants_of minted) old.revoked t its) (sym tree) (is_unrevoked own g))))

@@ -18,11 +18,12 @@ MintedLaw =
     → (read ≡ claims) × (granted ≡ scope_of entries)
 
 pub minted_text : MintedLaw → (claims : Claims) (entries : List Entry) (grant : Grant) → FitTheirTypes claims → IsScope claims.scope entries
-    → grant.secret ≡ claims.material.secret → grant.scope ≡ scope_of entries → grant.not_before ≡ claims.not_before → grant.expires ≡ claims.expires
+    → grant.id ≡ claims.material.id → grant.secret ≡ claims.material.secret → grant.scope ≡ scope_of entries → grant.not_before ≡ claims.not_before → grant.expires ≡ claims.expires
     → IsTextOf grant (spelling (claims_item claims))
-minted_text law claims entries grant fit is_scope secret scope not_before expires = λ audience now read granted comes.
+minted_text law claims entries grant fit is_scope id secret scope not_before expires = λ audience now read granted comes.
     let is = law claims read entries granted audience now fit is_scope comes in
     record {
+      id = ap (λ (c : Claims). c.material.id) is.0 ∙ sym id;
       secret = ap (λ (c : Claims). c.material.secret) is.0 ∙ sym secret;
       scope = is.1 ∙ sym scope;
       not_before = ap (λ (c : Claims). c.not_before) is.0 ∙ sym not_before;

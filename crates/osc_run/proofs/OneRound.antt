@@ -93,7 +93,7 @@ module _ (key text audience : List ℕ) (now : Moment) (claims : Claims) (lawful
   answer = record { nonce2 = eight 2; recipient_id = 1 }
 
   abbrev held : SecurityContext
-  held = new_context claims scope (eight 1) (byte 0) answer
+  held = new_context None claims scope (eight 1) (byte 0) answer
 
   abbrev name : ContextName
   name = held.name
@@ -150,7 +150,7 @@ module _ (key text audience : List ℕ) (now : Moment) (claims : Claims) (lawful
   world contexts client notes = record {
     minted = (record { grant = grant; text = text }) ∷ [];
     first = tree;
-    server = record { contexts = contexts; tree = tree };
+    server = record { contexts = contexts; tree = tree; revoked = None };
     clients = client ∷ [];
     notes = notes;
   }
@@ -192,7 +192,7 @@ module _ (key text audience : List ℕ) (now : Moment) (claims : Claims) (lawful
       (Started refl (record { begun = begun; size = refl; offered = refl; noted = refl; before = refl; is = refl })) refl
 
   step_posted : Has → WorldStep (world [] waiting (started ∷ [])) (world (pending ∷ []) waiting (posted ∷ started ∷ []))
-  step_posted h = OfServer now (record { contexts = pending ∷ []; tree = tree }) (record quiet { opens = Some (token_note key [] [] text); drawn = Some (eight 2) })
+  step_posted h = OfServer now (record { contexts = pending ∷ []; tree = tree; revoked = None }) (record quiet { opens = Some (token_note key [] [] text); drawn = Some (eight 2) })
       (Posted (record {
         key = key;
         protected = [];
@@ -202,6 +202,7 @@ module _ (key text audience : List ℕ) (now : Moment) (claims : Claims) (lawful
         claims = claims;
         scope = scope;
         granted = h.granted;
+        unrevoked = refl;
         nonce1 = eight 1;
         client_id = byte 0;
         short = omega arith;
@@ -216,6 +217,7 @@ module _ (key text audience : List ℕ) (now : Moment) (claims : Claims) (lawful
           live = λ c m live. absurd m;
         };
         tree = refl;
+        revoked = refl;
       })) refl
 
   step_made : WorldStep (world (pending ∷ []) waiting (posted ∷ started ∷ [])) (world (pending ∷ []) ready (made ∷ posted ∷ started ∷ []))
@@ -237,11 +239,11 @@ module _ (key text audience : List ℕ) (now : Moment) (claims : Claims) (lawful
       (Asked refl (record { context = record { name = name; next = 0 }; lawful = omega arith; plaintext = []; noted = refl; held = refl; before = refl; is = refl })) refl
 
   step_served : Has → WorldStep (world (pending ∷ []) asking (asked ∷ made ∷ posted ∷ started ∷ [])) (world (confirmed ∷ []) asking (served ∷ asked ∷ made ∷ posted ∷ started ∷ []))
-  step_served h = OfServer now (record { contexts = confirmed ∷ []; tree = tree }) (record quiet { seals = Some (reply_note name 0 refusal); opens = Some (opening_note name 0 []); served = Some entry })
+  step_served h = OfServer now (record { contexts = confirmed ∷ []; tree = tree; revoked = None }) (record quiet { seals = Some (reply_note name 0 refusal); opens = Some (opening_note name 0 []); served = Some entry })
       (Served (record {
         context = pending;
         is_held = inl refl;
-        is_live = record { begun = h.begins; not_over = h.ends };
+        is_live = record { begun = h.begins; not_over = h.ends; unrevoked = refl };
         number = 0;
         lawful = omega arith;
         fresh = All-nil _;
@@ -256,6 +258,7 @@ module _ (key text audience : List ℕ) (now : Moment) (claims : Claims) (lawful
           older_gone = λ c m is. ⊎_elim (λ (e : c ≡ confirmed). e) (λ n. absurd n) m;
           live = λ c m live. ⊎_elim (λ (e : c ≡ pending). inr (inl e)) (λ n. absurd n) m;
         };
+        revoked = refl;
       })) refl
 
   step_answered : Has → WorldStep (world (confirmed ∷ []) asking (served ∷ asked ∷ made ∷ posted ∷ started ∷ [])) after

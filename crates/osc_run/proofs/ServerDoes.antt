@@ -10,6 +10,7 @@ use Rattle.osc_window.specs.{IsFresh}
 use Rattle.osc_authz.specs.{IsAgreed, Answers, new_context, OfToken, of_tokens, IsLive, AreKept, HasAdded, HasTaken, DeskState, In, Posts, offered, IsTable, accepted, alive, meant, with_pending}
 use Rattle.osc_authz.specs.SecurityContext.{SecurityContext}
 use Rattle.osc_authz.specs.Posting.{Posting}
+use Rattle.osc_authz.specs.Standing.{Standing}
 use Rattle.osc_authz.specs.declared.error.PostError.{PostError}
 use Rattle.osc_authz.specs.declared.token_entry.TokenEntry.{TokenEntry}
 use Rattle.osc_authz.specs.declared.post.Post.{Post}
@@ -21,19 +22,19 @@ use Rattle.osc_run.specs.{opening_note, reply_note, Replies, IsServerIdle, IsPos
 
 -- with one more pending context the others are as they were
 abbrev pub AddedLaw : Type 0
-AddedLaw = (now : Moment) (token : List ℕ) (held : SecurityContext) (table : List TokenEntry) → IsTable (with_pending token held (alive now table))
+AddedLaw = (now : Standing) (token : List ℕ) (held : SecurityContext) (table : List TokenEntry) → IsTable (with_pending token held (alive now table))
     → HasAdded now token held (of_tokens table) (of_tokens (with_pending token held (alive now table)))
 
-pub agreed : AddedLaw → (IsSealing : List ℕ → List ℕ → List ℕ → List ℕ → List ℕ → Type 0) (before after : DeskState) (posting : Posting) (post : Post) (answer : PostAnswer) (tree : Tree)
+pub agreed : AddedLaw → (IsSealing : List ℕ → List ℕ → List ℕ → List ℕ → List ℕ → Type 0) (before after : DeskState) (posting : Posting) (post : Post) (answer : PostAnswer)
     → length posting.draw.0 ≡ 32 → IsAgreed IsSealing before posting post answer after → IsTable after.table
-    → IsPosted (record { contexts = of_tokens before.table; tree = tree }) posting.at (record quiet { opens = post.opened; drawn = Some answer.nonce2 }) (record { contexts = of_tokens after.table; tree = tree })
-agreed law IsSealing before after posting post answer tree size a is_table =
+    → IsPosted (record { contexts = of_tokens before.table; tree = posting.on.tree; revoked = before.revoked }) posting.on.at (record quiet { opens = post.opened; drawn = Some answer.nonce2 }) (record { contexts = of_tokens after.table; tree = posting.on.tree; revoked = after.revoked })
+agreed law IsSealing before after posting post answer size a is_table =
     let token : List ℕ = a.claims.material.id in
-    let added : SecurityContext = new_context a.claims a.scope a.nonce1 a.client_id answer in
-    let table : after.table ≡ with_pending token added (alive posting.at before.table) = ap (λ (d : DeskState). d.table) a.agrees.added in
+    let added : SecurityContext = new_context before.revoked a.claims a.scope a.nonce1 a.client_id answer in
+    let table : after.table ≡ with_pending token added (alive posting.on before.table) = ap (λ (d : DeskState). d.table) a.agrees.added in
     let eight : length (nonce_drawn posting.draw) ≡ 8 = omega (arith, size, length-take 8 posting.draw.0) in
     record {
-      key = before.key;
+      key = a.key;
       protected = a.its.protected;
       iv = a.its.iv;
       text = a.its.text;
@@ -41,6 +42,7 @@ agreed law IsSealing before after posting post answer tree size a is_table =
       claims = a.claims;
       scope = a.scope;
       granted = a.granted;
+      unrevoked = a.unrevoked;
       nonce1 = a.nonce1;
       client_id = a.client_id;
       short = a.opened.is_post.id_size;
@@ -48,8 +50,9 @@ agreed law IsSealing before after posting post answer tree size a is_table =
       size = ap length a.agrees.drawn ∙ eight;
       apart = λ same. a.agrees.free.free (0, omega arith, sym same);
       noted = λ i. record quiet { opens = a.noted i; drawn = Some answer.nonce2 };
-      contexts = subst (λ (t : List TokenEntry). HasAdded posting.at token added (of_tokens before.table) (of_tokens t)) (sym table) (law posting.at token added before.table (subst IsTable table is_table));
+      contexts = subst (λ (t : List TokenEntry). HasAdded posting.on token added (of_tokens before.table) (of_tokens t)) (sym table) (law posting.on token added before.table (subst IsTable table is_table));
       tree = refl;
+      revoked = ap (λ (d : DeskState). d.revoked) a.agrees.added;
     }
 
 -- ---- a post that is refused
@@ -61,52 +64,57 @@ unchanged : (IsSealing : List ℕ → List ℕ → List ℕ → List ℕ → Lis
     → Posts IsSealing before posting post after → post.answer ≡ Err error → after ≡ before
 unchanged IsSealing before after posting post error (Posts.no_post none is same) e = same
 unchanged IsSealing before after posting post error (Posts.not_genuine token nonce1 client_id posts none is same) e = same
-unchanged IsSealing before after posting post error (Posts.opened nonce1 client_id token its o answers is) e = by answers
+unchanged IsSealing before after posting post error (Posts.opened key nonce1 client_id token its o its_key answers is) e = by answers
   where
     its_answer : its ≡ Err error
     its_answer = sym (ap (λ (p : Post). p.answer) is) ∙ e
 
     by : Answers before (offered posting nonce1 client_id) token.text its after → after ≡ before
     by (Answers.refused refusal comes answer same) = same
-    by (Answers.full claims scope comes many answer same) = same
-    by (Answers.agreed claims scope made comes room agrees answer) = absurd (not_agreed its made error answer its_answer)
+    by (Answers.revoked claims scope comes gone answer same) = same
+    by (Answers.full claims scope comes un many answer same) = same
+    by (Answers.agreed claims scope made comes un room agrees answer) = absurd (not_agreed its made error answer its_answer)
 
-pub refused : (IsSealing : List ℕ → List ℕ → List ℕ → List ℕ → List ℕ → Type 0) (before after : DeskState) (posting : Posting) (post : Post) (error : PostError) (why : Option RefusedRequest) (tree : Tree)
+pub refused : (IsSealing : List ℕ → List ℕ → List ℕ → List ℕ → List ℕ → Type 0) (before after : DeskState) (posting : Posting) (post : Post) (error : PostError) (why : Option RefusedRequest)
     → Posts IsSealing before posting post after → post.answer ≡ Err error
-    → IsServerIdle (record { contexts = of_tokens before.table; tree = tree }) posting.at (record quiet { opens = post.opened; refused = why }) (record { contexts = of_tokens after.table; tree = tree })
-refused IsSealing before after posting post error why tree posts e =
+    → IsServerIdle (record { contexts = of_tokens before.table; tree = posting.on.tree; revoked = before.revoked }) posting.on.at (record quiet { opens = post.opened; refused = why }) (record { contexts = of_tokens after.table; tree = posting.on.tree; revoked = after.revoked })
+refused IsSealing before after posting post error why posts e =
     let same : after ≡ before = unchanged IsSealing before after posting post error posts e in
     record {
       opened = post.opened;
       refused = why;
       noted = refl;
-      contexts = subst (λ (d : DeskState). AreKept posting.at (of_tokens before.table) (of_tokens d.table)) (sym same) (record { only = λ c m. m; live = λ c m live. m });
+      contexts = subst (λ (d : DeskState). AreKept posting.on (of_tokens before.table) (of_tokens d.table)) (sym same) (record { only = λ c m. m; live = λ c m live. m });
       tree = refl;
+      revoked = ap (λ (d : DeskState). d.revoked) same;
     }
 
 -- ---- a request that opens
 
 -- the context that a request means is one of the table
 abbrev pub MeantLaw : Type 0
-MeantLaw = (now : Moment) (kid : List ℕ) (kid_context : Option (List ℕ)) (table : List TokenEntry) (held : SecurityContext) → meant now kid kid_context table ≡ Some held
+MeantLaw = (now : Standing) (kid : List ℕ) (kid_context : Option (List ℕ)) (table : List TokenEntry) (held : SecurityContext) → meant now kid kid_context table ≡ Some held
     → (context : OfToken) × In context (of_tokens table) × (context.held ≡ held) × IsLive now held × (held.name.client_id ≡ kid)
 
 -- where it takes a number, the others are as they were
 abbrev pub TakenLaw : Type 0
-TakenLaw = (now : Moment) (number : ℕ) (context : OfToken) (table : List TokenEntry) → IsTable table → In context (of_tokens table)
+TakenLaw = (now : Standing) (number : ℕ) (context : OfToken) (table : List TokenEntry) → IsTable table → In context (of_tokens table)
     → HasTaken now number context (of_tokens table) (of_tokens (accepted context.held.name.client_id number table))
 
-module _ (taken : TakenLaw) (now : Moment) (table : List TokenEntry) (is_table : IsTable table) (number : ℕ) (few : number ≤ greatest_number) (text : List ℕ) (reply : Reply) (within : IsWithinRanges reply) (tree after : Tree) where
+module _ (taken : TakenLaw) (now : Moment) (table : List TokenEntry) (is_table : IsTable table) (number : ℕ) (few : number ≤ greatest_number) (text : List ℕ) (reply : Reply) (within : IsWithinRanges reply) (tree after : Tree) (revoked : Option (List ℕ)) where
+  abbrev on : Standing
+  on = record { at = now; tree = tree }
+
   abbrev Serves : SecurityContext → List ℕ → Type 0
-  Serves held kid = IsServed (record { contexts = of_tokens table; tree = tree }) now
+  Serves held kid = IsServed (record { contexts = of_tokens table; tree = tree; revoked = revoked }) now
       (record quiet {
         seals = Some (reply_note held.name number reply);
         opens = Some (opening_note held.name number text);
         served = Some (record { context = held.name; number = number; plaintext = text; moment = now; reply = reply });
       })
-      (record { contexts = of_tokens (accepted kid number table); tree = after })
+      (record { contexts = of_tokens (accepted kid number table); tree = after; revoked = revoked })
 
-  opened_under : (context : OfToken) → In context (of_tokens table) → IsLive now context.held → IsFresh context.held.window number
+  opened_under : (context : OfToken) → In context (of_tokens table) → IsLive on context.held → IsFresh context.held.window number
       → Replies tree (apply_read tree context.held.scope (read_request text)) reply after → Serves context.held context.held.name.client_id
   opened_under context there live fresh replies = record {
     context = context;
@@ -120,14 +128,15 @@ module _ (taken : TakenLaw) (now : Moment) (table : List TokenEntry) (is_table :
     within = within;
     tree = replies;
     noted = refl;
-    contexts = taken now number context table is_table there;
+    contexts = taken on number context table is_table there;
+    revoked = refl;
   }
 
-  pub opened : MeantLaw → (kid : List ℕ) (kid_context : Option (List ℕ)) (held : SecurityContext) → meant now kid kid_context table ≡ Some held → IsFresh held.window number
+  pub opened : MeantLaw → (kid : List ℕ) (kid_context : Option (List ℕ)) (held : SecurityContext) → meant on kid kid_context table ≡ Some held → IsFresh held.window number
       → Replies tree (apply_read tree held.scope (read_request text)) reply after → Serves held kid
   opened law kid kid_context held means fresh replies =
-      let m = law now kid kid_context table held means in
-      let its : IsLive now m.0.held = subst (IsLive now) (sym m.2) m.3 in
+      let m = law on kid kid_context table held means in
+      let its : IsLive on m.0.held = subst (IsLive on) (sym m.2) m.3 in
       let its_fresh : IsFresh m.0.held.window number = subst (λ (h : SecurityContext). IsFresh h.window number) (sym m.2) fresh in
       let its_reply : Replies tree (apply_read tree m.0.held.scope (read_request text)) reply after = subst (λ (h : SecurityContext). Replies tree (apply_read tree h.scope (read_request text)) reply after) (sym m.2) replies in
       let serves : Serves m.0.held m.0.held.name.client_id = opened_under m.0 m.1 its its_fresh its_reply in

@@ -44,7 +44,7 @@ server_stays old new notes s h sub k = record {
 
 -- the context that a post adds
 abbrev pub added_of : (old new : ServerState) (now : Moment) (notes : StepNotes) → IsPosted old now notes new → OfToken
-added_of old new now notes p = pending_of p.claims.material.id (new_context p.claims p.scope p.nonce1 p.client_id p.answer)
+added_of old new now notes p = pending_of p.claims.material.id (new_context old.revoked p.claims p.scope p.nonce1 p.client_id p.answer)
 
 -- a step that adds a context with a nonce that was never drawn before
 pub posted_keeps : Laws → (old new : ServerState) (now : Moment) (notes : List Noted) (s : Noted) → IsPosted old now s.notes new → HasFreshDraws (s ∷ notes) → ServerPart old.contexts notes → ServerPart new.contexts (s ∷ notes)

@@ -1,7 +1,9 @@
 -- One history: each entry was asked by its client and is answered by its grant and the tree, and each accepted reply is that of its
 -- request.
-use Rattle.std.specs.Prelude.{◌≡◌, ◌⊎◌, ℕ, Bool, true, false, List}
-use Rattle.osc_model.specs.{IsLegal, effect}
+use Rattle.std.specs.Prelude.{◌≡◌, ◌⊎◌, ⊤, ℕ, Bool, true, false, List, [], ◌∷◌, Option, IsSomeAnd}
+use Rattle.osc_model.specs.{IsLegal, effect, grant_of, is_revoked, tree_after}
+use Rattle.osc_model.specs.Grant.{Grant}
+use Rattle.osc_model.specs.Tree.{Tree}
 use Rattle.osc_model.specs.declared.step.Entry.{Entry}
 use Rattle.osc_authz.specs.{In}
 use Rattle.osc_run.specs.Notes.{Noted}
@@ -30,11 +32,23 @@ pub record IsReplyOfRequest (notes : List Noted) (a : Acceptance) : Type 0 where
   pub same : (entry.plaintext ≡ plaintext)
       ⊎ In (record { by = a.by; lied = true; context = a.context; number = a.number; plaintext = entry.plaintext }) (questions notes)
 
+-- The entry came while its token wasn't revoked: on this tree no resource stands for the id of its context's grant below the server's
+-- revocation path, if there is one.
+abbrev pub IsUnrevoked : List Grant → Option (List ℕ) → Tree → Entry → Type 0
+IsUnrevoked grants revoked tree entry = IsSomeAnd (grant_of grants entry.context) (λ grant. is_revoked revoked tree grant.id ≡ false)
+
+-- each entry did, on the tree that the entries before it left
+abbrev pub AreUnrevoked : List Grant → Option (List ℕ) → Tree → List Entry → Type 0
+AreUnrevoked grants revoked tree [] = ⊤
+AreUnrevoked grants revoked tree (entry ∷ entries) =
+    IsUnrevoked grants revoked tree entry × AreUnrevoked grants revoked (tree_after read_request grants tree entry) entries
+
 -- The history is legal from the first tree: no two entries share context and number, each came in the time of its grant, and each
--- is answered as the machine answers under the grant's scope. Its effects give the server's tree. Each entry was asked by the
--- holder of its grant, and each accepted reply is that of its request.
+-- is answered as the machine answers under the grant's scope. Its effects give the server's tree. No entry came while its token was
+-- revoked. Each entry was asked by the holder of its grant, and each accepted reply is that of its request.
 pub record OneHistory (w : WorldState) : Type 0 where
   pub legal : IsLegal read_request (grants_of w.minted) w.first (history w.notes)
   pub effects : effect read_request (grants_of w.minted) w.first (history w.notes) ≡ w.server.tree
+  pub none_revoked : AreUnrevoked (grants_of w.minted) w.server.revoked w.first (history w.notes)
   pub asked : (entry : Entry) → In entry (history w.notes) → IsAskedByHolder w.minted w.notes entry
   pub answered : (a : Acceptance) → In a (acceptances w.notes) → IsReplyOfRequest w.notes a

@@ -17,6 +17,7 @@ use Rattle.osc_run.specs.ProxyKinds.{ProxyStep}
 
 -- claims, and the scope that they stand for, are those of the grant
 pub record AreOfGrant (grant : Grant) (claims : Claims) (granted : Scope) : Type 0 where
+  pub id : claims.material.id ≡ grant.id
   pub secret : claims.material.secret ≡ grant.secret
   pub scope : granted ≡ grant.scope
   pub not_before : claims.not_before ≡ grant.not_before

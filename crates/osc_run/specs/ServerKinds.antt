@@ -1,7 +1,7 @@
 -- The kinds of step that a server may take. Beyond what its kind names, a step seals nothing, adds no context and no entry, drops
--- no context that lives, and changes neither a context that stays nor a resource.
-use Rattle.std.specs.Prelude.{◌≡◌, ◌≢◌, ℕ, ◌≤◌, IsTrue, List, [], ◌∷◌, length, Option, Some, Ok}
-use Rattle.osc_model.specs.{Outcome, apply_read, out_of_memory, takes_memory, quiet}
+-- no context that lives, and changes neither a context that stays nor a resource. The revocation path stays what it is.
+use Rattle.std.specs.Prelude.{◌≡◌, ◌≢◌, ℕ, ◌≤◌, false, IsTrue, List, [], ◌∷◌, length, Option, Some, Ok}
+use Rattle.osc_model.specs.{Outcome, apply_read, is_revoked, out_of_memory, takes_memory, quiet}
 use Rattle.osc_model.specs.Scope.{Scope}
 use Rattle.osc_model.specs.StepNotes.{StepNotes}
 use Rattle.osc_model.specs.Tree.{Tree}
@@ -17,6 +17,7 @@ use Rattle.osc_protect.specs.{request_nonce, note_of}
 use Rattle.osc_token.specs.{ComesTo, token_note}
 use Rattle.osc_token.specs.declared.claims.Claims.{Claims}
 use Rattle.osc_authz.specs.{new_context, OfToken, IsLive, AreKept, HasAdded, HasTaken, In}
+use Rattle.osc_authz.specs.Standing.{Standing}
 use Rattle.osc_authz.specs.declared.post.PostAnswer.{PostAnswer}
 use Rattle.osc_run.specs.States.{ServerState}
 use Rattle.osc_options.specs.{read_request, reply_text, IsWithinRanges}
@@ -31,6 +32,10 @@ opening_note context number text = note_of context Server number (request_nonce 
 abbrev pub reply_note : ContextName → ℕ → Reply → Note
 reply_note context number reply = note_of context Server number (request_nonce context number) (reply_text reply)
 
+-- what its contexts are judged by at a moment: that, and the resources before the step
+abbrev pub standing : ServerState → Moment → Standing
+standing server now = record { at = now; tree = server.tree }
+
 -- The machine's reply, and the tree after it; or, where the machine answers 2.01, 2.04 or 2.05, 5.00 for want of memory, and
 -- the tree as it was.
 pub data Replies (old : Tree) (outcome : Outcome) (reply : Reply) (new : Tree) : Type 0 where
@@ -40,15 +45,16 @@ pub data Replies (old : Tree) (outcome : Outcome) (reply : Reply) (new : Tree) :
 -- ---- kinds
 
 -- Nothing comes of it, though something may have opened: a token whose claims are then refused, say. A request may be refused.
--- Contexts whose time is over may go.
+-- Contexts that don't live may go.
 pub record IsServerIdle (old : ServerState) (now : Moment) (notes : StepNotes) (new : ServerState) : Type 0 where
   pub opened : Option Note
   pub refused : Option RefusedRequest
   pub noted : notes ≡ record quiet { opens = opened; refused = refused }
-  pub contexts : AreKept now old.contexts new.contexts
+  pub contexts : AreKept (standing old now) old.contexts new.contexts
   pub tree : new.tree ≡ old.tree
+  pub revoked : new.revoked ≡ old.revoked
 
--- A token opens, and its claims are granted. One pending context with the input material, the scope and the times of these claims
+-- A token opens, its claims are granted, and its id isn't revoked. One pending context with the input material, the scope and the times of these claims
 -- is added, in the place of the pending one of the token's id. Its master salt has the nonce that the server drew, its IDs differ,
 -- and its replay window is empty (RFC 9203 section 4.3).
 pub record IsPosted (old : ServerState) (now : Moment) (notes : StepNotes) (new : ServerState) : Type 0 where
@@ -60,6 +66,7 @@ pub record IsPosted (old : ServerState) (now : Moment) (notes : StepNotes) (new 
   pub claims : Claims
   pub scope : Scope
   pub granted : ComesTo text audience now (Ok (claims, scope))
+  pub unrevoked : is_revoked old.revoked old.tree claims.material.id ≡ false
   pub nonce1 : List ℕ
   pub client_id : List ℕ
   pub short : length client_id ≤ longest_id
@@ -67,8 +74,9 @@ pub record IsPosted (old : ServerState) (now : Moment) (notes : StepNotes) (new 
   pub size : length answer.nonce2 ≡ 8
   pub apart : answer.recipient_id ∷ [] ≢ client_id
   pub noted : notes ≡ record quiet { opens = Some (token_note key protected iv text); drawn = Some answer.nonce2 }
-  pub contexts : HasAdded now claims.material.id (new_context claims scope nonce1 client_id answer) old.contexts new.contexts
+  pub contexts : HasAdded (standing old now) claims.material.id (new_context old.revoked claims scope nonce1 client_id answer) old.contexts new.contexts
   pub tree : new.tree ≡ old.tree
+  pub revoked : new.revoked ≡ old.revoked
 
 -- A request opens under a context that is held and lives, at a fresh number (RFC 8613 sections 7.4 and 8.2). The window takes the
 -- number, and the context is confirmed, in the place of an older confirmed one of its token's id. The machine applies the plaintext
@@ -77,7 +85,7 @@ pub record IsPosted (old : ServerState) (now : Moment) (notes : StepNotes) (new 
 pub record IsServed (old : ServerState) (now : Moment) (notes : StepNotes) (new : ServerState) : Type 0 where
   pub context : OfToken
   pub is_held : In context old.contexts
-  pub is_live : IsLive now context.held
+  pub is_live : IsLive (standing old now) context.held
   pub number : ℕ
   pub lawful : number ≤ greatest_number
   pub fresh : IsFresh context.held.window number
@@ -91,7 +99,8 @@ pub record IsServed (old : ServerState) (now : Moment) (notes : StepNotes) (new 
         opens = Some (opening_note context.held.name number text);
         served = Some (record { context = context.held.name; number = number; plaintext = text; moment = now; reply = reply });
       }
-  pub contexts : HasTaken now number context old.contexts new.contexts
+  pub contexts : HasTaken (standing old now) number context old.contexts new.contexts
+  pub revoked : new.revoked ≡ old.revoked
 
 -- The server starts again: no context is left, and each resource stays.
 pub record IsServerRestarted (old : ServerState) (notes : StepNotes) (new : ServerState) : Type 0 where

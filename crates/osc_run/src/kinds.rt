@@ -41,7 +41,7 @@ use osc_ccm::Aead;
 pub fn minted_texts()
     ensures { (claims : AnyClaims) (entries : List Entry) (grant : Grant)
         → FitTheirTypes claims → IsScope claims.scope entries
-        → grant.secret ≡ claims.material.secret → grant.scope ≡ scope_of entries
+        → grant.id ≡ claims.material.id → grant.secret ≡ claims.material.secret → grant.scope ≡ scope_of entries
         → grant.not_before ≡ claims.not_before → grant.expires ≡ claims.expires
         → IsTextOf grant (spelling (claims_item claims)) }
 {
@@ -50,11 +50,11 @@ pub fn minted_texts()
 
 /// A post that is answered 2.01 is the kind of step that adds a context.
 pub fn posts_that_agree<A: Aead>()
-    ensures { (before after : DeskState) (posting : Posting) (post : AnyPost) (answer : AnyAnswer) (tree : Tree)
+    ensures { (before after : DeskState) (posting : Posting) (post : AnyPost) (answer : AnyAnswer)
         → length posting.draw.0 ≡ 32 → Posts A.is_sealing before posting post after → post.answer ≡ Ok answer → IsTable after.table
-        → IsPosted (record { contexts = of_tokens before.table; tree = tree }) posting.at
+        → IsPosted (record { contexts = of_tokens before.table; tree = posting.on.tree; revoked = before.revoked }) posting.on.at
         (record quiet { opens = post.opened; drawn = Some answer.nonce2 })
-        (record { contexts = of_tokens after.table; tree = tree }) }
+        (record { contexts = of_tokens after.table; tree = posting.on.tree; revoked = after.revoked }) }
 {
     osc_authz::laws::posts_that_agree::<A>();
     osc_authz::laws::one_more_context();
@@ -62,27 +62,27 @@ pub fn posts_that_agree<A: Aead>()
 
 /// A post that is refused is an idle step, though its token may have opened, whatever is noted of why.
 pub fn posts_that_are_refused<A: Aead>()
-    ensures { (before after : DeskState) (posting : Posting) (post : AnyPost) (error : AnyError) (why : Option AnyRefused) (tree : Tree)
+    ensures { (before after : DeskState) (posting : Posting) (post : AnyPost) (error : AnyError) (why : Option AnyRefused)
         → Posts A.is_sealing before posting post after → post.answer ≡ Err error
-        → IsServerIdle (record { contexts = of_tokens before.table; tree = tree }) posting.at
+        → IsServerIdle (record { contexts = of_tokens before.table; tree = posting.on.tree; revoked = before.revoked }) posting.on.at
         (record quiet { opens = post.opened; refused = why })
-        (record { contexts = of_tokens after.table; tree = tree }) }
+        (record { contexts = of_tokens after.table; tree = posting.on.tree; revoked = after.revoked }) }
 {}
 
 /// A request that opens under the context that it means, at a fresh number, is the kind of step that serves: the window takes the
 /// number, and the reply is the machine's.
 pub fn requests_that_open()
-    ensures { (now : AnyMoment) (kid : List ℕ) (kid_context : Option (List ℕ)) (table : List TokenEntry) (held : SecurityContext) (number : ℕ) (text : List ℕ) (reply : AnyReply) (tree after : Tree)
-        → IsTable table → meant now kid kid_context table ≡ Some held
+    ensures { (now : AnyMoment) (kid : List ℕ) (kid_context : Option (List ℕ)) (table : List TokenEntry) (held : SecurityContext) (number : ℕ) (text : List ℕ) (reply : AnyReply) (tree after : Tree) (revoked : Option (List ℕ))
+        → IsTable table → meant (record { at = now; tree = tree }) kid kid_context table ≡ Some held
         → number ≤ greatest_number → IsFresh held.window number
         → IsWithinRanges reply → Replies tree (apply_read tree held.scope (read_request text)) reply after
-        → IsServed (record { contexts = of_tokens table; tree = tree }) now
+        → IsServed (record { contexts = of_tokens table; tree = tree; revoked = revoked }) now
         (record quiet {
           seals = Some (reply_note held.name number reply);
           opens = Some (opening_note held.name number text);
           served = Some (record { context = held.name; number = number; plaintext = text; moment = now; reply = reply });
         })
-        (record { contexts = of_tokens (accepted kid number table); tree = after }) }
+        (record { contexts = of_tokens (accepted kid number table); tree = after; revoked = revoked }) }
 {
     osc_authz::laws::meant_contexts();
     osc_authz::laws::numbers_taken();

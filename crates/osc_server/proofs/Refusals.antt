@@ -5,29 +5,28 @@ use Rattle.osc_model.specs.Arrival.{Arrival}
 use Rattle.osc_model.specs.declared.algorithm.Algorithm.{Algorithm}
 use Rattle.osc_coap.specs.Message.{Message}
 use Rattle.osc_context.specs.{algorithm_of}
-use Rattle.osc_authz.specs.{DeskState, meant}
 use Rattle.osc_authz.specs.SecurityContext.{SecurityContext}
 use Rattle.osc_ccm.specs.{Sealings, SealsOneText}
 use Rattle.osc_protect.specs.{SealedRequest, IsRequest}
 use Rattle.osc_window.specs.{IsFresh}
-use Rattle.osc_server.specs.{IsMeant, IsOpened, IsRefused, IsSealed}
+use Rattle.osc_server.specs.{Met, context_for, IsMeant, IsOpened, IsRefused, IsSealed}
 use Rattle.osc_server.specs.declared.refusal.Refusal.{Refusal}
 use Rattle.osc_server.specs.declared.refusal.Refusal.TheVariants.{Malformed, NoContext, Replayed, NotGenuine}
 
 module _ (is_sealing : Sealings)
     (one_text : (algorithm : Algorithm) → SealsOneText (is_sealing algorithm))
     (one_request : (m : Message) (a b : SealedRequest) → IsRequest m a → IsRequest m b → a ≡ b)
-    (desk : DeskState) (came : Arrival Message) where
+    (server : Met) (came : Arrival Message) where
   -- the request, and the context that it means
-  one_meant : (r s : SealedRequest) (h k : SecurityContext) → IsMeant desk came r h → IsMeant desk came s k → (r ≡ s) × (h ≡ k)
+  one_meant : (r s : SealedRequest) (h k : SecurityContext) → IsMeant server came r h → IsMeant server came s k → (r ≡ s) × (h ≡ k)
   one_meant r s h k m n =
       let same : r ≡ s = one_request came.what r s m.is_request n.is_request in
-      (same, same_Some h k (sym m.is_meant ∙ ap (λ (q : SealedRequest). meant came.at q.kid q.kid_context desk.table) same ∙ n.is_meant))
+      (same, same_Some h k (sym m.is_meant ∙ ap (λ (q : SealedRequest). context_for server came q) same ∙ n.is_meant))
 
-  not_meant : (r s : SealedRequest) (k : SecurityContext) → IsRequest came.what r → meant came.at r.kid r.kid_context desk.table ≡ None → IsMeant desk came s k → ⊥
+  not_meant : (r s : SealedRequest) (k : SecurityContext) → IsRequest came.what r → context_for server came r ≡ None → IsMeant server came s k → ⊥
   not_meant r s k is none n =
       let same : r ≡ s = one_request came.what r s is n.is_request in
-      let no : None ≡ Some k = sym none ∙ ap (λ (q : SealedRequest). meant came.at q.kid q.kid_context desk.table) same ∙ n.is_meant in
+      let no : None ≡ Some k = sym none ∙ ap (λ (q : SealedRequest). context_for server came q) same ∙ n.is_meant in
       absurd (cc)
 
   same_fresh : (r s : SealedRequest) (h k : SecurityContext) → (r ≡ s) × (h ≡ k) → IsFresh h.window r.number → IsFresh k.window s.number
@@ -39,10 +38,10 @@ module _ (is_sealing : Sealings)
       subst (λ (c : SecurityContext). IsSealed is_sealing c s text) same.1 (subst (λ (q : SealedRequest). IsSealed is_sealing h q text) same.0 sealed)
 
   -- a reason, and a later one
-  earlier : (r s : SealedRequest) (h k : SecurityContext) → IsMeant desk came r h → (IsFresh h.window r.number → ⊥) → IsMeant desk came s k → IsFresh k.window s.number → ⊥
+  earlier : (r s : SealedRequest) (h k : SecurityContext) → IsMeant server came r h → (IsFresh h.window r.number → ⊥) → IsMeant server came s k → IsFresh k.window s.number → ⊥
   earlier r s h k m stale n fresh = let same = one_meant s r k h n m in stale (same_fresh s r k h same fresh)
 
-  pub refused_once : (a b : Refusal) → IsRefused is_sealing desk came a → IsRefused is_sealing desk came b → a ≡ b
+  pub refused_once : (a b : Refusal) → IsRefused is_sealing server came a → IsRefused is_sealing server came b → a ≡ b
   refused_once Malformed Malformed x y = refl
   refused_once Malformed NoContext x y = absurd (x y.0 y.1)
   refused_once Malformed Replayed x y = absurd (x y.0 y.2.is_request)
@@ -61,7 +60,7 @@ module _ (is_sealing : Sealings)
   refused_once NotGenuine NotGenuine x y = refl
 
   pub opened_or_refused : (request : SealedRequest) (held : SecurityContext) (text : List ℕ) (refusal : Refusal)
-      → IsOpened is_sealing desk came request held text → IsRefused is_sealing desk came refusal → ⊥
+      → IsOpened is_sealing server came request held text → IsRefused is_sealing server came refusal → ⊥
   opened_or_refused request held text Malformed is x = x request is.meant.is_request
   opened_or_refused request held text NoContext is x = not_meant x.0 request held x.1 x.2 is.meant
   opened_or_refused request held text Replayed is x = earlier x.0 request x.1 held x.2 x.3 is.meant is.fresh
@@ -70,7 +69,7 @@ module _ (is_sealing : Sealings)
       x.4 text (same_sealed request x.0 held x.1 text same is.opens)
 
   pub opened_once : (request other : SealedRequest) (held holder : SecurityContext) (text said : List ℕ)
-      → IsOpened is_sealing desk came request held text → IsOpened is_sealing desk came other holder said
+      → IsOpened is_sealing server came request held text → IsOpened is_sealing server came other holder said
       → (request ≡ other) × (held ≡ holder) × (text ≡ said)
   opened_once request other held holder text said a b =
       let same = one_meant request other held holder a.meant b.meant in

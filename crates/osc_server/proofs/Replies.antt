@@ -23,7 +23,7 @@ use Rattle.osc_message.specs.{EndpointState}
 use Rattle.osc_protect.specs.{longest_message, plain_bytes, response_length, response_value, response_with, value_spelling}
 use Rattle.osc_authz.specs.{code_of}
 use Rattle.osc_authz.specs.declared.error.PostError.{PostError}
-use Rattle.osc_authz.specs.declared.error.PostError.TheVariants.{Fields, Token, Full}
+use Rattle.osc_authz.specs.declared.error.PostError.TheVariants.{Fields, Token, Revoked, Full}
 use Rattle.osc_token.specs.declared.error.TokenError.TheVariants as token
 use Rattle.osc_authz.specs.declared.post.PostAnswer.{PostAnswer}
 use Rattle.osc_server.specs.Inner.Parts.{IsReplyOf, FitsAResource, read_length, request_reply_length}
@@ -104,6 +104,7 @@ read_reply_short tree scope request limits = is_short (request_reply_length tree
 
 post_code : (error : PostError) → 0 < (code_of error).0
 post_code Fields = omega arith
+post_code Revoked = omega arith
 post_code Full = omega arith
 post_code (Token token.NotGenuine) = omega arith
 post_code (Token token.NotYet) = omega arith

@@ -8,7 +8,7 @@ use Rattle.osc_model.specs.declared.step.Datagram.{Datagram}
 use Rattle.osc_model.specs.declared.step.Note.{Note}
 use Rattle.osc_model.specs.declared.step.Step.{Step}
 use Rattle.osc_coap.specs.Message.{Message}
-use Rattle.osc_authz.specs.{DeskState, accepted, taking}
+use Rattle.osc_authz.specs.{accepted, taking}
 use Rattle.osc_authz.specs.SecurityContext.{SecurityContext}
 use Rattle.osc_ccm.specs.{Sealings}
 use Rattle.osc_protect.specs.{SealedRequest}
@@ -17,7 +17,7 @@ use Rattle.osc_options.specs.{read_request}
 use Rattle.osc_message.specs.{datagram}
 use Rattle.osc_server.specs.Inner.Parts.{IsReplied, IsServedAs, Standing, noted_by}
 use Rattle.osc_server.specs.State.{State}
-use Rattle.osc_server.specs.{IsOpened, Serves}
+use Rattle.osc_server.specs.{Met, IsOpened, Serves}
 use Rattle.osc_server.specs.declared.serving.Served.{Served}
 
 -- what serves of this server
@@ -64,7 +64,7 @@ serves is_sealing old came request served tree step new is sent kept =
 -- what becomes of it under the context as it is once it took the number
 pub served_as : (is_sealing : Sealings) (old : Standing) (came : Arrival Message) (request : SealedRequest)
     (held context : SecurityContext) (taken number : ℕ) (text : List ℕ) (served : Served) (new : Tree)
-    → IsOpened is_sealing old.desk came request held text → context ≡ taking taken held → number ≡ request.number
+    → IsOpened is_sealing (record { tree = old.tree; table = old.desk.table }) came request held text → context ≡ taking taken held → number ≡ request.number
     → IsReplied is_sealing old came (record { held = context; number = number; text = text }) served new
     → IsServedAs is_sealing old came request served new
 served_as is_sealing old came request held context taken number text served new opened is same replied =
@@ -88,9 +88,9 @@ served_as is_sealing old came request held context taken number text served new 
     }
 
 -- what is noted of the opening, with the memory beside it
-pub opened_note : (is_sealing : Sealings) (desk : DeskState) (came : Arrival Message) (request : SealedRequest) (note taken : Note)
+pub opened_note : (is_sealing : Sealings) (server : Met) (came : Arrival Message) (request : SealedRequest) (note taken : Note)
     → taken ≡ note
-    → (held : SecurityContext) × IsOpened is_sealing desk came request held note.plaintext × (note ≡ opening_note held.name request.number note.plaintext)
-    → (held : SecurityContext) × IsOpened is_sealing desk came request held taken.plaintext × (taken ≡ opening_note held.name request.number taken.plaintext)
-opened_note is_sealing desk came request note taken same opened =
-    subst (λ (n : Note). (held : SecurityContext) × IsOpened is_sealing desk came request held n.plaintext × (n ≡ opening_note held.name request.number n.plaintext)) (sym same) opened
+    → (held : SecurityContext) × IsOpened is_sealing server came request held note.plaintext × (note ≡ opening_note held.name request.number note.plaintext)
+    → (held : SecurityContext) × IsOpened is_sealing server came request held taken.plaintext × (taken ≡ opening_note held.name request.number taken.plaintext)
+opened_note is_sealing server came request note taken same opened =
+    subst (λ (n : Note). (held : SecurityContext) × IsOpened is_sealing server came request held n.plaintext × (n ≡ opening_note held.name request.number n.plaintext)) (sym same) opened

@@ -116,13 +116,13 @@ module _ (is_sealing : Sealings)
 
   -- a token that was opened came in the post
   posted_opens : (message : Message) (post : Post) (after : DeskState) → Spells came.what message
-      → Posts (is_sealing EightByteTag) old.desk (posting (read_as came message)) post after → OpensCame (notes_of_post post)
+      → Posts (is_sealing EightByteTag) old.desk (posting old.tree (read_as came message)) post after → OpensCame (notes_of_post post)
   posted_opens message post after spelled (no_post none is same) = λ note e. let nothing : post.opened ≡ None = ap (λ (p : Post). p.opened) is in absurd (cc)
   posted_opens message post after spelled (not_genuine token nonce1 client_id is_post none is same) = λ note e.
       let nothing : post.opened ≡ None = ap (λ (p : Post). p.opened) is in absurd (cc)
-  posted_opens message post after spelled (opened nonce1 client_id its answer opens answers is) = λ note e.
-      let some : post.opened ≡ Some (token_note old.desk.key its.protected its.iv its.text) = ap (λ (p : Post). p.opened) is in
-      token_came message nonce1 client_id its spelled opens (same_Some note (token_note old.desk.key its.protected its.iv its.text) (sym e ∙ some))
+  posted_opens message post after spelled (opened key nonce1 client_id its answer opens its_key answers is) = λ note e.
+      let some : post.opened ≡ Some (token_note key its.protected its.iv its.text) = ap (λ (p : Post). p.opened) is in
+      token_came message key nonce1 client_id its spelled opens its_key (same_Some note (token_note key its.protected its.iv its.text) (sym e ∙ some))
 
   told_of : (out : List Datagram) → IsAlone old.endpoint.seen came.at came.from out → AreTold is_sealing old came (sends out)
   told_of out (ignores is) = rw is told_nothing

@@ -1,7 +1,9 @@
 -- What a server keeps.
 use Rattle.osc_model.specs.Tree.{Tree}
 use Rattle.osc_model.specs.Scope.{Scope}
+use Rattle.osc_model.specs.declared.node.Moment.{Moment}
 use Rattle.osc_authz.specs.{of_tokens, DeskState}
+use Rattle.osc_authz.specs.Standing.{Standing}
 use Rattle.osc_message.specs.{EndpointState}
 use Rattle.osc_run.specs.{ServerState}
 
@@ -12,6 +14,10 @@ pub record State : Type 0 where
   pub open_scope : Scope
   pub endpoint : EndpointState
 
+-- what its contexts are judged by at a moment: that, and its resources
+abbrev pub standing_of : State → Moment → Standing
+standing_of state now = record { at = now; tree = state.tree }
+
 -- what a run knows of it
 abbrev pub core : State → ServerState
-core state = record { contexts = of_tokens state.desk.table; tree = state.tree }
+core state = record { contexts = of_tokens state.desk.table; tree = state.tree; revoked = state.desk.revoked }

@@ -4,6 +4,7 @@ use Rattle.osc_model.specs.Refusals as refusal
 use Rattle.osc_model.specs.{apply, apply_read, MayReply, read_as, code, bare, sends, quiet}
 use Rattle.osc_model.specs.Arrival.{Arrival}
 use Rattle.osc_model.specs.StepNotes.{StepNotes}
+use Rattle.osc_model.specs.Tree.{Tree}
 use Rattle.osc_model.specs.declared.algorithm.Algorithm.TheVariants.{EightByteTag}
 use Rattle.osc_model.specs.declared.code.Code.{Code}
 use Rattle.osc_model.specs.declared.context.Side.TheVariants.{Client}
@@ -24,11 +25,12 @@ use Rattle.osc_context.specs.{algorithm_of, key_of}
 use Rattle.osc_window.specs.{IsFresh}
 use Rattle.osc_protect.specs.{aad_of, SealedRequest, IsRequest, IsProtectedResponse, request_nonce}
 use Rattle.osc_ccm.specs.{Sealings}
-use Rattle.osc_authz.specs.{DeskState, post_number, answer_item, Posts, code_of, meant, accepted}
+use Rattle.osc_authz.specs.{post_number, answer_item, Posts, code_of, meant, accepted}
 use Rattle.osc_authz.specs.SecurityContext.{SecurityContext}
 use Rattle.osc_authz.specs.Posting.{Posting}
 use Rattle.osc_authz.specs.declared.error.PostError.{PostError}
 use Rattle.osc_authz.specs.declared.post.Post.{Post}
+use Rattle.osc_authz.specs.declared.token_entry.TokenEntry.{TokenEntry}
 use Rattle.osc_authz.specs.declared.post.PostAnswer.{PostAnswer}
 use Rattle.osc_run.specs.{opening_note, reply_note, Replies as AppliesTo}
 use Rattle.osc_server.specs.Case.{case_of}
@@ -80,8 +82,8 @@ pub record AnswersGet (old : State) (came : Arrival Message) (request : Request)
 -- ---- posts to authz-info
 
 -- what is posted: the payload of the message, where it has one
-abbrev pub posting : Arrival Message → Posting
-posting came = record { at = came.at; body = unwrap_or came.what.payload []; draw = came.draw }
+abbrev pub posting : Tree → Arrival Message → Posting
+posting tree came = record { on = record { at = came.at; tree = tree }; body = unwrap_or came.what.payload []; draw = came.draw }
 
 -- the Content-Format application/ace+cbor (RFC 9200 section 8.16)
 abbrev pub ace_cbor : ℕ
@@ -144,10 +146,22 @@ refusal_to endpoint came refusal =
     let why = refusal_code refusal in
     with_error (reply_start came.draw endpoint.next_id came.what why.0) why.0 (refusal_age refusal) (refusal_text refusal)
 
+-- the contexts and the resources of a server, which a protected request meets
+pub record Met : Type 0 where
+  pub tree : Tree
+  pub table : List TokenEntry
+
+abbrev pub met : State → Met
+met state = record { tree = state.tree; table = state.desk.table }
+
+-- the live context that a request means, if there is one
+abbrev pub context_for : Met → Arrival Message → SealedRequest → Option SecurityContext
+context_for server came request = meant (record { at = came.at; tree = server.tree }) request.kid request.kid_context server.table
+
 -- the message says this, and there is a live context that it means
-pub record IsMeant (desk : DeskState) (came : Arrival Message) (request : SealedRequest) (held : SecurityContext) : Type 0 where
+pub record IsMeant (server : Met) (came : Arrival Message) (request : SealedRequest) (held : SecurityContext) : Type 0 where
   pub is_request : IsRequest came.what request
-  pub is_meant : meant came.at request.kid request.kid_context desk.table ≡ Some held
+  pub is_meant : context_for server came request ≡ Some held
 
 -- what is noted of a request that is served
 abbrev pub notes_of_request : Moment → SecurityContext → ℕ → List ℕ → Reply → StepNotes
@@ -165,18 +179,18 @@ module _ (is_sealing : Sealings) where
       is_sealing (algorithm_of held.name) (key_of held.name Client) (request_nonce held.name request.number) (aad_of held.name request.number) text request.sealed
 
   -- why a protected request isn't served: the first of these that stands (RFC 8613 section 8.2)
-  abbrev pub IsRefused : DeskState → Arrival Message → Refusal → Type 0
-  IsRefused desk came Malformed = (request : SealedRequest) → ¬ IsRequest came.what request
-  IsRefused desk came NoContext =
-      (request : SealedRequest) × IsRequest came.what request × (meant came.at request.kid request.kid_context desk.table ≡ None)
-  IsRefused desk came Replayed = (request : SealedRequest) × (held : SecurityContext) × IsMeant desk came request held × (¬ IsFresh held.window request.number)
-  IsRefused desk came NotGenuine =
-      (request : SealedRequest) × (held : SecurityContext) × IsMeant desk came request held × IsFresh held.window request.number
+  abbrev pub IsRefused : Met → Arrival Message → Refusal → Type 0
+  IsRefused server came Malformed = (request : SealedRequest) → ¬ IsRequest came.what request
+  IsRefused server came NoContext =
+      (request : SealedRequest) × IsRequest came.what request × (context_for server came request ≡ None)
+  IsRefused server came Replayed = (request : SealedRequest) × (held : SecurityContext) × IsMeant server came request held × (¬ IsFresh held.window request.number)
+  IsRefused server came NotGenuine =
+      (request : SealedRequest) × (held : SecurityContext) × IsMeant server came request held × IsFresh held.window request.number
       × ((text : List ℕ) → ¬ IsSealed held request text)
 
   -- the request opens to this text, under a context that it means, at a fresh number
-  pub record IsOpened (desk : DeskState) (came : Arrival Message) (request : SealedRequest) (held : SecurityContext) (text : List ℕ) : Type 0 where
-    pub meant : IsMeant desk came request held
+  pub record IsOpened (server : Met) (came : Arrival Message) (request : SealedRequest) (held : SecurityContext) (text : List ℕ) : Type 0 where
+    pub meant : IsMeant server came request held
     pub fresh : IsFresh held.window request.number
     pub opens : IsSealed held request text
 
@@ -186,7 +200,7 @@ module _ (is_sealing : Sealings) where
     pub request : SealedRequest
     pub held : SecurityContext
     pub text : List ℕ
-    pub opened : IsOpened old.desk came request held text
+    pub opened : IsOpened (met old) came request held text
     pub reply : Reply
     pub within : IsWithinRanges reply
     pub applied : AppliesTo old.tree (apply_read old.tree held.scope (read_request text)) reply new.tree
@@ -196,7 +210,7 @@ module _ (is_sealing : Sealings) where
         came answer (notes_of_request came.at held request.number text reply) step new
 
   pub data AnswersProtected (old : State) (came : Arrival Message) (step : Step) (new : State) : Type 0 where
-    refused : (refusal : Refusal) → IsRefused old.desk came refusal
+    refused : (refusal : Refusal) → IsRefused (met old) came refusal
         → Sends old came (refusal_to old.endpoint came refusal) (refused_for (refusal_code refusal) (Some (refusal_number refusal))) step new
         → AnswersProtected old came step new
     served : Serves old came step new → AnswersProtected old came step new
@@ -204,7 +218,7 @@ module _ (is_sealing : Sealings) where
   -- a post is judged by the desk, whose answer goes out; tokens are sealed under the algorithm whose tag has 8 bytes
   pub record AnswersPost (old : State) (came : Arrival Message) (step : Step) (new : State) : Type 0 where
     pub post : Post
-    pub posts : Posts (is_sealing EightByteTag) old.desk (posting came) post new.desk
+    pub posts : Posts (is_sealing EightByteTag) old.desk (posting old.tree came) post new.desk
     pub sent : Sends (record old { desk = new.desk }) came (reply_to old.endpoint came (post_reply post.answer)) (notes_of_post post) step new
 
   -- ---- the table

@@ -10,7 +10,7 @@ use Rattle.osc_model.specs.declared.step.Step.{Step}
 use Rattle.osc_coap.specs.{Spells, spelling}
 use Rattle.osc_coap.specs.Message.{Message}
 use Rattle.osc_options.specs.{has_oscore}
-use Rattle.osc_authz.specs.{IsOpened as OpensToken, OpenedToken}
+use Rattle.osc_authz.specs.{IsKeyFor, IsOpened as OpensToken, OpenedToken}
 use Rattle.osc_message.specs.{noted_reply}
 use Rattle.osc_run.specs.{IsOpenOf, IsSealOf}
 use Rattle.osc_token.specs.{token_note}
@@ -29,9 +29,10 @@ module _ (is_sealing : Sealings) where
   -- what the note says was opened is in the message that these bytes are: it is a protected request, or the token of a post
   pub data IsOpenedOf (old : State) (note : Note) (bytes : List ℕ) : Type 0 where
     request_came : IsOpenOf is_sealing note bytes → IsOpenedOf old note bytes
-    token_came : (message : Message) (nonce1 client_id : List ℕ) (its : OpenedToken) → Spells bytes message
-        → OpensToken (is_sealing EightByteTag) old.desk.key (unwrap_or message.payload []) nonce1 client_id its
-        → note ≡ token_note old.desk.key its.protected its.iv its.text → IsOpenedOf old note bytes
+    token_came : (message : Message) (key nonce1 client_id : List ℕ) (its : OpenedToken) → Spells bytes message
+        → (post_is : OpensToken (is_sealing EightByteTag) key (unwrap_or message.payload []) nonce1 client_id its)
+        → IsKeyFor (is_sealing EightByteTag) old.desk post_is.token key
+        → note ≡ token_note key its.protected its.iv its.text → IsOpenedOf old note bytes
 
   -- Each datagram is told of so; what is noted as sealed is the one that is sent; and what is noted as opened is the one that came.
   pub record AreTold (old : State) (came : Arrival (List ℕ)) (step : Step) : Type 0 where

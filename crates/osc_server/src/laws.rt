@@ -1,7 +1,6 @@
 //! Laws of the definitions, for the crates above. These functions do nothing: whoever calls one has its clauses for a proof.
 ghost use Rattle.std.specs.Prelude.{◌≡◌, ◌<◌, ◌≤◌, ℕ, List, length};
 ghost use Rattle.std.specs.Option.{ForSome};
-ghost use Rattle.osc_authz.specs.{DeskState};
 ghost use Rattle.osc_authz.specs.SecurityContext.{SecurityContext};
 ghost use Rattle.osc_coap.specs.Message.{Message};
 ghost use Rattle.osc_model.specs.{apply_read, IsWithinLimits};
@@ -12,7 +11,7 @@ ghost use Rattle.osc_model.specs.declared.reply.Reply.{Reply as AnyReply};
 ghost use Rattle.osc_protect.specs.{SealedRequest};
 ghost use Rattle.osc_run.specs.{Replies as AppliesTo};
 ghost use Rattle.osc_options.specs.{read_request, reply_text};
-ghost use Rattle.osc_server.specs.Table.{IsOpened, IsRefused};
+ghost use Rattle.osc_server.specs.Table.{IsOpened, IsRefused, Met};
 ghost use Rattle.osc_server.specs.declared.refusal.Refusal.{Refusal as AnyRefusal};
 
 use osc_ccm::Ciphers;
@@ -31,12 +30,12 @@ pub fn lengths_of_replies()
 
 /// A protected request is refused for one reason, or it opens: as one request, under one context, and to one text.
 pub fn one_refusal<A: Ciphers>()
-    ensures refused { (desk : DeskState) (came : Arrival Message) (a b : AnyRefusal)
-        → IsRefused A.is_sealing desk came a → IsRefused A.is_sealing desk came b → a ≡ b }
-    ensures opened { (desk : DeskState) (came : Arrival Message) (request : SealedRequest) (held : SecurityContext) (text : List ℕ) (refusal : AnyRefusal)
-        → IsOpened A.is_sealing desk came request held text → ¬ IsRefused A.is_sealing desk came refusal }
-    ensures once { (desk : DeskState) (came : Arrival Message) (request other : SealedRequest) (held holder : SecurityContext) (text said : List ℕ)
-        → IsOpened A.is_sealing desk came request held text → IsOpened A.is_sealing desk came other holder said
+    ensures refused { (server : Met) (came : Arrival Message) (a b : AnyRefusal)
+        → IsRefused A.is_sealing server came a → IsRefused A.is_sealing server came b → a ≡ b }
+    ensures opened { (server : Met) (came : Arrival Message) (request : SealedRequest) (held : SecurityContext) (text : List ℕ) (refusal : AnyRefusal)
+        → IsOpened A.is_sealing server came request held text → ¬ IsRefused A.is_sealing server came refusal }
+    ensures once { (server : Met) (came : Arrival Message) (request other : SealedRequest) (held holder : SecurityContext) (text said : List ℕ)
+        → IsOpened A.is_sealing server came request held text → IsOpened A.is_sealing server came other holder said
         → (request ≡ other) × (held ≡ holder) × (text ≡ said) }
 {
     one_request();

@@ -22,7 +22,7 @@ use crate::case::{Case, case_of};
 use crate::posting::{POST_ANSWER, POST_PAYLOAD, notes_of, post_answer};
 use crate::refusal::{Refusal, refused_for};
 use crate::serving::{ProtectedRequest, Served, serve};
-use osc_authz::{Post, ServerDesk};
+use osc_authz::{Post, ServerDesk, Standing};
 use osc_ccm::Ciphers;
 use osc_coap::MessageBuilder;
 use osc_message::laws::{what_is_heard, what_nodes_send};
@@ -340,9 +340,13 @@ impl Server {
         let payload = Buffer::new(alloc, POST_PAYLOAD)?;
         let room = ReplyRoom::new(alloc, POST_ANSWER)?;
         let body = came.message.payload().unwrap_or(&[]);
+        let on = Standing {
+            at: came.at,
+            tree: &self.tree,
+        };
         let Post { opened, answer } = self
             .desk
-            .post::<TokenCipher<A>>(alloc, came.at, body, came.draw)?;
+            .post::<TokenCipher<A>>(alloc, &on, body, came.draw)?;
         let message = post_answer(alloc, payload, &self.endpoint, &came, answer);
         Ok(self.send(room, came, &message, notes_of(opened, answer)))
     }

@@ -4,7 +4,7 @@ ghost use Rattle.std.specs.Prelude.{◌≡◌, ◌<◌, ◌≤◌, ◌+◌, ℕ,
 ghost use Rattle.osc_coap.specs.{spelling};
 ghost use Rattle.osc_coap.specs.Message.{Message as AnyMessage};
 ghost use Rattle.osc_authz.specs.SecurityContext.{SecurityContext};
-ghost use Rattle.osc_authz.specs.{accepted, meant};
+ghost use Rattle.osc_authz.specs.{accepted};
 ghost use Rattle.osc_context.specs.{algorithm_of, accepted_of};
 ghost use Rattle.osc_model.specs.declared.context.Side.TheVariants.{Server};
 ghost use Rattle.osc_model.specs.{apply_read};
@@ -13,7 +13,7 @@ ghost use Rattle.osc_run.specs.{opening_note, reply_note, Replies as AppliesTo};
 ghost use Rattle.osc_options.specs.{read_request, IsWithinRanges};
 ghost use Rattle.osc_model.specs.Tree.{Tree as AnyTree};
 ghost use Rattle.osc_server.specs.Inner.Parts.{FitsAResource, IsReplyOf, IsSentAs, IsServedAs, IsTakenFor, message_beside_sealed, reply_length, read_length as read_length_of, text_beside_payload};
-ghost use Rattle.osc_server.specs.Table.{IsMeant, IsOpened, IsRefused, IsSealed, notes_of_request, reply_to as reply_to_of};
+ghost use Rattle.osc_server.specs.Table.{context_for, IsMeant, IsOpened, IsRefused, IsSealed, notes_of_request, reply_to as reply_to_of};
 ghost use Rattle.osc_window.specs.{IsFresh};
 
 use crate::Endpoint;
@@ -21,7 +21,7 @@ use crate::answer::{header_to, sent_as};
 use crate::case::GET;
 use crate::refusal::Refusal;
 use osc_authz::laws::meant_contexts;
-use osc_authz::{ServerContext, ServerDesk};
+use osc_authz::{ServerContext, ServerDesk, Standing};
 use osc_ccm::Ciphers;
 use osc_coap::laws::{length_of_plaintext, length_of_spelling};
 use osc_context::AcceptedNumber;
@@ -66,28 +66,31 @@ pub struct ProtectedRequest<'a> {
 /// The live context that the request means; takes no memory.
 fn meant_context<'a>(
     desk: &'a ServerDesk,
+    tree: &Tree,
     request: &ProtectedRequest<'_>,
 ) -> Option<&'a ServerContext>
     requires { IsRequest request.now.came.now.what request.now.says }
-    ensures some { IfSome result (λ context. IsMeant desk.now request.now.came.now request.now.says context.now) }
-    ensures none { IfNone result (meant request.now.came.now.at request.now.says.kid request.now.says.kid_context desk.now.table ≡ None) }
+    ensures some { IfSome result (λ context. IsMeant (record { tree = tree.now; table = desk.now.table }) request.now.came.now request.now.says context.now) }
+    ensures none { IfNone result (context_for (record { tree = tree.now; table = desk.now.table }) request.now.came.now request.now.says ≡ None) }
 {
     let came = request.came;
     let says = &request.says;
-    desk.find(came.at, says.kid(), says.kid_context())
+    let on = Standing { at: came.at, tree };
+    desk.find(&on, says.kid(), says.kid_context())
 }
 
 /// The same, where the request's number is fresh.
 fn fresh_context<'a, A: Ciphers>(
     desk: &'a ServerDesk,
+    tree: &Tree,
     request: &ProtectedRequest<'_>,
 ) -> Result<&'a ServerContext, Refusal>
     requires { IsRequest request.now.came.now.what request.now.says }
-    ensures meant { IfOk result (λ context. IsMeant desk.now request.now.came.now request.now.says context.now) }
+    ensures meant { IfOk result (λ context. IsMeant (record { tree = tree.now; table = desk.now.table }) request.now.came.now request.now.says context.now) }
     ensures fresh { IfOk result (λ context. IsFresh context.now.window request.now.says.number) }
-    ensures refused { IfErr result (λ refusal. IsRefused A.is_sealing desk.now request.now.came.now refusal) }
+    ensures refused { IfErr result (λ refusal. IsRefused A.is_sealing (record { tree = tree.now; table = desk.now.table }) request.now.came.now refusal) }
 {
-    let Some(context) = meant_context(desk, request) else {
+    let Some(context) = meant_context(desk, tree, request) else {
         return Err(Refusal::NoContext);
     };
     if !context.recipient().is_fresh(request.says.number()) {
@@ -296,7 +299,7 @@ fn serve_opened<A: Ciphers>(
     request: &ProtectedRequest<'_>,
     taken: Taken,
 ) -> Served
-    requires opened { (held : SecurityContext) × IsOpened A.is_sealing desk.old request.now.came.now request.now.says held taken.note.plaintext
+    requires opened { (held : SecurityContext) × IsOpened A.is_sealing (record { tree = tree.old; table = desk.old.table }) request.now.came.now request.now.says held taken.note.plaintext
         × (taken.note ≡ opening_note held.name request.now.says.number taken.note.plaintext) }
     requires taken { IsTakenFor A.TAG tree.old taken }
     ensures served { IsServedAs A.is_sealing (record { tree = tree.old; desk = desk.old; endpoint = endpoint.now }) request.now.came.now request.now.says result tree.new }
@@ -329,16 +332,17 @@ fn open<A: Ciphers>(
 fn opened<A: Ciphers>(
     alloc: Global,
     desk: &ServerDesk,
+    tree: &Tree,
     request: &ProtectedRequest<'_>,
 ) -> Result<Result<Note, Refusal>, AllocError>
     requires { IsRequest request.now.came.now.what request.now.says }
     ensures opened { IfOk result (λ outcome. IfOk outcome (λ note. (held : SecurityContext)
-        × IsOpened A.is_sealing desk.now request.now.came.now request.now.says held note.plaintext
+        × IsOpened A.is_sealing (record { tree = tree.now; table = desk.now.table }) request.now.came.now request.now.says held note.plaintext
         × (note ≡ opening_note held.name request.now.says.number note.plaintext))) }
-    ensures refused { IfOk result (λ outcome. IfErr outcome (λ refusal. IsRefused A.is_sealing desk.now request.now.came.now refusal)) }
+    ensures refused { IfOk result (λ outcome. IfErr outcome (λ refusal. IsRefused A.is_sealing (record { tree = tree.now; table = desk.now.table }) request.now.came.now refusal)) }
 {
     meant_contexts();
-    let context = match fresh_context::<A>(desk, request) {
+    let context = match fresh_context::<A>(desk, tree, request) {
         Ok(context) => context,
         Err(refusal) => return Ok(Err(refusal)),
     };
@@ -362,11 +366,11 @@ pub fn serve<A: Ciphers>(
         IsServedAs A.is_sealing (record { tree = tree.old; desk = desk.old; endpoint = endpoint.now }) request.now.came.now request.now.says served tree.new)) }
     ensures accepted { IfOk result (λ outcome. OnOk outcome
         (desk.new ≡ record desk.old { table = accepted request.now.says.kid request.now.says.number desk.old.table })) }
-    ensures refused { IfOk result (λ outcome. IfErr outcome (λ refusal. IsRefused A.is_sealing desk.old request.now.came.now refusal)) }
+    ensures refused { IfOk result (λ outcome. IfErr outcome (λ refusal. IsRefused A.is_sealing (record { tree = tree.old; table = desk.old.table }) request.now.came.now refusal)) }
     ensures same { IfOk result (λ outcome. OnErr outcome ((desk.new ≡ desk.old) × (tree.new ≡ tree.old))) }
     ensures err { OnErr result ((desk.new ≡ desk.old) × (tree.new ≡ tree.old)) }
 {
-    match opened::<A>(alloc, desk, request)? {
+    match opened::<A>(alloc, desk, tree, request)? {
         Ok(note) => {
             let taken = Taken::new::<A>(alloc, tree, note)?;
             Ok(Ok(serve_opened::<A>(alloc, desk, tree, endpoint, request, taken)))

@@ -1,9 +1,12 @@
 //! Exchanges, and what the desk refuses.
-use osc_authz::{ClientContext, ClientDesk, GrantError, Post, PostAnswer, PostError, ServerDesk};
+use osc_authz::{
+    ClientContext, ClientDesk, GrantError, Post, PostAnswer, PostError, ServerDesk, Standing,
+};
 use osc_cbor::{Item, write};
 use osc_ccm::Ccm;
 use osc_model::{Algorithm, Bytes, Code, ContextName, Draw, Moment};
 use osc_token::{Audience, Claims, InputMaterial, TokenError, mint};
+use osc_tree::Tree;
 use std::alloc::{AllocError, Global};
 use std::process::Abort;
 
@@ -143,16 +146,30 @@ fn posted_with(
     last: u8,
 ) -> Result<Outcome, AllocError> {
     let now = Moment::new(at).unwrap_or(Moment::START);
-    let post = desk.post::<Ccm<8>>(alloc, now, body, &drawn(last))?;
+    let tree = Tree::new(alloc);
+    let on = Standing {
+        at: now,
+        tree: &tree,
+    };
+    let post = desk.post::<Ccm<8>>(alloc, &on, body, &drawn(last))?;
     let outcome = outcome_of(&post);
     drop(post);
+    drop(on);
+    drop(tree);
     Ok(outcome)
 }
 
 /// Whether a live context has this recipient ID.
-fn is_found(desk: &ServerDesk, at: u64, id: u8) -> bool {
-    let now = Moment::new(at).unwrap_or(Moment::START);
-    desk.find(now, &[id], None).is_some()
+fn is_found(desk: &ServerDesk, alloc: Global, at: u64, id: u8) -> bool {
+    let tree = Tree::new(alloc);
+    let on = Standing {
+        at: Moment::new(at).unwrap_or(Moment::START),
+        tree: &tree,
+    };
+    let is_found = desk.find(&on, &[id], None).is_some();
+    drop(on);
+    drop(tree);
+    is_found
 }
 
 /// A post of the token of id 1, with a nonce that ends in 1 and the ID 00. The token was sealed by another implementation.
@@ -167,9 +184,16 @@ fn what_is_posted(rt: HostRuntime) {
 
 /// What is answered to the post.
 fn answered(rt: &impl Abort, alloc: Global, desk: &mut ServerDesk) -> PostAnswer {
+    let tree = Tree::new(alloc);
+    let on = Standing {
+        at: Moment::START,
+        tree: &tree,
+    };
     let post = desk
-        .post::<Ccm<8>>(alloc, Moment::START, POST, &drawn(2))
+        .post::<Ccm<8>>(alloc, &on, POST, &drawn(2))
         .expect(rt, "memory");
+    drop(on);
+    drop(tree);
     let answer = post.answer;
     drop(post);
     answer.expect(rt, "an answer")
@@ -207,10 +231,15 @@ fn both_ends_have_one_name(rt: HostRuntime) {
     let made = made_of(&rt, rt.alloc(), answer);
     assert!(rt; is_exchanged(made.name()));
     drop(made);
-    let held = desk
-        .find(Moment::START, &[1], None)
-        .expect(&rt, "a context");
+    let tree = Tree::new(rt.alloc());
+    let on = Standing {
+        at: Moment::START,
+        tree: &tree,
+    };
+    let held = desk.find(&on, &[1], None).expect(&rt, "a context");
     assert!(rt; is_exchanged(held.name()));
+    drop(on);
+    drop(tree);
     drop(desk);
 }
 
@@ -288,9 +317,19 @@ const STEPS: [(Event, u8, [Option<u8>; 3]); 6] = [
 ];
 
 /// The last byte of the salt of the live context with this recipient ID.
-fn salt_end(desk: &ServerDesk, id: u8) -> Option<u8> {
-    let context = desk.find(Moment::START, &[id], None)?;
-    context.name().salt.as_slice().last().copied()
+fn salt_end(desk: &ServerDesk, alloc: Global, id: u8) -> Option<u8> {
+    let tree = Tree::new(alloc);
+    let on = Standing {
+        at: Moment::START,
+        tree: &tree,
+    };
+    let last = match desk.find(&on, &[id], None) {
+        Some(context) => context.name().salt.as_slice().last().copied(),
+        None => None,
+    };
+    drop(on);
+    drop(tree);
+    last
 }
 
 /// Takes each step, and sees what it makes.
@@ -298,7 +337,7 @@ fn take_steps(rt: &impl Abort, alloc: Global, desk: &mut ServerDesk) {
     for &(event, id, salts) in &STEPS {
         let made = step(desk, alloc, event).expect(rt, "memory");
         assert!(rt; made == Some(id));
-        assert!(rt; [1, 2, 3].map(|id| salt_end(desk, id)) == salts);
+        assert!(rt; [1, 2, 3].map(|id| salt_end(desk, alloc, id)) == salts);
     }
 }
 
@@ -307,7 +346,7 @@ fn the_newest_post_waits_for_a_request(rt: HostRuntime) {
     let mut desk = desk_of(rt.alloc()).expect(&rt, "memory");
     take_steps(&rt, rt.alloc(), &mut desk);
     desk.clear();
-    assert!(rt; salt_end(&desk, 2).is_none());
+    assert!(rt; salt_end(&desk, rt.alloc(), 2).is_none());
     drop(desk);
 }
 
@@ -376,7 +415,7 @@ fn sixty_four_tokens_have_contexts(rt: HostRuntime) {
     let mut desk = desk_of(rt.alloc()).expect(&rt, "memory");
     fill(&rt, rt.alloc(), &mut desk);
     for id in 1..65u8 {
-        assert!(rt; is_found(&desk, 99_999, id) && !is_found(&desk, 100_000, id));
+        assert!(rt; is_found(&desk, alloc, 99_999, id) && !is_found(&desk, alloc, 100_000, id));
     }
     post_further(&rt, rt.alloc(), &mut desk);
     drop(desk);
@@ -485,7 +524,7 @@ fn posted_beside_one(rt: &impl Abort, alloc: Global, body: &[u8]) -> (Outcome, b
     let mut desk = desk_of(alloc).expect(rt, "memory");
     answered(rt, alloc, &mut desk);
     let outcome = posted(&mut desk, alloc, 10_000, body).expect(rt, "memory");
-    let alone = is_found(&desk, 0, 1) && !is_found(&desk, 0, 2);
+    let alone = is_found(&desk, alloc, 0, 1) && !is_found(&desk, alloc, 0, 2);
     drop(desk);
     (outcome, alone)
 }
@@ -517,6 +556,7 @@ fn codes_of_refusals(rt: HostRuntime) {
         (PostError::Token(TokenError::Expired), Code::UNAUTHORIZED),
         (PostError::Token(TokenError::Audience), Code::FORBIDDEN),
         (PostError::Token(TokenError::BadScope), Code::BAD_REQUEST),
+        (PostError::Revoked, Code::UNAUTHORIZED),
         (PostError::Full, Code::SERVICE_UNAVAILABLE),
     ];
     for (error, code) in codes {
@@ -532,8 +572,8 @@ fn a_refused_allocation_leaves_the_desk(rt: HostRuntime) {
         return;
     };
     if posted(&mut desk, alloc, 0, POST).is_err() {
-        assert!(rt; !is_found(&desk, 0, 1));
+        assert!(rt; !is_found(&desk, rt.alloc(), 0, 1));
         assert!(rt; posted(&mut desk, alloc, 0, POST).ok() == Some((Ok(1), true)));
     }
-    assert!(rt; is_found(&desk, 0, 1));
+    assert!(rt; is_found(&desk, rt.alloc(), 0, 1));
 }

@@ -3,7 +3,7 @@
 
 use crate::common::{GREATEST, SCOPE, accepted, counts, has, history, takes_place, world_of};
 use crate::quiet::is_quiet;
-use osc_authz::ServerContext;
+use osc_authz::{ServerContext, Standing};
 use osc_client::Client;
 use osc_fixtures::{DELETE, GET, POST, PUT, Right, SERVER, drawn, own, place, request};
 use osc_model::{ClientResult, Code, ContextName, Draw, Moment, Path, Peer, Reply, SharedName};
@@ -125,10 +125,14 @@ fn held<'a>(world: &'a World, now: Moment, name: &SharedName) -> Option<&'a Serv
         Some(bytes) => Some(bytes.as_slice()),
         None => None,
     };
+    let on = Standing {
+        at: now,
+        tree: world.server().tree(),
+    };
     match world
         .server()
         .desk()
-        .find(now, name.client_id.as_slice(), kid_context)
+        .find(&on, name.client_id.as_slice(), kid_context)
     {
         Some(context) if *context.name() == *name => Some(context),
         _ => None,

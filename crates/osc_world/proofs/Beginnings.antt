@@ -1,7 +1,8 @@
 -- Where a world begins, a client that was enrolled may exchange, straight or through a proxy that was added.
-use Rattle.std.proofs.Common.{◌≡◌, ◌∙◌, sym, ap, subst, refl, ℕ, ◌+◌, ◌^◌, ◌<◌, ◌≤◌, List, [], length, None, Some, arith}
+use Rattle.std.proofs.Common.{◌≡◌, ◌∙◌, sym, ap, subst, refl, ℕ, ◌+◌, ◌^◌, ◌<◌, ◌≤◌, List, [], false, length, None, Some, arith}
 use Rattle.std.specs.Prelude.{slice_get}
-use Rattle.osc_model.specs.{HasBegun, IsNotOver}
+use Rattle.osc_model.specs.{HasBegun, IsNotOver, is_revoked}
+use Rattle.osc_server.specs.{standing_of}
 use Rattle.osc_model.specs.declared.algorithm.Algorithm.TheVariants.{EightByteTag}
 use Rattle.osc_model.specs.declared.node.Moment.{Moment}
 use Rattle.osc_model.specs.declared.node.Peer.{Peer}
@@ -39,12 +40,10 @@ fit claims lawful = record {
 module _ (is_sealing : Sealings) (tag : ℕ)
     (sealed_length : IsLongerBy tag (is_sealing EightByteTag))
     (short_tag : tag ≤ most_tag)
-    (before after start : Beginning) (holder : Holder) (now : Moment) (enrols : Enrols is_sealing before holder after)
-    (key : start.key ≡ before.key)
-    (lawful : HasLawfulParts holder.claims) (fits : FitAToken holder.claims) (audience : holder.claims.audience ≡ start.audience)
-    (begins : HasBegun holder.claims.not_before now) (ends : IsNotOver holder.claims.expires now)
+    (before after start : Beginning) (holder : Holder) (enrols : Enrols is_sealing before holder after)
+    (key : start.key ≡ before.key) (lawful : HasLawfulParts holder.claims) (fits : FitAToken holder.claims)
     (iv_size : length holder.iv ≡ 13) (token_size : length enrols.placed.node.desk.token < 2 ^ 64) where
-  holds : HoldsToken (is_sealing EightByteTag) start.key holder.claims enrols.enrolled.entries enrols.placed.node.desk
+  pub holds : HoldsToken (is_sealing EightByteTag) start.key holder.claims enrols.enrolled.entries enrols.placed.node.desk
   holds =
       let is = enrols.enrolled in record {
         iv = holder.iv;
@@ -67,18 +66,22 @@ module _ (is_sealing : Sealings) (tag : ℕ)
         alg = is.client.desk.alg;
       }
 
-  welcome : IsWelcome (is_sealing EightByteTag) (begun start).nodes.server.desk now holder.claims enrols.enrolled.entries enrols.placed.node.desk
-  welcome = record {
-    holds = holds;
-    lawful = lawful;
-    audience = audience;
-    begun = begins;
-    not_over = ends;
-    room = λ full. absurd (omega (arith, full.many));
-  }
+  module _ (audience : holder.claims.audience ≡ start.audience) (now : Moment)
+      (begins : HasBegun holder.claims.not_before now) (ends : IsNotOver holder.claims.expires now)
+      (unrevoked : is_revoked start.revoked start.first holder.claims.material.id ≡ false) where
+    welcome : IsWelcome (is_sealing EightByteTag) (begun start).nodes.server.desk (standing_of (begun start).nodes.server now) holder.claims enrols.enrolled.entries enrols.placed.node.desk
+    welcome = record {
+      holds = holds;
+      lawful = lawful;
+      audience = audience;
+      begun = begins;
+      not_over = ends;
+      unrevoked = unrevoked;
+      room = λ full. absurd (omega (arith, full.many));
+    }
 
-  pub may_exchange : MayExchange is_sealing enrols.placed.node (begun start).nodes.server now holder.claims enrols.enrolled.entries
-  may_exchange = record { idle = enrols.enrolled.client.waiting; welcome = welcome }
+    pub may_exchange : MayExchange is_sealing enrols.placed.node (begun start).nodes.server now holder.claims enrols.enrolled.entries
+    may_exchange = record { idle = enrols.enrolled.client.waiting; welcome = welcome }
 
 module _ (is_sealing : Sealings)
     (before after start : Beginning) (holder : Holder) (round : ClientRound) (enrols : Enrols is_sealing before holder after) where

@@ -10,6 +10,7 @@ use Rattle.osc_message.specs.{own_id}
 use Rattle.osc_context.specs.{greatest_number}
 use Rattle.osc_window.specs.{IsFresh}
 use Rattle.osc_authz.specs.{IsLive}
+use Rattle.osc_server.specs.{standing_of}
 use Rattle.osc_rounds.specs.{OpenedRequest, MayAsk}
 use Rattle.osc_scope.specs.{Entry}
 use Rattle.osc_client.specs.State.{State as Client}
@@ -21,7 +22,7 @@ next_differs : (id : ℕ) → (id + 1) % 65536 ≢ id
 next_differs id same = omega (arith, same)
 
 pub may_ask : (old new : State) (client : ℕ) (now later : Moment) (entries : List Entry) (made : HasMade old client now entries new)
-    → IsLive later made.held
+    → IsLive (standing_of new.nodes.server later) made.held
     → MayAsk made.placed.node new.nodes.server later (record { name = made.held.name; next = 0 }) made.held
 may_ask old new client now later entries made live = record {
   idle = made.idle;
@@ -71,7 +72,7 @@ ready_to_ask begun old new quiet client before now draw entries made next round 
 -- ---- behind an answered one
 
 pub may_ask_again : (old new : State) (client : ℕ) (now later : Moment) (request : OpenedRequest) (answered : HasAnswered old client now request new)
-    → IsLive later answered.after → request.number + 1 ≤ greatest_number → IsFresh request.held.window (request.number + 1)
+    → IsLive (standing_of new.nodes.server later) answered.after → request.number + 1 ≤ greatest_number → IsFresh request.held.window (request.number + 1)
     → MayAsk answered.placed.node new.nodes.server later (record { name = request.held.name; next = request.number + 1 }) answered.after
 may_ask_again old new client now later request answered live few fresh = record {
   idle = answered.idle;

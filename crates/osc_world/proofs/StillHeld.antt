@@ -13,8 +13,8 @@ use Rattle.osc_world.specs.{HoldsStill}
 
 -- where a context of a table takes a number
 abbrev pub TakesNumbers : Type 0
-TakesNumbers = (now : Moment) (number : ℕ) (context : OfToken) (table : List TokenEntry) → IsTable table → In context (of_tokens table)
-    → HasTaken now number context (of_tokens table) (of_tokens (accepted context.held.name.client_id number table))
+TakesNumbers = (on : Standing) (number : ℕ) (context : OfToken) (table : List TokenEntry) → IsTable table → In context (of_tokens table)
+    → HasTaken on number context (of_tokens table) (of_tokens (accepted context.held.name.client_id number table))
 
 -- ---- members of two lists
 

@@ -1,5 +1,5 @@
 -- Where a world begins.
-use Rattle.std.specs.Prelude.{◌≡◌, ℕ, List, [], ◌∷◌, ◌++◌, length, Some, None, slice_get}
+use Rattle.std.specs.Prelude.{◌≡◌, ℕ, List, [], ◌∷◌, ◌++◌, length, Option, Some, None, slice_get}
 use Rattle.osc_model.specs.Scope.{Scope}
 use Rattle.osc_model.specs.Tree.{Tree}
 use Rattle.osc_model.specs.declared.algorithm.Algorithm.TheVariants.{EightByteTag}
@@ -25,13 +25,14 @@ use Rattle.osc_world.specs.Worlds.{State}
 use Rattle.osc_world.specs.declared.nodes.Placed.{Placed}
 use Rattle.osc_world.specs.declared.start.Holder.{Holder}
 
--- the resources; what needs no protection; the key of tokens, and for whom they are; where the server stands; the grants with the
--- texts of their tokens; and the clients and the proxies, each with where it stands
+-- the resources; what needs no protection; the key of tokens, and for whom they are; the path below which resources revoke them, if there
+-- is one; where the server stands; the grants with the texts of their tokens; and the clients and the proxies, each with where it stands
 pub record Beginning : Type 0 where
   pub first : Tree
   pub open_scope : Scope
   pub key : List ℕ
   pub audience : List ℕ
+  pub revoked : Option (List ℕ)
   pub server_at : Peer
   pub minted : List Minted
   pub clients : List (Placed Client)
@@ -114,7 +115,7 @@ first_nodes start = record {
   server_at = start.server_at;
   server = record {
     tree = start.first;
-    desk = record { key = start.key; audience = start.audience; table = [] };
+    desk = record { key = start.key; old_key = None; audience = start.audience; revoked = start.revoked; table = [] };
     open_scope = start.open_scope;
     endpoint = fresh;
   };

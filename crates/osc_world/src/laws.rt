@@ -1,11 +1,14 @@
 //! Laws of the definitions. These functions do nothing: whoever calls one has its clauses for a proof.
-ghost use Rattle.std.specs.Prelude.{◌≡◌, ◌≤◌, ◌∷◌, ◌++◌, ℕ, suc, Bool, List, [], None, Some, true, length, slice_get, ◌<◌, ◌+◌, ◌%◌, ◌^◌};
-ghost use Rattle.osc_model.specs.{HasBegun, IsNotOver};
+ghost use Rattle.std.specs.Prelude.{◌≡◌, ◌≤◌, ◌∷◌, ◌++◌, ℕ, suc, Bool, List, [], None, Some, true, false, length, slice_get, ◌<◌, ◌+◌, ◌%◌, ◌^◌};
+ghost use Rattle.osc_model.specs.{is_revoked, HasBegun, IsNotOver};
+ghost use Rattle.osc_server.specs.{standing_of};
 ghost use Rattle.osc_model.specs.declared.node.Draw.{Draw as AnyDraw};
 ghost use Rattle.osc_model.specs.declared.node.Moment.{Moment as AnyMoment};
 ghost use Rattle.osc_model.specs.declared.node.Peer.{Peer as AnyPeer};
 ghost use Rattle.osc_cbor.specs.{spelling};
 ghost use Rattle.osc_authz.specs.{IsLive};
+ghost use Rattle.osc_authz.specs.HoldsToken.{HoldsToken};
+ghost use Rattle.osc_model.specs.declared.algorithm.Algorithm.TheVariants.{EightByteTag};
 ghost use Rattle.osc_context.specs.{greatest_number};
 ghost use Rattle.osc_window.specs.{IsFresh};
 ghost use Rattle.osc_client.specs.State.{State as AnyClient};
@@ -140,7 +143,7 @@ pub fn an_asked_round<A: Ciphers>()
 /// straight, the world is ready for it, if the server had noted no message from there of the ID behind that of the post.
 pub fn after_an_exchange_one_may_ask()
     ensures may_ask { (old new : State) (client : ℕ) (now later : AnyMoment) (entries : List Entry) (made : HasMade old client now entries new)
-        → IsLive later made.held
+        → IsLive (standing_of new.nodes.server later) made.held
         → MayAsk made.placed.node new.nodes.server later (record { name = made.held.name; next = 0 }) made.held }
     ensures straight { (begun old new : State) (quiet : Bool) (client : ℕ) (before : AnyPlaced AnyClient) (now : AnyMoment) (draw : AnyDraw) (entries : List Entry)
         (made : HasMade old client now entries new) (next : ClientRound)
@@ -157,7 +160,7 @@ pub fn after_an_exchange_one_may_ask()
 pub fn after_an_answer_one_may_ask()
     ensures may_ask { (old new : State) (client : ℕ) (now later : AnyMoment) (request : OpenedRequest)
         (answered : HasAnswered old client now request new)
-        → IsLive later answered.after → request.number + 1 ≤ greatest_number → IsFresh request.held.window (request.number + 1)
+        → IsLive (standing_of new.nodes.server later) answered.after → request.number + 1 ≤ greatest_number → IsFresh request.held.window (request.number + 1)
         → MayAsk answered.placed.node new.nodes.server later (record { name = request.held.name; next = request.number + 1 }) answered.after }
     ensures straight { (asked old new : State) (quiet : Bool) (client : ℕ) (before : AnyPlaced AnyClient) (now : AnyMoment) (draw : AnyDraw) (request : OpenedRequest)
         (answered : HasAnswered old client now request new) (next : ClientRound)
@@ -177,15 +180,20 @@ pub fn what_is_minted<A: Ciphers>()
     ensures stays { (old new : State) (event : AnyEvent) → Happens A.is_sealing A.TAG old event new → new.minted ≡ old.minted }
 {}
 
-/// Where a world begins, what is assumed of a run holds if no two grants share a secret. A client that was enrolled may exchange: at any
-/// moment in the time of its token, if that is for the server's audience and has parts of lawful lengths. The world is ready for it where
+/// Where a world begins, what is assumed of a run holds if no two grants share a secret. A client that was enrolled holds a token of the key, and may exchange: at any
+/// moment in the time of its token, if that is for the server's audience, isn't revoked by the first resources and has parts of lawful lengths. The world is ready for it where
 /// the client reaches the server straight, or through a proxy that was added and has the server among its targets, by the host and port
 /// that the client writes.
 pub fn where_a_world_begins<A: Ciphers>()
     ensures premise { (start : Beginning) → HasOwnSecrets start.minted → Premise (begun start).minted (begun start).steps }
+    ensures holds { (before after start : Beginning) (holder : AnyHolder) (enrols : Enrols A.is_sealing before holder after)
+        → start.key ≡ before.key → HasLawfulParts holder.claims → FitAToken holder.claims
+        → length holder.iv ≡ 13 → length enrols.placed.node.desk.token < 2 ^ 64
+        → HoldsToken (A.is_sealing EightByteTag) start.key holder.claims enrols.enrolled.entries enrols.placed.node.desk }
     ensures may_exchange { (before after start : Beginning) (holder : AnyHolder) (now : AnyMoment) (enrols : Enrols A.is_sealing before holder after)
         → start.key ≡ before.key → HasLawfulParts holder.claims → FitAToken holder.claims → holder.claims.audience ≡ start.audience
         → HasBegun holder.claims.not_before now → IsNotOver holder.claims.expires now
+        → is_revoked start.revoked start.first holder.claims.material.id ≡ false
         → length holder.iv ≡ 13 → length enrols.placed.node.desk.token < 2 ^ 64
         → MayExchange A.is_sealing enrols.placed.node (begun start).nodes.server now holder.claims enrols.enrolled.entries }
     ensures straight { (before after start : Beginning) (holder : AnyHolder) (round : ClientRound) (enrols : Enrols A.is_sealing before holder after)

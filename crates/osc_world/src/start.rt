@@ -1,5 +1,5 @@
 //! Where a world begins.
-ghost use Rattle.std.specs.Prelude.{◌≡◌, ◌<◌, ◌^◌, ◌++◌, ℕ, List, [], ◌∷◌, IfErr, IfOk, OnErr, OnOk, length};
+ghost use Rattle.std.specs.Prelude.{◌≡◌, ◌<◌, ◌^◌, ◌++◌, ℕ, List, [], ◌∷◌, IfErr, IfOk, None, OnErr, OnOk, Some, length};
 ghost use Rattle.std.specs.List.{list_any};
 ghost use Rattle.std.specs.Option.{ForSome};
 ghost use Rattle.osc_cbor.specs.{spelling};
@@ -18,11 +18,11 @@ ghost use Rattle.osc_world.specs.Worlds.{run_of};
 use crate::error::{EnrollError, PlaceError};
 use crate::nodes::{Nodes, Placed};
 use crate::world::World;
-use osc_authz::{ClientDesk, ServerDesk};
+use osc_authz::{ClientDesk, DeskParts, ServerDesk};
 use osc_ccm::Ciphers;
 use osc_client::{Client, Route};
 use osc_message::laws::one_peer;
-use osc_model::{Bytes, Peer};
+use osc_model::{Bytes, Path, Peer};
 use osc_protect::TokenCipher;
 use osc_proxy::{Proxy, Targets};
 use osc_run::{Grant, Minted, kinds};
@@ -48,7 +48,7 @@ pub struct Holder {
 }
 
 /// A world before its first event: the resources, what needs no protection, the key that the issuer of tokens and the server share, for
-/// whom tokens are, where the server stands, the clients that were enrolled, and the proxies that were added. No two nodes stand at one
+/// whom tokens are, the path below which resources revoke them, where the server stands, the clients that were enrolled, and the proxies that were added. No two nodes stand at one
 /// address.
 #[derive(Drop)]
 pub struct Start {
@@ -56,6 +56,7 @@ pub struct Start {
     open_scope: Scope,
     key: [u8; 16],
     audience: Audience,
+    revoked: Option<Path>,
     server_at: Peer,
     minted: Vec<Minted>,
     clients: Vec<Placed<Client>>,
@@ -93,6 +94,7 @@ impl Model for Start {
       open_scope = s.open_scope;
       key = s.key;
       audience = s.audience;
+      revoked = s.revoked;
       server_at = s.server_at;
       minted = s.minted.items;
       clients = s.clients.items;
@@ -103,7 +105,7 @@ impl Model for Start {
 }
 
 impl Start {
-    /// A world with these resources, and with no client and no proxy yet; takes no memory.
+    /// A world with these resources, and with no revocation path, no client and no proxy yet; takes no memory.
     pub fn new(
         alloc: Global,
         first: Tree,
@@ -112,18 +114,26 @@ impl Start {
         audience: Audience,
         server_at: Peer,
     ) -> Start
-        ensures { result ≡ record { first = first; open_scope = open_scope; key = key; audience = audience; server_at = server_at; minted = []; clients = []; proxies = [] } }
+        ensures { result ≡ record { first = first; open_scope = open_scope; key = key; audience = audience; revoked = None; server_at = server_at; minted = []; clients = []; proxies = [] } }
     {
         Start {
             first,
             open_scope,
             key,
             audience,
+            revoked: None,
             server_at,
             minted: Vec::new(alloc),
             clients: Vec::new(alloc),
             proxies: Vec::new(alloc),
         }
+    }
+
+    /// From now on resources below this path revoke tokens, by the tokens' ids.
+    pub fn revoke_below(&mut self, path: Path)
+        ensures { self.new ≡ record self.old { revoked = Some path } }
+    {
+        self.revoked = Some(path);
     }
 
     /// Whether a node stands there.
@@ -213,12 +223,21 @@ impl Start {
             open_scope,
             key,
             audience,
+            revoked,
             server_at,
             minted,
             clients,
             proxies,
         } = self;
-        let desk = ServerDesk::new(alloc, key, audience);
+        let desk = ServerDesk::of(
+            alloc,
+            DeskParts {
+                key,
+                old_key: None,
+                audience,
+                revoked,
+            },
+        );
         let server = Server::new(alloc, first.copy(alloc)?, desk, open_scope)?;
         let nodes = Nodes::new(server_at, server, clients, proxies);
         Ok(World::begun(alloc, minted, first, nodes))
@@ -233,12 +252,21 @@ impl Start {
             open_scope,
             key,
             audience,
+            revoked,
             server_at,
             minted,
             clients,
             proxies,
         } = self;
-        let desk = ServerDesk::new(alloc, key, audience);
+        let desk = ServerDesk::of(
+            alloc,
+            DeskParts {
+                key,
+                old_key: None,
+                audience,
+                revoked,
+            },
+        );
         let server = Server::new(alloc, first, desk, open_scope)?;
         let nodes = Nodes::new(server_at, server, clients, proxies);
         Ok(Parts { minted, nodes })

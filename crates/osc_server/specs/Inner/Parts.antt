@@ -147,5 +147,5 @@ pub record IsReplied (is_sealing : Sealings) (old : Standing) (came : Arrival Me
 pub record IsServedAs (is_sealing : Sealings) (old : Standing) (came : Arrival Message) (request : SealedRequest) (served : Served) (new : Tree) : Type 0 where
   pub held : SecurityContext
   pub text : List ℕ
-  pub opened : IsOpened is_sealing old.desk came request held text
+  pub opened : IsOpened is_sealing (record { tree = old.tree; table = old.desk.table }) came request held text
   pub replied : IsReplied is_sealing old came (record { held = held; number = request.number; text = text }) served new

@@ -1,5 +1,5 @@
-use Rattle.std.proofs.Common.{◌≡◌, ◌∙◌, sym, ap, subst, ℕ, ◌<◌, ◌≤◌, ◌^◌, List, [], ◌∷◌, length, Result, Ok, Err, arith}
-use Rattle.osc_model.specs.{nonce_drawn, HasBegun, IsNotOver}
+use Rattle.std.proofs.Common.{◌≡◌, ◌∙◌, refl, sym, ap, inl, inr, subst, true, false, ℕ, ◌<◌, ◌≤◌, ◌^◌, List, [], ◌∷◌, length, Result, Ok, Err, arith}
+use Rattle.osc_model.specs.{nonce_drawn, is_revoked, HasBegun, IsNotOver}
 use Rattle.osc_model.specs.Scope.{Scope}
 use Rattle.osc_model.specs.declared.node.Draw.{Draw}
 use Rattle.osc_model.specs.declared.node.Moment.{Moment}
@@ -9,7 +9,8 @@ use Rattle.osc_scope.specs.{Entry, IsScope, scope_of}
 use Rattle.osc_token.specs.{ComesTo, HasLawfulParts, IsToken, algorithm_header, claims_item, token_object}
 use Rattle.osc_token.specs.declared.claims.Claims.{Claims}
 use Rattle.osc_token.specs.declared.error.TokenError.{TokenError}
-use Rattle.osc_authz.specs.{Answers, refused, full, agreed, DeskState, IsPost, post_item, IsOpened, Posts, OpenedToken, offered, IsFull, alive, IsWelcome}
+use Rattle.osc_authz.specs.{Answers, refused, revoked, full, agreed, DeskState, IsPost, post_item, IsKeyFor, IsOpened, Posts, OpenedToken, offered, IsFull, alive, IsWelcome}
+use Rattle.osc_authz.specs.Standing.{Standing}
 use Rattle.osc_authz.specs.declared.granted.ClientDesk.{ClientDesk}
 use Rattle.osc_authz.specs.declared.post.Post.{Post}
 use Rattle.osc_authz.specs.declared.post.PostAnswer.{PostAnswer}
@@ -46,8 +47,8 @@ module _ (is_sealing : List ℕ → List ℕ → List ℕ → List ℕ → List 
     → IsToken is_sealing key (spelling (object_item (token_object iv ciphertext))) protected ivs text
     → ComesTo text claims.audience now outcome
     → outcome ≡ Ok (claims, scope_of entries))
-    (before after : DeskState) (now : Moment) (draw : Draw) (post : Post) (claims : Claims) (entries : List Entry) (holder : ClientDesk) (posted : List ℕ) (id : ℕ)
-    (welcome : IsWelcome is_sealing before now claims entries holder) (size : length posted ≡ 8) where
+    (before after : DeskState) (on : Standing) (draw : Draw) (post : Post) (claims : Claims) (entries : List Entry) (holder : ClientDesk) (posted : List ℕ) (id : ℕ)
+    (welcome : IsWelcome is_sealing before on claims entries holder) (size : length posted ≡ 8) where
   abbrev body : List ℕ
   body = spelling (post_item holder.token posted (id ∷ []))
 
@@ -59,34 +60,52 @@ module _ (is_sealing : List ℕ → List ℕ → List ℕ → List ℕ → List 
       subst (λ (t : List ℕ). IsToken is_sealing before.key t algorithm_header welcome.holds.iv (spelling (claims_item claims))) (sym welcome.holds.token)
       (tokens before.key welcome.holds.iv (spelling (claims_item claims)) welcome.holds.ciphertext welcome.holds.iv_size welcome.holds.short welcome.holds.sealed)
 
-  comes_to : (nonce1 client_id : List ℕ) (token : OpenedToken) (outcome : Result (Claims × Scope) TokenError)
-      → IsOpened is_sealing before.key body nonce1 client_id token → ComesTo token.text before.audience now outcome → outcome ≡ granted claims (scope_of entries)
-  comes_to nonce1 client_id token outcome its comes =
-      let token_is : its.token ≡ spelling (object_item (token_object welcome.holds.iv welcome.holds.ciphertext)) =
-      (one body its.token nonce1 client_id holder.token posted (id ∷ []) its.is_post is_post).0 ∙ welcome.holds.token in
-      minted before.key welcome.holds.iv welcome.holds.ciphertext token.protected token.iv token.text claims entries now outcome
-      welcome.holds.iv_size welcome.holds.short welcome.holds.sealed welcome.lawful welcome.holds.is_scope welcome.begun welcome.not_over
-      (subst (λ (t : List ℕ). IsToken is_sealing before.key t token.protected token.iv token.text) token_is its.is_token)
-      (subst (λ (a : List ℕ). ComesTo token.text a now outcome) (sym welcome.audience) comes)
+  -- what the post has is the token, which opens under the desk's key
+  token_is : (key nonce1 client_id : List ℕ) (token : OpenedToken) (its : IsOpened is_sealing key body nonce1 client_id token) → holder.token ≡ its.token
+  token_is key nonce1 client_id token its = sym (one body its.token nonce1 client_id holder.token posted (id ∷ []) its.is_post is_post).0
 
-  is_agreed : Posts is_sealing before (record { at = now; body = body; draw = draw }) post after → (answer : PostAnswer) × (post.answer ≡ Ok answer) × (answer.nonce2 ≡ nonce_drawn draw)
+  own_key : (key nonce1 client_id : List ℕ) (token : OpenedToken) (its : IsOpened is_sealing key body nonce1 client_id token) → IsKeyFor is_sealing before its.token key → key ≡ before.key
+  own_key key nonce1 client_id token its (inl own) = own
+  own_key key nonce1 client_id token its (inr old) =
+      absurd (old.1 (
+        record { protected = algorithm_header; iv = welcome.holds.iv; text = spelling (claims_item claims) },
+        subst (λ (t : List ℕ). IsToken is_sealing before.key t algorithm_header welcome.holds.iv (spelling (claims_item claims))) (token_is key nonce1 client_id token its) is_token,
+      ))
+
+  comes_to : (key nonce1 client_id : List ℕ) (token : OpenedToken) (outcome : Result (Claims × Scope) TokenError)
+      → (its : IsOpened is_sealing key body nonce1 client_id token) → IsKeyFor is_sealing before its.token key → ComesTo token.text before.audience on.at outcome → outcome ≡ granted claims (scope_of entries)
+  comes_to key nonce1 client_id token outcome its its_key comes =
+      let is : its.token ≡ spelling (object_item (token_object welcome.holds.iv welcome.holds.ciphertext)) =
+      sym (token_is key nonce1 client_id token its) ∙ welcome.holds.token in
+      minted before.key welcome.holds.iv welcome.holds.ciphertext token.protected token.iv token.text claims entries on.at outcome
+      welcome.holds.iv_size welcome.holds.short welcome.holds.sealed welcome.lawful welcome.holds.is_scope welcome.begun welcome.not_over
+      (subst (λ (t : List ℕ). IsToken is_sealing before.key t token.protected token.iv token.text) is
+      (subst (λ (k : List ℕ). IsToken is_sealing k its.token token.protected token.iv token.text) (own_key key nonce1 client_id token its its_key) its.is_token))
+      (subst (λ (a : List ℕ). ComesTo token.text a on.at outcome) (sym welcome.audience) comes)
+
+  is_agreed : Posts is_sealing before (record { on = on; body = body; draw = draw }) post after → (answer : PostAnswer) × (post.answer ≡ Ok answer) × (answer.nonce2 ≡ nonce_drawn draw)
   is_agreed (Posts.no_post none is same) = absurd (none holder.token posted (id ∷ []) is_post)
   is_agreed (Posts.not_genuine token nonce1 client_id its none is same) =
-      let token_is : holder.token ≡ token = (one body holder.token posted (id ∷ []) token nonce1 client_id is_post its).0 in
-      absurd (none algorithm_header welcome.holds.iv (spelling (claims_item claims))
-      (subst (λ (t : List ℕ). IsToken is_sealing before.key t algorithm_header welcome.holds.iv (spelling (claims_item claims))) token_is is_token))
-  is_agreed (Posts.opened nonce1 client_id token answer its answers is) = by answers
+      let is : holder.token ≡ token = (one body holder.token posted (id ∷ []) token nonce1 client_id is_post its).0 in
+      absurd (none before.key (inl refl) (
+        record { protected = algorithm_header; iv = welcome.holds.iv; text = spelling (claims_item claims) },
+        subst (λ (t : List ℕ). IsToken is_sealing before.key t algorithm_header welcome.holds.iv (spelling (claims_item claims))) is is_token,
+      ))
+  is_agreed (Posts.opened key nonce1 client_id token answer its its_key answers is) = by answers
     where
-      by : Answers before (offered (record { at = now; body = body; draw = draw }) nonce1 client_id) token.text answer after → (answer : PostAnswer) × (post.answer ≡ Ok answer) × (answer.nonce2 ≡ nonce_drawn draw)
+      by : Answers before (offered (record { on = on; body = body; draw = draw }) nonce1 client_id) token.text answer after → (answer : PostAnswer) × (post.answer ≡ Ok answer) × (answer.nonce2 ≡ nonce_drawn draw)
       by (refused error comes is_err same) =
-          absurd (never error claims (scope_of entries) (comes_to nonce1 client_id token (refusal error) its comes))
-      by (full others scope comes is_full is_err same) =
-          let same_as : others ≡ claims = same_claims others claims scope (scope_of entries) (comes_to nonce1 client_id token (granted others scope) its comes) in
-          absurd (welcome.room (subst (λ (k : Claims). IsFull k.material.id (alive now before.table)) same_as is_full))
-      by (agreed others scope made comes not_full agrees answer_is) =
+          absurd (never error claims (scope_of entries) (comes_to key nonce1 client_id token (refusal error) its its_key comes))
+      by (revoked others scope comes gone is_err same) =
+          let same_as : others ≡ claims = same_claims others claims scope (scope_of entries) (comes_to key nonce1 client_id token (granted others scope) its its_key comes) in
+          let never : true ≡ false = sym gone ∙ ap (λ (k : Claims). is_revoked before.revoked on.tree k.material.id) same_as ∙ welcome.unrevoked in cc
+      by (full others scope comes un is_full is_err same) =
+          let same_as : others ≡ claims = same_claims others claims scope (scope_of entries) (comes_to key nonce1 client_id token (granted others scope) its its_key comes) in
+          absurd (welcome.room (subst (λ (k : Claims). IsFull k.material.id (alive on before.table)) same_as is_full))
+      by (agreed others scope made comes un not_full agrees answer_is) =
           (made, ap (λ (p : Post). p.answer) is ∙ answer_is, agrees.drawn)
 
 pub returns : goal.returns
-returns g c = λ before after now draw post claims entries holder posted id welcome size posts.
+returns g c = λ before after on draw post claims entries holder posted id welcome size posts.
     is_agreed g.A.Aead.is_sealing c.what_is_written.ensures.post c.one_payload.ensures.post c.minted_tokens.ensures c.what_was_minted.ensures
-    before after now draw post claims entries holder posted id welcome size posts
+    before after on draw post claims entries holder posted id welcome size posts

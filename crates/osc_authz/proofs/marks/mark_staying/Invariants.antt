@@ -7,5 +7,5 @@ use Rattle.osc_authz.proofs.marks.mark_staying.Given as goal
 abbrev pub invariant-loop-entry : goal.invariant-loop-entry
 invariant-loop-entry l =
     (byte : ℕ) → byte < 256
-    → (is_among (ids (without_pending l.token (alive l.now (drop l.entry-index l.table)))) byte || is_marked l.marks byte)
-    ≡ (is_among (ids (without_pending l.token (alive l.now l.table))) byte || is_marked l.initial.marks byte)
+    → (is_among (ids (without_pending l.token (alive l.on (drop l.entry-index l.table)))) byte || is_marked l.marks byte)
+    ≡ (is_among (ids (without_pending l.token (alive l.on l.table))) byte || is_marked l.initial.marks byte)

@@ -4,4 +4,4 @@ use Rattle.osc_authz.specs.{holds_live}
 use Rattle.osc_authz.proofs.table.keep_alive.Goals as goal
 
 pub returns-clause-items : goal.returns-clause-items
-returns-clause-items c = filter_same _ (holds_live c.args.now) _ (λ x b f r. search rules) _ _ c.retain.ensures.filtered
+returns-clause-items c = filter_same _ (holds_live c.args.on.now) _ (λ x b f r. search rules) _ _ c.retain.ensures.filtered

@@ -14,7 +14,7 @@ returns c = λ claims entries now tree lawful is_scope begins ends.
       granted = c.minted_claims.ensures claims entries now lawful is_scope begins ends;
       begins = begins;
       ends = ends;
-      is_text = minted_text c.minted_texts.ensures claims entries (grant [] text claims.audience now claims lawful scope tree) (lawful_fit claims lawful) is_scope refl refl refl refl;
+      is_text = minted_text c.minted_texts.ensures claims entries (grant [] text claims.audience now claims lawful scope tree) (lawful_fit claims lawful) is_scope refl refl refl refl refl;
       reads = refusal_read (c.a_written_reply.ensures.spelled refusal tt) (c.a_reply_is_read_again.ensures refusal (omega arith) (omega arith) tt tt);
     } in (
       after [] text claims.audience now claims lawful scope tree,

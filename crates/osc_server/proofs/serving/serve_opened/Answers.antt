@@ -12,7 +12,7 @@ pub accept-number-requires-clause-fresh : goal.accept-number-requires-clause-fre
 accept-number-requires-clause-fresh g c =
     let opened = c.requires.opened in (
       opened.0,
-      rw c.kid.ensures (is_found c.args.request.now.came.now.at c.args.request.now.says.kid c.args.request.now.says.kid_context c.args.desk.now.table opened.0 opened.1.meant.is_meant).same,
+      rw c.kid.ensures (is_found (record { at = c.args.request.now.came.now.at; tree = c.args.tree.now }) c.args.request.now.says.kid c.args.request.now.says.kid_context c.args.desk.now.table opened.0 opened.1.meant.is_meant).same,
       rw c.number.ensures.value opened.1.fresh,
     )
 
@@ -21,7 +21,7 @@ returns-clause-served g c =
     let opened = c.requires.opened in
     let held : SecurityContext = opened.0 in
     let there : with_id c.kid.result.now c.args.desk.now.table ≡ Some held =
-    rw c.kid.ensures (is_found c.args.request.now.came.now.at c.args.request.now.says.kid c.args.request.now.says.kid_context c.args.desk.now.table held opened.1.meant.is_meant).same
+    rw c.kid.ensures (is_found (record { at = c.args.request.now.came.now.at; tree = c.args.tree.now }) c.args.request.now.says.kid c.args.request.now.says.kid_context c.args.desk.now.table held opened.1.meant.is_meant).same
     in
     let again : confirmed_at c.accept-number.result.1 c.accept-number.new.self.table ≡ Some (taking c.number.result held) = rw there at c.accept-number.ensures.placed in
     let read : Some c.unwrap-context.result.now ≡ confirmed_at c.accept-number.result.1 c.accept-number.new.self.table = rw c.unwrap-context.ensures at c.confirmed_at.ensures in

@@ -21,7 +21,7 @@ returns-clause-text g c =
       holder = c.args.number;
     } in
     subst (λ text. IsTextOf grant text) (sym (c.from_vec-text.ensures ∙ c.in_ok-claims_text.ensures))
-    (c.minted_texts.ensures claims found.0 grant c.fits.ensures found.1 refl found.2 refl refl)
+    (c.minted_texts.ensures claims found.0 grant c.fits.ensures found.1 refl refl found.2 refl refl)
 
 pub returns-clause-enrolled : goal.returns-clause-enrolled
 returns-clause-enrolled g c =

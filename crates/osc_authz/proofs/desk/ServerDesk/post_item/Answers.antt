@@ -1,4 +1,4 @@
-use Rattle.std.proofs.Common.{refl, sym, ap}
+use Rattle.std.proofs.Common.{refl, sym}
 use Rattle.osc_authz.specs.{Posts}
 use Rattle.osc_authz.proofs.PayloadLemmas.{no_post, post_from_fields}
 use Rattle.osc_authz.proofs.PostLemmas.{opened_post, unopened_post}
@@ -13,16 +13,16 @@ pub returns-in_ok-answer-in-Some-2-clause-posted :
 returns-in_ok-answer-in-Some-2-clause-posted g c = λ body item.
     let fields = c.in-Some.fields in
     let is_post = post_from_fields body c.args.item.now fields.token.now fields.nonce1.now fields.client_id.now item.whole (sym c.in-Some.ensures) in
-    let found = rw c.in-Some-2.is at c.in_ok-note.ensures.opened in
-    opened_post g.A.Aead.is_sealing c.args.self.now c.answer.new.self (record { at = c.args.now; body = body; draw = c.args.draw.now })
-    fields.token.now fields.nonce1.now fields.client_id.now c.self.inside.key (ap (λ desk. desk.key) c.self.view_is) is_post
-    found.0 found.1 found.2 c.in-Some-2.note c.in_ok-answer-in-Some-2.answer found.3 found.4
+    let found = c.in_ok-note.ensures.opened c.in-Some-2.note c.in-Some-2.is in
+    opened_post g.A.Aead.is_sealing c.args.self.now c.answer.new.self (record { on = c.args.on.now; body = body; draw = c.args.draw.now })
+    fields.token.now fields.nonce1.now fields.client_id.now is_post
+    found.0 found.1 c.in-Some-2.note c.in_ok-answer-in-Some-2.answer found.2 found.3 found.4
     (rw (← c.as_slice.ensures) c.in_ok-answer-in-Some-2.ensures.answers)
 
 pub returns-in-None-clause-posted : goal.returns-in-None-clause-posted
 returns-in-None-clause-posted g c = λ body item.
     let fields = c.in-Some.fields in
     let is_post = post_from_fields body c.args.item.now fields.token.now fields.nonce1.now fields.client_id.now item.whole (sym c.in-Some.ensures) in
-    unopened_post g.A.Aead.is_sealing c.args.self.now c.args.self.now (record { at = c.args.now; body = body; draw = c.args.draw.now })
-    fields.token.now fields.nonce1.now fields.client_id.now c.self.inside.key (ap (λ desk. desk.key) c.self.view_is) is_post
-    c.refused-in-None.result c.in_ok-note.field-0 c.in_ok-note.ensures.only c.in-None.is c.refused-in-None.ensures refl
+    unopened_post g.A.Aead.is_sealing c.args.self.now c.args.self.now (record { on = c.args.on.now; body = body; draw = c.args.draw.now })
+    fields.token.now fields.nonce1.now fields.client_id.now is_post
+    c.refused-in-None.result (c.in_ok-note.ensures.none c.in-None.is) c.refused-in-None.ensures refl

@@ -35,7 +35,7 @@ returns-clause-granted g c =
       begun.enrols.enrolled.entries,
       begun.enrols.enrolled.scope,
       granted g.A.Ciphers.is_sealing (g.A.Ciphers.TAG EightByteTag) (g.met.A.Ciphers.sealed_length EightByteTag) (g.met.A.Ciphers.short_tag EightByteTag)
-          c.where_a_world_begins.ensures.may_exchange c.args.parts c.args.own _ begun lawful has c.fits.ensures.iv,
+          c.where_a_world_begins.ensures.holds c.args.parts c.args.own _ begun lawful has c.fits.ensures.iv,
     )
 
 pub returns-then-not-post_fits-clause-refused : goal.returns-then-not-post_fits-clause-refused

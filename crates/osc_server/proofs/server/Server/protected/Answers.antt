@@ -48,7 +48,7 @@ returns-in-Ok-Ok-clause-answered g c =
 pub returns-in-Ok-Err-clause-answered : goal.returns-in-Ok-Err-clause-answered
 returns-in-Ok-Err-clause-answered g c =
     let same : (c.serve.new.desk ≡ c.self.inside.desk) × (c.serve.new.tree ≡ c.self.inside.tree) = rw c.in-Ok-Err.field-0-is at c.in-Ok-Err.ensures.same in
-    let why : IsRefused g.A.Ciphers.is_sealing c.self.inside.desk c.args.came c.in-Ok-Err.refusal = rw c.in-Ok-Err.field-0-is at c.in-Ok-Err.ensures.refused in
+    let why : IsRefused g.A.Ciphers.is_sealing (record { tree = c.self.inside.tree; table = c.self.inside.desk.table }) c.args.came c.in-Ok-Err.refusal = rw c.in-Ok-Err.field-0-is at c.in-Ok-Err.ensures.refused in
     let sends = rw (same.0, same.1) at c.complain-in-Ok-Err.ensures.sends in
     subst (λ old. IfOk c.complain-in-Ok-Err.result (λ step. AnswersProtected g.A.Ciphers.is_sealing old c.args.came step c.complain-in-Ok-Err.new.self)) c.self.view_is
     (IfOk-weaker c.complain-in-Ok-Err.result _ _ (λ step it. refused c.in-Ok-Err.refusal why it) sends)
