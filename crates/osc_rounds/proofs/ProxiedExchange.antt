@@ -24,7 +24,7 @@ use Rattle.osc_client.specs.Sending as sending
 use Rattle.osc_client.specs.State.{State as Client}
 use Rattle.osc_client.specs.declared.waiting.Awaited.TheVariants.{Exchange}
 use Rattle.osc_proxy.specs.{answer as sent_back, forwarded, IsCarried}
-use Rattle.osc_server.specs.{Hears as ServerHears, notes_of_post}
+use Rattle.osc_server.specs.{standing_of, Hears as ServerHears, notes_of_post}
 use Rattle.osc_server.specs.State.{State as Server}
 use Rattle.osc_rounds.specs.{AwaitsAgreement, AwaitsPost, BegunExchange, IsAgreedTo, agreement, body_of, coming, in_bytes, IsHeld, IsForProxy, IsAgreedAndMadeThrough, IsBegunAndMadeThrough, IsMadeThrough, IsPostedThrough, MayExchangeThrough, Posted, at_server, claims_text, AreNotesOfAgreement}
 use Rattle.osc_rounds.specs.ProxiedExchange.{ProxiedExchange}
@@ -239,7 +239,7 @@ module _ (is_sealing : Sealings) (laws : ExchangeLaws is_sealing) (tokens : Toke
 
         post_noted : AreNotesOfAgreement server.desk.key (claims_text exchange.claims) server_draw (notes_of_post is.post)
         post_noted =
-            post_notes is_sealing tokens server.desk agreed.desk now server_draw is.post exchange.claims exchange.entries client.desk its.nonce1 its.recipient_id may.welcome
+            post_notes is_sealing tokens server.desk agreed.desk (standing_of server now) server_draw is.post exchange.claims exchange.entries client.desk its.nonce1 its.recipient_id may.welcome
             (nonce_size draw may.draw_size) is.posts
 
         made : IsAgreedAndMadeThrough is_sealing exchange sent came second agreed

@@ -99,6 +99,13 @@ one_more_unrevoked grants revoked first [] entry all it = (it, tt)
 one_more_unrevoked grants revoked first (e ∷ entries) entry all it =
     (all.0, one_more_unrevoked grants revoked (tree_after read_request grants first e) entries entry all.1 it)
 
+-- and each entry did so, on the tree that those before it left
+pub each_unrevoked : (grants : List Grant) (revoked : Option (List ℕ)) (first : Tree) (before after : List Entry) (entry : Entry)
+    → AreUnrevoked grants revoked first (before ++ entry ∷ after) → IsUnrevoked grants revoked (effect read_request grants first before) entry
+each_unrevoked grants revoked first [] after entry all = all.0
+each_unrevoked grants revoked first (e ∷ before) after entry all =
+    each_unrevoked grants revoked (tree_after read_request grants first e) before after entry all.1
+
 -- what a request is served under a context that has a grant's rights
 module _ (laws : Laws) (minted : List Minted) (first : Tree) (notes : List Noted) (old new : ServerState) (now : Moment) (s : Noted) (p : IsServed old now s.notes new) where
   abbrev its : Entry

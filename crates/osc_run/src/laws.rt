@@ -1,11 +1,12 @@
 //! Laws of the definitions, for the crates above. These functions do nothing: whoever calls one has its clauses for a proof.
 
-ghost use Rattle.std.specs.Prelude.{◌≡◌, ◌≤◌, ◌<◌, ℕ, List, length};
-ghost use Rattle.osc_model.specs.{apply_read, HasBegun, IsNotOver, HaveOwnPaths, IsIsolated};
+ghost use Rattle.std.specs.Prelude.{◌≡◌, ◌≤◌, ◌<◌, ◌∷◌, ◌++◌, ℕ, List, length};
+ghost use Rattle.osc_model.specs.{apply_read, effect, HasBegun, IsNotOver, HaveOwnPaths, IsIsolated};
 ghost use Rattle.osc_model.specs.Scope.{Scope};
 ghost use Rattle.osc_model.specs.Tree.{Tree};
 ghost use Rattle.osc_model.specs.declared.node.Moment.{Moment as AnyMoment};
 ghost use Rattle.osc_model.specs.declared.reply.Reply.{Reply as AnyReply};
+ghost use Rattle.osc_model.specs.declared.step.Entry.{Entry as AnyEntry};
 ghost use Rattle.osc_scope.specs.{Entry, IsScope};
 ghost use Rattle.osc_token.specs.{HasLawfulParts};
 ghost use Rattle.osc_token.specs.declared.claims.Claims.{Claims as AnyClaims};
@@ -15,7 +16,7 @@ ghost use Rattle.osc_options.specs.{read_request};
 ghost use Rattle.osc_run.specs.Runs.{IsReached};
 ghost use Rattle.osc_run.specs.Premise.{Premise, HasFreshDraws};
 ghost use Rattle.osc_run.specs.History.{history, acceptances};
-ghost use Rattle.osc_run.specs.OneHistory.{OneHistory};
+ghost use Rattle.osc_run.specs.OneHistory.{IsUnrevoked, OneHistory};
 ghost use Rattle.osc_run.specs.OwnNonces.{HasOwnNonces};
 
 use osc_coap::laws::one_plaintext;
@@ -43,6 +44,17 @@ pub fn one_history()
     nonces_of_a_salt();
     fresh_after();
     aad_tells_the_number();
+}
+
+/// In each of these runs nothing is served under a revoked token: after the entry that revokes a token, and before one that lets it in again,
+/// no entry is of its grant, whatever is sent, by whom and in which order, over all restarts. Each entry comes on the resources that the entries
+/// before it left.
+pub fn none_revoked()
+    ensures { (w : WorldState) → IsReached w → Premise w.minted w.notes → (before after : List AnyEntry) (entry : AnyEntry)
+        → history w.notes ≡ before ++ entry ∷ after
+        → IsUnrevoked (grants_of w.minted) w.server.revoked (effect read_request (grants_of w.minted) w.first before) entry }
+{
+    one_history();
 }
 
 /// In each of these runs in which no two grants name a common path, each client's entries are answered as if they alone followed

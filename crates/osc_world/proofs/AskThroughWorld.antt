@@ -20,6 +20,7 @@ use Rattle.osc_authz.specs.{ClientContextState, taking}
 use Rattle.osc_authz.specs.SecurityContext.{SecurityContext}
 use Rattle.osc_run.specs.{request_note, history, Noted, by_client, by_proxy, by_server, Replies as AppliesTo}
 use Rattle.osc_options.specs.{read_request}
+use Rattle.osc_server.specs.{standing_of}
 use Rattle.osc_server.specs.State.{State as Server}
 use Rattle.osc_client.specs.{IsLawfulClient, Asked, Asks}
 use Rattle.osc_client.specs.State.{State as Client}
@@ -353,7 +354,7 @@ module _ (is_sealing : Sealings) (tag : Tags) where
     still_held : HoldsStill new.nodes.server held context.next (taking context.next held)
     still_held =
         subst (λ (s : Server). HoldsStill s held context.next (taking context.next held)) (sym server_is)
-        (holds_still takes_numbers now old.nodes.server round.server_3 held context.next lawful_server.table begins.may.here served.kept)
+        (holds_still takes_numbers (standing_of old.nodes.server now) old.nodes.server round.server_3 held context.next lawful_server.table begins.may.here served.kept)
 
     same_way : (before : Placed Client) → slice_get old.nodes.clients number ≡ Some before → GoesTheSameWay before last
     same_way before stood =

@@ -21,7 +21,7 @@ use Rattle.osc_authz.specs.declared.token_entry.TokenEntry.{TokenEntry}
 use Rattle.osc_run.specs.{request_note, history, Noted, by_client, by_server, Replies as AppliesTo, Minted}
 use Rattle.osc_run.specs.Premise.{Premise}
 use Rattle.osc_options.specs.{read_request}
-use Rattle.osc_server.specs.{Hears as ServerHears}
+use Rattle.osc_server.specs.{standing_of, Hears as ServerHears}
 use Rattle.osc_server.specs.State.{State as Server}
 use Rattle.osc_client.specs.{IsLawfulClient, Asked, Asks}
 use Rattle.osc_client.specs.State.{State as Client}
@@ -169,7 +169,7 @@ module _ (is_sealing : Sealings) (tag : Tags) where
     still_held : HoldsStill new.nodes.server held context.next (taking context.next held)
     still_held =
         subst (λ (s : Server). HoldsStill s held context.next (taking context.next held)) (sym server_is)
-        (holds_still takes_numbers now old.nodes.server round.server held context.next lawful_server.table it.may.here served.kept)
+        (holds_still takes_numbers (standing_of old.nodes.server now) old.nodes.server round.server held context.next lawful_server.table it.may.here served.kept)
 
     same_way : (before : Placed Client) → slice_get old.nodes.clients number ≡ Some before → GoesTheSameWay before last
     same_way before stood =

@@ -3,7 +3,7 @@ use Rattle.std.proofs.Common.{◌≡◌, sym, ap, subst, refl, ℕ, ◌+◌, ◌
 use Rattle.std.specs.Prelude.{◌≢◌, nat_lt}
 use Rattle.std.specs.List.{All}
 use Rattle.std.proofs.lemmas.List.Elements.{All-cons, All-filter, All-head, All-tail}
-use Rattle.osc_model.specs.declared.node.Moment.{Moment}
+use Rattle.osc_authz.specs.Standing.{Standing}
 use Rattle.osc_window.specs.{IsFresh, is_near, put, width, with_accepted}
 use Rattle.osc_authz.specs.{HasTaken, OfToken, confirmed_by, of_token, of_tokens, DeskState, In, IsTable, accepted, contexts, listed, taking}
 use Rattle.osc_authz.specs.SecurityContext.{SecurityContext}
@@ -86,12 +86,12 @@ without_token (entry ∷ table) c here =
         (its (in_either c (of_token entry.id true entry.confirmed) (of_token entry.id false entry.pending) m))
     by (inr m) rest = in_back c.held (listed entry.confirmed ++ listed entry.pending) (contexts table) (rest m)
 
-still_here : TakesNumbers → (now : Moment) (table : List TokenEntry) (held : SecurityContext) (number : ℕ) → IsTable table → In held (contexts table)
+still_here : TakesNumbers → (on : Standing) (table : List TokenEntry) (held : SecurityContext) (number : ℕ) → IsTable table → In held (contexts table)
     → In (taking number held) (contexts (accepted held.name.client_id number table))
-still_here law now table held number is here =
+still_here law on table held number is here =
     let it : IsOf held (of_tokens table) = with_token table held here in
     subst (λ (h : SecurityContext). In (taking number h) (contexts (accepted h.name.client_id number table))) it.2
-    (without_token (accepted it.0.held.name.client_id number table) (confirmed_by number it.0) (law now number it.0 table is it.1).here)
+    (without_token (accepted it.0.held.name.client_id number table) (confirmed_by number it.0) (law on number it.0 table is it.1).here)
 
 -- ---- its window
 
@@ -111,13 +111,14 @@ fresh_still window number later above fresh =
 
 -- ---- both
 
-pub holds_still : TakesNumbers → (now : Moment) (old new : Server) (held : SecurityContext) (number : ℕ) → IsTable old.desk.table → In held (contexts old.desk.table)
+pub holds_still : TakesNumbers → (on : Standing) (old new : Server) (held : SecurityContext) (number : ℕ) → IsTable old.desk.table → In held (contexts old.desk.table)
     → new.desk ≡ record old.desk { table = accepted held.name.client_id number old.desk.table } → HoldsStill new held number (taking number held)
-holds_still law now old new held number is here kept = record {
-  here = subst (λ (d : DeskState). In (taking number held) (contexts d.table)) (sym kept) (still_here law now old.desk.table held number is here);
+holds_still law on old new held number is here kept = record {
+  here = subst (λ (d : DeskState). In (taking number held) (contexts d.table)) (sym kept) (still_here law on old.desk.table held number is here);
   name = refl;
   scope = refl;
   not_before = refl;
   expires = refl;
+  revocation = refl;
   fresh = λ later above fresh. fresh_still held.window number later above fresh;
 }

@@ -135,6 +135,7 @@ pub record HoldsStill (server : Server) (held : SecurityContext) (number : ℕ) 
   pub scope : after.scope ≡ held.scope
   pub not_before : after.not_before ≡ held.not_before
   pub expires : after.expires ≡ held.expires
+  pub revocation : after.revocation ≡ held.revocation
   pub fresh : (later : ℕ) → number < later → IsFresh held.window later → IsFresh after.window later
 
 -- The client asked, the server served it as one entry, under this context and number, and the client took the answer: the entry's

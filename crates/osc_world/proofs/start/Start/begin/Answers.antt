@@ -11,7 +11,7 @@ begun-requires-clause-start c =
     (ap (λ (n : NodeStates). n.clients) c.new-nodes.ensures)
     (ap (λ (n : NodeStates). n.server.tree) c.new-nodes.ensures ∙ ap (λ (s : Server). s.tree) c.in_ok-server.ensures ∙ c.in_ok-copy.ensures)
     (ap (λ (n : NodeStates). n.server.desk.table) c.new-nodes.ensures ∙ ap (λ (s : Server). s.desk.table) c.in_ok-server.ensures
-    ∙ ap (λ (d : DeskState). d.table) c.new-desk.ensures)
+    ∙ ap (λ (d : DeskState). d.table) c.of-desk.ensures)
 
 pub begun-requires-clause-apart : goal.begun-requires-clause-apart
 begun-requires-clause-apart c = subst StandApart (sym c.new-nodes.ensures) c.self.invariant.1
