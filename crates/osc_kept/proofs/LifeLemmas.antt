@@ -1,5 +1,5 @@
 -- The lives of a server are one run.
-use Rattle.std.proofs.Common.{◌≡◌, ◌⊎◌, List, [], ◌∷◌, ◌++◌, inl, inr, refl, ap}
+use Rattle.std.proofs.Common.{◌≡◌, ◌⊎◌, List, [], ◌∷◌, ◌++◌, inl, inr, refl, sym, ap}
 use Rattle.osc_model.specs.{quiet}
 use Rattle.osc_model.specs.StepNotes.{StepNotes}
 use Rattle.osc_model.specs.declared.node.Moment.{Moment}
@@ -38,10 +38,11 @@ reached_over v w cut _ (Notes.unheard none before) is reached = (
   ),
 )
 reached_over v w cut _ (Notes.counted after) is reached =
-    let between : WorldState = record v { server = cut.new; notes = by_server cut.step.notes ∷ v.notes } in (
+    let between : WorldState = record v { server = cut.new; notes = by_server cut.step.notes ∷ v.notes } in
+    let stays : v.server.revoked ≡ cut.new.revoked = sym (revoked_stays v.server cut.new cut.now cut.step.notes cut.kind) in (
       between ∷ (v ∷ reached.0),
       (
-        OfServer cut.now _ quiet (ServerRestarted (record { noted = refl; is = λ i. record { contexts = []; tree = after i; revoked = revoked_stays v.server cut.new cut.now cut.step.notes cut.kind (~ i) } })) is,
+        OfServer cut.now _ quiet (ServerRestarted (record { noted = refl; is = λ i. record { contexts = []; tree = after i; revoked = stays i } })) is,
         (OfServer cut.now cut.new cut.step.notes cut.kind refl, reached.1),
       ),
     )
