@@ -10,7 +10,7 @@ use Rattle.osc_token.specs.{most_claims, claims_item}
 use Rattle.osc_token.specs.declared.claims.Claims.{Claims}
 use Rattle.osc_script.specs.declared.client_name.ClientName.{ClientName}
 use Rattle.osc_script.specs.declared.line.Line.{Line}
-use Rattle.osc_script.specs.declared.line.Line.TheVariants.{Skipped, Put, Open, Grant, Proxy, Via, At, Draw, Drop, Skip, Exchange, Ask, Tick, Restart, Deliver, Alter, Graft, Inject, Lie, Quiet}
+use Rattle.osc_script.specs.declared.line.Line.TheVariants.{Skipped, Put, Open, Revoked, Grant, Proxy, Via, At, Draw, Drop, Skip, Exchange, Ask, Tick, Restart, Deliver, Alter, Graft, Inject, Lie, Quiet}
 use Rattle.osc_script.specs.{claims_of, client_name, SpellsNumber, SpellsScope, SpellsDate, SpellsAlgorithm, Say}
 use Rattle.osc_script.specs.Inner.Reading.{◌>>=◌, number_in, date_in, one_date, dates_in, algorithm_in, client_in}
 use Rattle.osc_script.proofs.AlgorithmWords.{algorithm_found, algorithm_last}
@@ -162,6 +162,7 @@ pub grant_only : (args : List (List ℕ)) (line : Line) → Say (codes "grant" �
 grant_only args Skipped s = absurd s
 grant_only args (Put path resource) s = absurd (differ (codes "grant") (codes "put") refl (head_is _ _ _ _ s.2))
 grant_only args (Open path) s = absurd (differ (codes "grant") (codes "open") refl (head_is _ _ _ _ s.0))
+grant_only args (Revoked path) s = absurd (differ (codes "grant") (codes "revoked") refl (head_is _ _ _ _ s.0))
 grant_only args (Grant client scope not_before expires alg) s = record {
   client = client;
   name = client_name client;

@@ -1,15 +1,15 @@
 -- What is read from the words of a line, they say, and what they say is read.
-use Rattle.std.proofs.Common.{◌≡◌, ℕ, ◌<◌, ◌^◌, Bool, true, false, List, [], ◌∷◌, Option, Some, None, codes, nat_lt, inl, inr, refl, sym, ap, subst, ◌∙◌, ltb-true, lt-ltb}
+use Rattle.std.proofs.Common.{◌≡◌, ℕ, ◌<◌, ◌^◌, Bool, true, false, List, [], ◌∷◌, Option, Some, None, codes, length, leb-true, nat_le, nat_lt, inl, inr, refl, sym, ap, subst, ◌∙◌, ltb-true, lt-ltb}
 use Rattle.std.specs.Prelude.{IfSome, IsSome, ◌↔◌}
 use Rattle.std.proofs.Props.{props}
 use Rattle.std.proofs.lemmas.Bool.{cases_Bool}
-use Rattle.osc_model.specs.{IsPath, longest_payload}
+use Rattle.osc_model.specs.{segments_of, IsPath, longest_payload}
 use Rattle.osc_model.specs.declared.node.Moment.{Moment}
 use Rattle.osc_script.specs.declared.line.Line.{Line}
-use Rattle.osc_script.specs.declared.line.Line.TheVariants.{Put, Open, Proxy, Via, At, Draw, Drop, Skip, Exchange, Ask, Tick, Restart, Deliver, Graft, Inject, Lie}
-use Rattle.osc_script.specs.{client_name, name_of, SpellsNumber, Say}
-use Rattle.osc_script.specs.Inner.Reading.{◌>>=◌, number_in, request_number_in, format_in, client_in, node_in, worker_in, kept_in, short_bytes_in, nonce_in, changes_in, some_changes, request_in, moment_if, moment_in, put_in, at_in, draw_in, exchange_in, skip_in, ask_in, lie_in, deliver_in, drop_in, alter_in, graft_in, tick_in, restart_in, inject_in, proxy_in, proxy_line_in, via_in, HasPath}
-use Rattle.osc_script.proofs.Found.{step_found}
+use Rattle.osc_script.specs.declared.line.Line.TheVariants.{Put, Open, Revoked, Proxy, Via, At, Draw, Drop, Skip, Exchange, Ask, Tick, Restart, Deliver, Graft, Inject, Lie}
+use Rattle.osc_script.specs.{client_name, most_revocation_segments, name_of, SpellsNumber, Say}
+use Rattle.osc_script.specs.Inner.Reading.{◌>>=◌, number_in, request_number_in, format_in, client_in, node_in, worker_in, kept_in, short_bytes_in, nonce_in, changes_in, some_changes, request_in, moment_if, moment_in, put_in, at_in, draw_in, exchange_in, skip_in, ask_in, lie_in, deliver_in, drop_in, alter_in, graft_in, tick_in, restart_in, inject_in, revoked_in, proxy_in, proxy_line_in, via_in, HasPath}
+use Rattle.osc_script.proofs.Found.{step_found, test_held}
 use Rattle.osc_script.proofs.Numbers.{number_found, format_found, request_number_found}
 use Rattle.osc_script.proofs.Payloads.{bytes_found, kept_found, nonce_found, short_found}
 use Rattle.osc_script.proofs.Nodes.{client_found, node_found, proxy_found, worker_found}
@@ -69,6 +69,14 @@ open_found path line e has =
     let is_open : Open path ≡ line = line_is (Open path) line e in
     let is_path : IsPath path = subst HasPath (sym is_open) has in
     subst (Say (codes "open" ∷ path ∷ [])) is_open (refl, is_path)
+
+pub revoked_found : (path : List ℕ) (line : Line) → revoked_in path ≡ Some line → HasPath line → Say (codes "revoked" ∷ path ∷ []) line
+unfolding revoked_in
+revoked_found path line e has =
+    let t = test_held (nat_le (length (segments_of path)) most_revocation_segments) (Some (Revoked path)) line e in
+    let is_revoked : Revoked path ≡ line = line_is (Revoked path) line t.1 in
+    let is_path : IsPath path = subst HasPath (sym is_revoked) has in
+    subst (Say (codes "revoked" ∷ path ∷ [])) is_revoked (refl, is_path, leb-true (length (segments_of path)) most_revocation_segments t.0)
 
 pub proxy_line_found : (proxy : List ℕ) (line : Line) → proxy_line_in proxy ≡ Some line → Say (codes "proxy" ∷ proxy ∷ []) line
 unfolding proxy_line_in

@@ -8,7 +8,7 @@ use Rattle.osc_script.specs.declared.client_name.ClientName.{ClientName}
 use Rattle.osc_script.specs.declared.line.Line.{Line}
 use Rattle.osc_script.specs.declared.place.Place.{Place}
 use Rattle.osc_script.specs.declared.proxy_name.ProxyName.{ProxyName}
-use Rattle.osc_script.specs.{grants, is_event, is_put, makes, moment_after, moment_behind, routes}
+use Rattle.osc_script.specs.{grants, is_event, is_put, is_revocation, makes, moment_after, moment_behind, routes}
 use Rattle.osc_script.specs.Inner.Place.{IsPlace}
 
 or_false : (b : Bool) → (b || false) ≡ b
@@ -31,14 +31,16 @@ moment_more moment (l ∷ above) line = moment_more (moment_behind moment l) abo
 
 pub place_more : (above : List Line) (line : Line) (place next : Place) → IsPlace above place
     → next.has_event ≡ (place.has_event || is_event line) → next.moment.ms ≡ moment_behind place.moment.ms line → next.puts ≡ place.puts + cond (is_put line) 1 0
+    → next.has_revoked ≡ (place.has_revoked || is_revocation line)
     → ((client : ClientName) → slice_index_or next.granted client.digit false ≡ (slice_index_or place.granted client.digit false || grants client line))
     → ((proxy : ProxyName) → slice_index_or next.made proxy.digit false ≡ (slice_index_or place.made proxy.digit false || makes proxy line))
     → ((client : ClientName) → slice_index_or next.routed client.digit false ≡ (slice_index_or place.routed client.digit false || routes client line))
     → IsPlace (above ++ line ∷ []) next
-place_more above line place next is event moment puts granted made routed = record {
+place_more above line place next is event moment puts revoked granted made routed = record {
   event = event ∙ (ap (λ b. b || is_event line) is.event ∙ sym (any_more is_event above line));
   moment = moment ∙ (ap (λ m. moment_behind m line) is.moment ∙ sym (moment_more 0 above line));
   puts = puts ∙ (ap (λ n. n + cond (is_put line) 1 0) is.puts ∙ sym (puts_more above line));
+  revoked = revoked ∙ (ap (λ b. b || is_revocation line) is.revoked ∙ sym (any_more is_revocation above line));
   granted = λ client. granted client ∙ (ap (λ b. b || grants client line) (is.granted client) ∙ sym (any_more (grants client) above line));
   made = λ proxy. made proxy ∙ (ap (λ b. b || makes proxy line) (is.made proxy) ∙ sym (any_more (makes proxy) above line));
   routed = λ client. routed client ∙ (ap (λ b. b || routes client line) (is.routed client) ∙ sym (any_more (routes client) above line));

@@ -1,12 +1,12 @@
 -- What the words of a line say is what is read from them, kind by kind.
-use Rattle.std.proofs.Common.{◌≡◌, ℕ, ◌≤◌, true, false, List, [], ◌∷◌, length, get_or, map, drop, Option, Some, None, codes, Bor, inl, inr, refl, sym, ap, subst, ◌∙◌, arith, bytes_eq, IsUtf8}
+use Rattle.std.proofs.Common.{◌≡◌, ℕ, ◌≤◌, true, false, List, [], ◌∷◌, length, get_or, map, drop, Option, Some, None, codes, Bor, inl, inr, refl, sym, ap, subst, ◌∙◌, arith, bytes_eq, le-leb, IsUtf8}
 use Rattle.std.proofs.lemmas.Bool.{cases_Bool}
 use Rattle.std.proofs.lemmas.Slice.Eq.{bytes_eq-Decides}
-use Rattle.osc_model.specs.{longest_payload}
+use Rattle.osc_model.specs.{longest_payload, segments_of}
 use Rattle.osc_script.specs.declared.line.Line.{Line}
-use Rattle.osc_script.specs.declared.line.Line.TheVariants.{Skipped, Put, Open, Grant, Proxy, Via, At, Draw, Drop, Skip, Exchange, Ask, Tick, Restart, Deliver, Alter, Graft, Inject, Lie, Quiet}
-use Rattle.osc_script.specs.{Reads, words_of, IsSkipped, Say, Says}
-use Rattle.osc_script.specs.Inner.Reading.{with_none, with_one, with_two, with_three, with_more, with_two_more, put_in, at_in, draw_in, exchange_in, skip_in, ask_in, lie_in, deliver_in, drop_in, alter_in, graft_in, tick_in, restart_in, inject_in, proxy_line_in, via_in, node_line_in, datagram_line_in, client_line_in, timed_line_in, line_in, HasPath, Gives}
+use Rattle.osc_script.specs.declared.line.Line.TheVariants.{Skipped, Put, Open, Revoked, Grant, Proxy, Via, At, Draw, Drop, Skip, Exchange, Ask, Tick, Restart, Deliver, Alter, Graft, Inject, Lie, Quiet}
+use Rattle.osc_script.specs.{Reads, most_revocation_segments, words_of, IsSkipped, Say, Says}
+use Rattle.osc_script.specs.Inner.Reading.{with_none, with_one, with_two, with_three, with_more, with_two_more, put_in, revoked_in, at_in, draw_in, exchange_in, skip_in, ask_in, lie_in, deliver_in, drop_in, alter_in, graft_in, tick_in, restart_in, inject_in, proxy_line_in, via_in, node_line_in, datagram_line_in, client_line_in, timed_line_in, line_in, HasPath, Gives}
 use Rattle.osc_script.proofs.Found.{chosen, test_held}
 use Rattle.osc_script.proofs.Numbers.{number_again, format_again, request_number_again}
 use Rattle.osc_script.proofs.Payloads.{bytes_again, kept_again, nonce_again, short_again}
@@ -14,7 +14,7 @@ use Rattle.osc_script.proofs.Nodes.{client_again, node_again, proxy_again, worke
 use Rattle.osc_script.proofs.Requests.{request_again}
 use Rattle.osc_script.proofs.ChangeWords.{changes_again, some_again}
 use Rattle.osc_script.proofs.GrantWords.{one_grant}
-use Rattle.osc_script.proofs.Lines.{line_is, moment_again, put_found, open_found, proxy_line_found, via_found, at_found, draw_found, exchange_found, skip_found, ask_found, lie_found, deliver_found, drop_found, alter_found, graft_found, tick_found, restart_found, inject_found}
+use Rattle.osc_script.proofs.Lines.{line_is, moment_again, put_found, open_found, revoked_found, proxy_line_found, via_found, at_found, draw_found, exchange_found, skip_found, ask_found, lie_found, deliver_found, drop_found, alter_found, graft_found, tick_found, restart_found, inject_found}
 
 -- ---- arguments
 
@@ -161,15 +161,20 @@ line_said verb args line e has =
         | inl open_ ↦
             let a = one_found (λ path. Some (Open path)) args line open_.1 in
             rw (same_verb verb (codes "open") open_.0, a.1) (open_found a.0 line a.2 has)
-        | inr other ↦ elim (chosen (bytes_eq verb (codes "proxy")) _ _ _ other.1) [
-          | inl proxy ↦
-              let a = one_found proxy_line_in args line proxy.1 in
-              rw (same_verb verb (codes "proxy") proxy.0, a.1) (proxy_line_found a.0 line a.2)
-          | inr other ↦ elim (chosen (bytes_eq verb (codes "via")) _ _ _ other.1) [
-            | inl via ↦
-                let a = two_found via_in args line via.1 in
-                rw (same_verb verb (codes "via") via.0, a.2) (via_found a.0 a.1 line a.3)
-            | inr other ↦ timed_said verb args line other.1 has
+        | inr other ↦ elim (chosen (bytes_eq verb (codes "revoked")) _ _ _ other.1) [
+          | inl revoked ↦
+              let a = one_found revoked_in args line revoked.1 in
+              rw (same_verb verb (codes "revoked") revoked.0, a.1) (revoked_found a.0 line a.2 has)
+          | inr other ↦ elim (chosen (bytes_eq verb (codes "proxy")) _ _ _ other.1) [
+            | inl proxy ↦
+                let a = one_found proxy_line_in args line proxy.1 in
+                rw (same_verb verb (codes "proxy") proxy.0, a.1) (proxy_line_found a.0 line a.2)
+            | inr other ↦ elim (chosen (bytes_eq verb (codes "via")) _ _ _ other.1) [
+              | inl via ↦
+                  let a = two_found via_in args line via.1 in
+                  rw (same_verb verb (codes "via") via.0, a.2) (via_found a.0 a.1 line a.3)
+              | inr other ↦ timed_said verb args line other.1 has
+            ]
           ]
         ]
       ]
@@ -190,12 +195,13 @@ IsPlain (Grant client scope not_before expires alg) = ⊥
 IsPlain line = Unit {0}
 
 pub say_again : (words : List (List ℕ)) (line : Line) → IsPlain line → Say words line → (read_of words ≡ Some line) × HasPath line
-unfolding line_in timed_line_in client_line_in datagram_line_in node_line_in proxy_line_in via_in put_in at_in draw_in exchange_in skip_in ask_in lie_in deliver_in drop_in alter_in graft_in tick_in restart_in inject_in
+unfolding line_in timed_line_in client_line_in datagram_line_in node_line_in proxy_line_in via_in put_in revoked_in at_in draw_in exchange_in skip_in ask_in lie_in deliver_in drop_in alter_in graft_in tick_in restart_in inject_in
 say_again words Skipped p s = absurd s
 say_again words (Put path resource) p s =
     let short = short_again longest_payload s.1 resource.payload (bytes_again s.1 resource.payload s.5) s.6 in
     (ap read_of s.2 ∙ rw (format_again s.0 resource.format s.4, short) refl, s.3)
 say_again words (Open path) p s = (ap read_of s.0, s.1)
+say_again words (Revoked path) p s = (ap read_of s.0 ∙ rw (le-leb (length (segments_of path)) most_revocation_segments s.2) refl, s.1)
 say_again words (Grant client scope not_before expires alg) p s = absurd p
 say_again words (Proxy proxy) p s = (ap read_of s ∙ rw (proxy_again proxy) refl, tt)
 say_again words (Via client proxy) p s = (ap read_of s ∙ rw (client_again client, proxy_again proxy) refl, tt)
@@ -220,9 +226,9 @@ say_again words Quiet p s = (ap read_of s, tt)
 
 -- ---- words that begin no line of a kind
 
-pub no_plain_verb : (verb : List ℕ) (args : List (List ℕ)) → (verb ≡ codes "put" → ⊥) → (verb ≡ codes "open" → ⊥) → (verb ≡ codes "proxy" → ⊥) → (verb ≡ codes "via" → ⊥) → line_in verb args ≡ timed_line_in verb args
+pub no_plain_verb : (verb : List ℕ) (args : List (List ℕ)) → (verb ≡ codes "put" → ⊥) → (verb ≡ codes "open" → ⊥) → (verb ≡ codes "revoked" → ⊥) → (verb ≡ codes "proxy" → ⊥) → (verb ≡ codes "via" → ⊥) → line_in verb args ≡ timed_line_in verb args
 unfolding line_in
-no_plain_verb verb args p o x v = rw (other_verb verb (codes "put") p, other_verb verb (codes "open") o, other_verb verb (codes "proxy") x, other_verb verb (codes "via") v) refl
+no_plain_verb verb args p o r x v = rw (other_verb verb (codes "put") p, other_verb verb (codes "open") o, other_verb verb (codes "revoked") r, other_verb verb (codes "proxy") x, other_verb verb (codes "via") v) refl
 
 pub no_timed_verb : (verb : List ℕ) (args : List (List ℕ)) → (verb ≡ codes "at" → ⊥) → (verb ≡ codes "draw" → ⊥) → timed_line_in verb args ≡ client_line_in verb args
 unfolding timed_line_in
@@ -267,6 +273,7 @@ pub plain : (verb : List ℕ) (args : List (List ℕ)) → (verb ≡ codes "gran
 plain verb args other Skipped s = tt
 plain verb args other (Put path resource) s = tt
 plain verb args other (Open path) s = tt
+plain verb args other (Revoked path) s = tt
 plain verb args other (Grant client scope not_before expires alg) s = other (verb_is verb (codes "grant") args _ s.4)
   where
     verb_is : (x y : List ℕ) (xs ys : List (List ℕ)) → x ∷ xs ≡ y ∷ ys → x ≡ y
@@ -296,6 +303,7 @@ no_words line s = let read = say_again [] line (no_grant line s) s in let no : N
     no_grant Skipped s = tt
     no_grant (Put path resource) s = tt
     no_grant (Open path) s = tt
+    no_grant (Revoked path) s = tt
     no_grant (Grant client scope not_before expires alg) s = let no : [] ≡ codes "grant" ∷ _ = s.4 in absurd cc
     no_grant (Proxy proxy) s = tt
     no_grant (Via client proxy) s = tt

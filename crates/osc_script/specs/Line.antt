@@ -2,7 +2,7 @@
 use Rattle.std.specs.Prelude.{◌≡◌, ◌≢◌, ℕ, ◌<◌, ◌≤◌, ◌⊎◌, ◌==◌, Bool, true, false, List, [], ◌∷◌, ◌++◌, length, Some, None, codes, count_by}
 use Rattle.std.specs.List.{list_any}
 use Rattle.std.specs.Str.{IsUtf8, bytes_eq}
-use Rattle.osc_model.specs.{code, method_number, IsPath, longest_payload, most_resources}
+use Rattle.osc_model.specs.{code, method_number, segments_of, IsPath, longest_payload, most_resources}
 use Rattle.osc_model.specs.declared.code.Method.{Method}
 use Rattle.osc_model.specs.declared.request.Request.{Request}
 use Rattle.osc_cbor.specs.{spelling}
@@ -13,7 +13,7 @@ use Rattle.osc_script.specs.Node.{client_name, proxy_name, name_of}
 use Rattle.osc_script.specs.Values.{SpellsNumber, SpellsScope}
 use Rattle.osc_script.specs.Words.{words_of, SpellsFormat, SpellsBytes, SpellsKept, SpellsPairs, SpellsDate, SpellsAlgorithm, SpellChanges}
 use Rattle.osc_script.specs.declared.line.Line.{Line}
-use Rattle.osc_script.specs.declared.line.Line.TheVariants.{Skipped, Put, Open, Grant, Proxy, Via, At, Draw, Drop, Skip, Exchange, Ask, Tick, Restart, Deliver, Alter, Graft, Inject, Lie, Quiet}
+use Rattle.osc_script.specs.declared.line.Line.TheVariants.{Skipped, Put, Open, Revoked, Grant, Proxy, Via, At, Draw, Drop, Skip, Exchange, Ask, Tick, Restart, Deliver, Alter, Graft, Inject, Lie, Quiet}
 use Rattle.osc_script.specs.declared.client_name.ClientName.{ClientName}
 use Rattle.osc_script.specs.declared.node.Node.{Node}
 use Rattle.osc_script.specs.declared.node.Node.TheVariants as node
@@ -32,6 +32,10 @@ plain_request method path payload =
 abbrev pub last_number : ℕ
 last_number = 1099511627775
 
+-- the most segments of a revocation path: those of a token's id, of at most 64 bytes, are four more, and a path has at most eight
+abbrev pub most_revocation_segments : ℕ
+most_revocation_segments = 4
+
 -- METHOD PATH BYTES: the words of a request, of whose payload as much is kept as a datagram could have
 abbrev pub SpellRequest : List (List ℕ) → Request → Type 0
 SpellRequest words request = (method : Method) × (path bytes payload : List ℕ) × (words ≡ method_name method ∷ path ∷ bytes ∷ [])
@@ -45,6 +49,8 @@ Say words (Put path resource) = (format bytes : List ℕ) × (words ≡ codes "p
     × SpellsFormat format resource.format × SpellsBytes bytes resource.payload × (length resource.payload ≤ longest_payload)
 -- open PATH: a GET on the path needs no protection
 Say words (Open path) = (words ≡ codes "open" ∷ path ∷ []) × IsPath path
+-- revoked PATH: a resource that stands below the path revokes a token
+Say words (Revoked path) = (words ≡ codes "revoked" ∷ path ∷ []) × IsPath path × (length (segments_of path) ≤ most_revocation_segments)
 -- grant CLIENT SCOPE [nbf=N] [exp=N] [alg=30]: it has a token with this scope, these dates and this algorithm, whose claims can be sealed
 Say words (Grant client scope not_before expires alg) = (text : List ℕ) × (begins ends last : List (List ℕ)) × (words ≡ codes "grant" ∷ client_name client ∷ text ∷ (begins ++ ends ++ last))
     × SpellsScope text scope × SpellsDate (codes "nbf=") begins not_before × SpellsDate (codes "exp=") ends expires × SpellsAlgorithm last alg
@@ -95,6 +101,7 @@ abbrev pub is_event : Line → Bool
 is_event Skipped = false
 is_event (Put path resource) = false
 is_event (Open path) = false
+is_event (Revoked path) = false
 is_event (Grant client scope not_before expires alg) = false
 is_event (Proxy proxy) = false
 is_event (Via client proxy) = false
@@ -111,6 +118,11 @@ puts path line = false
 abbrev pub is_put : Line → Bool
 is_put (Put path resource) = true
 is_put line = false
+
+-- a line that says the revocation path
+abbrev pub is_revocation : Line → Bool
+is_revocation (Revoked path) = true
+is_revocation line = false
 
 abbrev pub grants : ClientName → Line → Bool
 grants client (Grant other scope not_before expires alg) = other.digit == client.digit
@@ -150,11 +162,12 @@ IsKnown above (node.Client client) = IsGranted above client
 IsKnown above (node.Proxy proxy) = IsMade above proxy
 IsKnown above node.Stranger = Unit {0}
 
--- Set-up lines stand before the first event, a path is put once, a client is granted once and before other lines name it, it is sent
+-- Set-up lines stand before the first event, a path is put once, there is one revocation path at most, a client is granted once and before other lines name it, it is sent
 -- by a proxy once, a proxy is made before events name it, and the moment doesn't fall.
 abbrev pub MayFollow : List Line → Line → Type 0
 MayFollow above (Put path resource) = (list_any is_event above ≡ false) × (list_any (puts path) above ≡ false) × (count_by is_put above < most_resources)
 MayFollow above (Open path) = list_any is_event above ≡ false
+MayFollow above (Revoked path) = (list_any is_event above ≡ false) × (list_any is_revocation above ≡ false)
 MayFollow above (Grant client scope not_before expires alg) = (list_any is_event above ≡ false) × (list_any (grants client) above ≡ false)
 MayFollow above (Proxy proxy) = list_any is_event above ≡ false
 MayFollow above (Via client proxy) = (list_any is_event above ≡ false) × IsGranted above client × (list_any (routes client) above ≡ false)

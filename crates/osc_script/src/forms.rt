@@ -10,6 +10,9 @@ pub fn form_of(word: &str) -> &'static str
         "put" =>
             "put PATH FORMAT BYTES, before the first event, once for a path: FORMAT a number or none, BYTES at most 512 as ff+61*12 or -",
         "open" => "open PATH, before the first event: PATH as /a/b",
+        "revoked" => {
+            "revoked PATH, before the first event, once: PATH as /revoked, of at most 4 segments"
+        }
         "grant" => {
             "grant CLIENT SCOPE [nbf=N] [exp=N] [alg=30], before the first event, once for a client: SCOPE as /log:GET+POST,/t:GET, with GET, POST, PUT, DELETE and SUB"
         }
@@ -34,7 +37,7 @@ pub fn form_of(word: &str) -> &'static str
         "lie" => "lie CLIENT NUMBER METHOD PATH BYTES: as ask, with a number up to 1099511627775",
         "quiet" => "quiet, alone",
         _ => {
-            "a line of put, open, grant, proxy, via, at, draw, drop, skip, exchange, ask, tick, restart, deliver, alter, graft, inject, lie or quiet, with one space between words"
+            "a line of put, open, revoked, grant, proxy, via, at, draw, drop, skip, exchange, ask, tick, restart, deliver, alter, graft, inject, lie or quiet, with one space between words"
         }
     }
 }

@@ -66,6 +66,11 @@ pub enum Line {
     Open {
         path: Path,
     },
+    /// `revoked PATH`: a token is revoked where a resource stands at this path with the digits of the token's id after it. The path has at
+    /// most 4 segments.
+    Revoked {
+        path: Path,
+    },
     /// `grant CLIENT SCOPE [nbf=N] [exp=N] [alg=30]`: the client has a token of this scope, such as `/log:GET+POST,/t:GET`, which counts
     /// from the second `nbf` on and from the second `exp` on no more, and whose contexts have the algorithm AES-CCM-16-128-128, or
     /// without `alg=30` AES-CCM-16-64-128. The scope stands here as its bytes.

@@ -3,7 +3,7 @@
 ghost use Rattle.std.specs.Prelude.{◌≡◌, ◌<◌, ◌+◌, ◌||◌, ◌&&◌, ◌↔◌, ◌++◌, ◌∷◌, [], cond, false, IsTrue, IfSome, IfNone, slice_index_or, count_by};
 ghost use Rattle.std.specs.List.{list_any};
 ghost use Rattle.osc_model.specs.{most_resources};
-ghost use Rattle.osc_script.specs.Line.{grants, is_event, is_put, makes, moment_behind, puts, routes, IsKnown, IsGranted, MayFollow};
+ghost use Rattle.osc_script.specs.Line.{grants, is_event, is_put, is_revocation, makes, moment_behind, puts, routes, IsKnown, IsGranted, MayFollow};
 ghost use Rattle.osc_script.specs.Inner.Place.{IsPlace};
 ghost use Rattle.osc_script.specs.declared.client_name.ClientName.{ClientName as AnyClient};
 ghost use Rattle.osc_script.specs.declared.proxy_name.ProxyName.{ProxyName as AnyProxy};
@@ -25,6 +25,8 @@ pub(crate) struct Place {
     moment: Moment,
     /// How many lines put a resource.
     puts: usize,
+    /// Whether a line says the revocation path.
+    has_revoked: bool,
     /// The clients that were granted, by their digits.
     granted: [bool; 10],
     /// The proxies that were made, by their digits.
@@ -39,6 +41,7 @@ impl Place {
         has_event: false,
         moment: Moment::START,
         puts: 0,
+        has_revoked: false,
         granted: [false; 10],
         made: [false; 10],
         routed: [false; 10],
@@ -65,6 +68,7 @@ impl Place {
         match line {
             Line::Put { path, .. } => self.may_put(above, path),
             Line::Open { .. } => !self.has_event,
+            Line::Revoked { .. } => self.may_revoke(above),
             Line::Grant { client, .. } => !self.has_event && !self.has_granted(above, *client),
             Line::Proxy { .. } => !self.has_event,
             Line::Via { client, .. } => self.may_route(above, *client),
@@ -91,6 +95,13 @@ impl Place {
         ensures { IsTrue result ↔ (list_any is_event above.now ≡ false) × (list_any (puts path.now) above.now ≡ false) × (count_by is_put above.now < most_resources) }
     {
         !self.has_event && self.puts < MOST_RESOURCES && !has_put(above, path)
+    }
+
+    fn may_revoke(self, above: &[Line]) -> bool
+        requires { IsPlace above.now self }
+        ensures { IsTrue result ↔ (list_any is_event above.now ≡ false) × (list_any is_revocation above.now ≡ false) }
+    {
+        !self.has_event && !self.has_revoked
     }
 
     fn may_route(self, above: &[Line], client: ClientName) -> bool
@@ -147,6 +158,7 @@ impl Place {
             has_event: self.has_event || is_event(line),
             moment: moment_behind(self.moment, line),
             puts: self.puts_with(above, line),
+            has_revoked: self.has_revoked || is_revocation(line),
             granted: granted_with(self.granted, line),
             made: made_with(self.made, line),
             routed: routed_with(self.routed, line),
@@ -205,6 +217,7 @@ fn is_event(line: &Line) -> bool
         Line::Skipped
         | Line::Put { .. }
         | Line::Open { .. }
+        | Line::Revoked { .. }
         | Line::Grant { .. }
         | Line::Proxy { .. }
         | Line::Via { .. }
@@ -214,6 +227,12 @@ fn is_event(line: &Line) -> bool
         | Line::Skip { .. } => false,
         _ => true,
     }
+}
+
+fn is_revocation(line: &Line) -> bool
+    ensures { result ≡ is_revocation line.now }
+{
+    matches!(line, Line::Revoked { .. })
 }
 
 // The moment behind the line.

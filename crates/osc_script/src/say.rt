@@ -9,7 +9,7 @@ use crate::clients::{ask, exchange, lie, skip};
 use crate::datagrams::{alter, deliver, drop_line, graft, inject};
 use crate::line::Line;
 use crate::running::{at, draw, quiet, restart, tick};
-use crate::set_up::{grant, open, proxy_line, put, via};
+use crate::set_up::{grant, open, proxy_line, put, revoked, via};
 use std::alloc::{AllocError, Global};
 
 /// What the words say, if they say anything.
@@ -33,6 +33,7 @@ fn plain_line(alloc: Global, verb: &str, args: &[&str]) -> Result<Option<Line>, 
     match verb {
         "put" => put(alloc, args),
         "open" => open(alloc, args),
+        "revoked" => revoked(alloc, args),
         "proxy" => Ok(proxy_line(args)),
         "via" => Ok(via(args)),
         _ => timed_line(alloc, verb, args),

@@ -1,12 +1,14 @@
 //! Lines that stand before the first event.
 
-ghost use Rattle.std.specs.Prelude.{◌≡◌, ◌≤◌, ◌↔◌, ◌∷◌, codes, length, IfOk, IsTrue, map, Some};
+ghost use Rattle.std.specs.Prelude.{◌≡◌, ◌≤◌, ◌==◌, ◌↔◌, ◌∷◌, codes, length, IfOk, IsTrue, map, Some};
+ghost use Rattle.std.specs.List.{count_by};
 ghost use Rattle.osc_cbor.specs.{spelling};
+ghost use Rattle.osc_model.specs.{segments_of};
 ghost use Rattle.osc_token.specs.{most_claims, claims_item};
 ghost use Rattle.osc_script.specs.Grants.{claims_of};
 ghost use Rattle.osc_script.specs.Line.{Say};
 ghost use Rattle.osc_script.specs.declared.line.Line.TheVariants.{Open};
-ghost use Rattle.osc_script.specs.Inner.Reading.{with_one, with_two, with_three, proxy_line_in, put_in, via_in, Gives};
+ghost use Rattle.osc_script.specs.Inner.Reading.{with_one, with_two, with_three, proxy_line_in, put_in, revoked_in, via_in, Gives};
 ghost use Rattle.osc_script.specs.Values.{Reads};
 
 use crate::grants::grant_claims;
@@ -19,6 +21,9 @@ use std::alloc::{AllocError, Global};
 
 // The most bytes that a resource has.
 const LONGEST_PAYLOAD: u16 = 512;
+
+// The most segments of a revocation path: with those of an id it isn't too long.
+const MOST_SEGMENTS: usize = 4;
 
 // The most bytes of claims that the cipher takes.
 const CLAIMS_LIMIT: usize = 65535;
@@ -55,6 +60,36 @@ pub(crate) fn open(alloc: Global, args: &[&str]) -> Result<Option<Line>, AllocEr
         return Ok(None);
     };
     Ok(Some(Line::Open { path }))
+}
+
+// PATH
+#[tactic(auto, unfolding(crate::specs::Inner::Reading::revoked_in))]
+pub(crate) fn revoked(alloc: Global, args: &[&str]) -> Result<Option<Line>, AllocError>
+    ensures { IfOk result (λ found. Gives (with_one revoked_in (map (λ arg. arg.now) args.now)) found) }
+{
+    let [path] = args else {
+        return Ok(None);
+    };
+    let Some(path) = Path::from_text(alloc, path.as_bytes())? else {
+        return Ok(None);
+    };
+    if segments(&path) > MOST_SEGMENTS {
+        return Ok(None);
+    }
+    Ok(Some(Line::Revoked { path }))
+}
+
+// How many segments the path has: one after each `/` of its text.
+fn segments(path: &Path) -> usize
+    ensures { result ≡ length (segments_of path.now) }
+{
+    slashes(path.text())
+}
+
+fn slashes(text: &[u8]) -> usize
+    ensures { result ≡ count_by (λ b. b == 47) text.now }
+{
+    text.iter().filter(|b| **b == b'/').count()
 }
 
 // PROXY

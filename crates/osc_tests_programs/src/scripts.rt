@@ -6,7 +6,7 @@ use std::process::Abort;
 use std::test::Fail;
 
 const SCRIPT: &[u8] =
-    b"# a comment\n\nput /a/b 60 68+69*2\nput /c none -\nopen /a/b\nat 007\ninject x s fF+00*0";
+    b"# a comment\n\nput /a/b 60 68+69*2\nput /c none -\nopen /a/b\nrevoked /no/more\nat 007\ninject x s fF+00*0";
 
 /// Whether the line puts this value at this path.
 fn puts(line: &Line, text: &[u8], format: Option<u16>, payload: &[u8]) -> bool {
@@ -24,6 +24,14 @@ fn puts(line: &Line, text: &[u8], format: Option<u16>, payload: &[u8]) -> bool {
 fn opens(line: &Line, text: &[u8]) -> bool {
     match line {
         Line::Open { path } => path.text() == text,
+        _ => false,
+    }
+}
+
+/// Whether the line says that this is the revocation path.
+fn revokes_below(line: &Line, text: &[u8]) -> bool {
+    match line {
+        Line::Revoked { path } => path.text() == text,
         _ => false,
     }
 }
@@ -49,10 +57,20 @@ fn injects(line: &Line, datagram: &[u8]) -> bool {
 /// Whether these are the lines of the script.
 fn are_said(lines: &[Line]) -> bool {
     match lines {
-        [Line::Skipped, Line::Skipped, put, bare, open, at, inject] => {
+        [
+            Line::Skipped,
+            Line::Skipped,
+            put,
+            bare,
+            open,
+            revoked,
+            at,
+            inject,
+        ] => {
             puts(put, b"/a/b", Some(60), b"hii")
                 && puts(bare, b"/c", None, b"")
                 && opens(open, b"/a/b")
+                && revokes_below(revoked, b"/no/more")
                 && is_at(at, 7)
                 && injects(inject, b"\xff")
         }
@@ -127,6 +145,34 @@ const RESOURCES: [(&[u8], Option<u64>); 11] = [
 #[test]
 fn resources(rt: HostRuntime) {
     have_their_bad_lines(&rt, rt.alloc(), &RESOURCES);
+}
+
+/// Scripts of revocation paths, and the first bad line of each.
+const REVOKED: [(&[u8], Option<u64>); 16] = [
+    (b"revoked /revoked", None),
+    (b"revoked /a/b/c/d", None),
+    (b"revoked /a/b/c/d/e", Some(1)),
+    (b"revoked /1/2/3/4/5/6/7/8", Some(1)),
+    (b"revoked /1/2/3/4/5/6/7/8/9", Some(1)),
+    (b"revoked", Some(1)),
+    (b"revoked /", Some(1)),
+    (b"revoked a", Some(1)),
+    (b"revoked /a /b", Some(1)),
+    (b"revoke /a", Some(1)),
+    (b"revoked /a\nrevoked /a", Some(2)),
+    (b"revoked /a\n#\nrevoked /b", Some(3)),
+    (b"quiet\nrevoked /a", Some(2)),
+    (b"revoked /a\nquiet\nput /a/01 none -", Some(3)),
+    (
+        b"at 1\ndrop 1\ndraw 0011223344556677\nrevoked /a\nput /a/01 none -\nopen /a/01",
+        None,
+    ),
+    (b"grant c1 /a:GET\nskip c1 1\nrevoked /a\nexchange c1", None),
+];
+
+#[test]
+fn revocation_paths(rt: HostRuntime) {
+    have_their_bad_lines(&rt, rt.alloc(), &REVOKED);
 }
 
 /// Scripts of injected datagrams, and the first bad line of each.

@@ -5,7 +5,7 @@ use Rattle.std.specs.Option.{ForSome}
 use Rattle.std.specs.Str.{bytes_eq, all_ascii_digits}
 use Rattle.std.specs.Str.Parse.{digits_value}
 use Rattle.std.proofs.lemmas.Bool.{ltb-true, leb-true, and_parts}
-use Rattle.osc_model.specs.{IsPath, longest_payload}
+use Rattle.osc_model.specs.{segments_of, IsPath, longest_payload}
 use Rattle.osc_model.specs.declared.algorithm.Algorithm.{Algorithm}
 use Rattle.osc_model.specs.declared.algorithm.Algorithm.TheVariants.{EightByteTag, SixteenByteTag}
 use Rattle.osc_model.specs.declared.code.Method.{Method}
@@ -13,12 +13,12 @@ use Rattle.osc_model.specs.declared.code.Method.TheVariants as method
 use Rattle.osc_model.specs.declared.node.Moment.{Moment}
 use Rattle.osc_model.specs.declared.request.Request.{Request}
 use Rattle.osc_scope.specs.{name_of as method_name}
-use Rattle.osc_script.specs.Line.{plain_request, last_number}
+use Rattle.osc_script.specs.Line.{plain_request, last_number, most_revocation_segments}
 use Rattle.osc_script.specs.Node.{name_of}
 use Rattle.osc_script.specs.Words.{most_kept}
 use Rattle.osc_script.specs.declared.line.Change.{Change}
 use Rattle.osc_script.specs.declared.line.Line.{Line}
-use Rattle.osc_script.specs.declared.line.Line.TheVariants.{Put, Open, Proxy, Via, At, Draw, Drop, Skip, Exchange, Ask, Tick, Restart, Deliver, Alter, Graft, Inject, Lie, Quiet}
+use Rattle.osc_script.specs.declared.line.Line.TheVariants.{Put, Open, Revoked, Proxy, Via, At, Draw, Drop, Skip, Exchange, Ask, Tick, Restart, Deliver, Alter, Graft, Inject, Lie, Quiet}
 use Rattle.osc_script.specs.declared.client_name.ClientName.{ClientName}
 use Rattle.osc_script.specs.declared.node.Node.{Node}
 use Rattle.osc_script.specs.declared.node.Node.TheVariants as node
@@ -230,6 +230,10 @@ put_in path format bytes = do
   payload ← short_bytes_in longest_payload bytes
   Some (Put path (record { format = format; payload = payload }))
 
+-- the same
+unfoldable pub revoked_in : List ℕ → Option Line
+revoked_in path = if nat_le (length (segments_of path)) most_revocation_segments then Some (Revoked path) else None
+
 unfoldable pub proxy_line_in : List ℕ → Option Line
 proxy_line_in proxy = do
   proxy ← proxy_in proxy
@@ -366,6 +370,7 @@ unfoldable pub line_in : List ℕ → List (List ℕ) → Option Line
 line_in verb args =
     if bytes_eq verb (codes "put") then with_three put_in args
     else if bytes_eq verb (codes "open") then with_one (λ path. Some (Open path)) args
+    else if bytes_eq verb (codes "revoked") then with_one revoked_in args
     else if bytes_eq verb (codes "proxy") then with_one proxy_line_in args
     else if bytes_eq verb (codes "via") then with_two via_in args
     else timed_line_in verb args
@@ -374,6 +379,7 @@ line_in verb args =
 abbrev pub HasPath : Line → Type 0
 HasPath (Put path resource) = IsPath path
 HasPath (Open path) = IsPath path
+HasPath (Revoked path) = IsPath path
 HasPath (Ask client request) = ForSome request.path IsPath
 HasPath (Lie client number request) = ForSome request.path IsPath
 HasPath line = Unit {0}
