@@ -19,7 +19,7 @@ use Rattle.osc_world.specs.declared.start.Holder.{Holder}
 use Rattle.osc_script.specs.{claims_of, iv_of, token_key, address_of, client_name, IsScript}
 use Rattle.osc_script.specs.declared.client_name.ClientName.{ClientName}
 use Rattle.osc_script.specs.declared.line.Line.{Line}
-use Rattle.osc_script.specs.declared.line.Line.TheVariants.{Put, Open, Grant, Via, At, Draw, Drop, Skip, Quiet}
+use Rattle.osc_script.specs.declared.line.Line.TheVariants.{Put, Open, Revoked, Grant, Via, At, Draw, Drop, Skip, Quiet}
 use Rattle.osc_script.specs.declared.node.Node.TheVariants.{Server, Client, Proxy}
 use Rattle.osc_script.specs.declared.read.ScriptError.{ScriptError}
 use Rattle.osc_script.specs.declared.read.ScriptError.TheVariants.{BadLine, OutOfMemory}
@@ -55,6 +55,12 @@ scope_after scope line = scope
 abbrev pub scope_from : Scope → List Line → Scope
 scope_from scope [] = scope
 scope_from scope (line ∷ lines) = scope_from (scope_after scope line) lines
+
+-- the revocation path, if a line says one
+abbrev pub revocation_in : List Line → Option (List ℕ)
+revocation_in [] = None
+revocation_in (Revoked path ∷ lines) = Some path
+revocation_in (line ∷ lines) = revocation_in lines
 
 -- it seals and opens by AES-CCM with tags of 8 bytes or of 16, by the algorithm
 abbrev pub sealing_of : ℕ → Sealing
@@ -117,6 +123,7 @@ first_start lines = record {
   open_scope = scope_from set.empty lines;
   key = token_key;
   audience = codes "s";
+  revoked = revocation_in lines;
   server_at = address_of Server;
   minted = [];
   clients = [];

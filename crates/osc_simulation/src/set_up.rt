@@ -1,5 +1,5 @@
 //! The world before the first event, from the set-up lines of a script.
-ghost use Rattle.std.specs.Prelude.{◌≡◌, ◌+◌, [], IfOk, OnOk, codes, length};
+ghost use Rattle.std.specs.Prelude.{◌≡◌, ◌+◌, [], IfOk, None, OnOk, codes, length};
 ghost use Rattle.std.specs.FinMap as map;
 ghost use Rattle.std.specs.FinSet as set;
 ghost use Rattle.osc_script.specs.{iv_of, address_of};
@@ -12,7 +12,7 @@ ghost use Rattle.osc_simulation.specs.SetUp.{CanPut, CanPutAll};
 use crate::names::Names;
 use osc_ccm::Suite;
 use osc_client::{Origin, Route};
-use osc_model::{Bytes, Method};
+use osc_model::{Bytes, Method, Path};
 use osc_proxy::{Target, Targets};
 use osc_scope::Scope;
 use osc_script::laws::key_of_tokens;
@@ -27,7 +27,8 @@ const SERVER_HOST: &[u8] = b"s";
 
 const SERVER_PORT: u16 = 5683;
 
-/// The world that the set-up lines make: the resources, the paths that are open, the clients with their tokens, and the proxies.
+/// The world that the set-up lines make: the resources, the paths that are open, the revocation path, the clients with their tokens, and
+/// the proxies.
 pub(crate) fn first_world(alloc: Global, names: &Names, lines: &[Line]) -> Result<World, AllocError>
     requires puts { CanPutAll map.empty lines.now }
     requires names { names.now ≡ names_in lines.now }
@@ -112,8 +113,33 @@ fn first_start(alloc: Global, lines: &[Line]) -> Result<Start, AllocError>
     let tree = first_tree(alloc, lines)?;
     let open_scope = open_scope(alloc, lines)?;
     let audience = Audience::new(alloc, "s")?;
+    let revoked = revocation_path(lines)?;
     let server = Node::Server.address();
-    Ok(Start::new(alloc, tree, open_scope, TOKEN_KEY, audience, server))
+    let start = Start::new(alloc, tree, open_scope, TOKEN_KEY, audience, server);
+    Ok(with_revoked(start, revoked))
+}
+
+// The path below which resources revoke tokens, if a line says one.
+fn revocation_path(lines: &[Line]) -> Result<Option<Path>, AllocError>
+    ensures { IfOk result (λ path. path ≡ spec.revocation_in lines.now) }
+{
+    for line in lines {
+        if let Line::Revoked { path } = line {
+            return Ok(Some(path.clone()?));
+        }
+    }
+    Ok(None)
+}
+
+// A start that has no revocation path yet, with this one, if there is one.
+fn with_revoked(mut start: Start, revoked: Option<Path>) -> Start
+    requires { start.revoked ≡ None }
+    ensures { result ≡ record start { revoked = revoked } }
+{
+    if let Some(path) = revoked {
+        start.revoke_below(path);
+    }
+    start
 }
 
 fn first_tree(alloc: Global, lines: &[Line]) -> Result<Tree, AllocError>
