@@ -44,6 +44,7 @@ server_alone parts = record {
   first = parts.tree;
   open_scope = parts.open_scope;
   key = parts.key;
+  old_key = parts.old_key;
   audience = parts.audience;
   revoked = parts.revoked;
   server_at = server_address;

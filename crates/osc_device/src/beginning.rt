@@ -36,10 +36,14 @@ pub(crate) fn server_alone(alloc: Global, parts: ServerParts) -> Start
         tree,
         open_scope,
         key,
+        old_key,
         audience,
         revoked,
     } = parts;
     let mut start = Start::new(alloc, tree, open_scope, key, audience, SERVER);
+    if let Some(key) = old_key {
+        start.keep_old_key(key);
+    }
     if let Some(path) = revoked {
         start.revoke_below(path);
     }

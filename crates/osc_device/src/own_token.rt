@@ -15,6 +15,8 @@ pub struct ServerParts {
     pub open_scope: Scope,
     /// The key that the server shares with who issues tokens for it.
     pub key: [u8; 16],
+    /// Its former key, at a change of key, while tokens under that are about: a token that doesn't open under the key is opened under this one.
+    pub old_key: Option<[u8; 16]>,
     /// For whom tokens are that the server takes.
     pub audience: Audience,
     /// The path below which a resource revokes a token, by the hexadecimal digits of the token's id ([`Device::revoke`]); none where no token

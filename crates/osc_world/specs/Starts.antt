@@ -25,12 +25,13 @@ use Rattle.osc_world.specs.Worlds.{State}
 use Rattle.osc_world.specs.declared.nodes.Placed.{Placed}
 use Rattle.osc_world.specs.declared.start.Holder.{Holder}
 
--- the resources; what needs no protection; the key of tokens, and for whom they are; the path below which resources revoke them, if there
--- is one; where the server stands; the grants with the texts of their tokens; and the clients and the proxies, each with where it stands
+-- the resources; what needs no protection; the key of tokens, the former key, if tokens under that are taken, and for whom they are; the
+-- path below which resources revoke them, if there is one; where the server stands; the grants with the texts of their tokens; and the clients and the proxies, each with where it stands
 pub record Beginning : Type 0 where
   pub first : Tree
   pub open_scope : Scope
   pub key : List ℕ
+  pub old_key : Option (List ℕ)
   pub audience : List ℕ
   pub revoked : Option (List ℕ)
   pub server_at : Peer
@@ -115,7 +116,7 @@ first_nodes start = record {
   server_at = start.server_at;
   server = record {
     tree = start.first;
-    desk = record { key = start.key; old_key = None; audience = start.audience; revoked = start.revoked; table = [] };
+    desk = record { key = start.key; old_key = start.old_key; audience = start.audience; revoked = start.revoked; table = [] };
     open_scope = start.open_scope;
     endpoint = fresh;
   };

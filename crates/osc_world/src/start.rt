@@ -55,6 +55,7 @@ pub struct Start {
     first: Tree,
     open_scope: Scope,
     key: [u8; 16],
+    old_key: Option<[u8; 16]>,
     audience: Audience,
     revoked: Option<Path>,
     server_at: Peer,
@@ -93,6 +94,7 @@ impl Model for Start {
       first = s.first;
       open_scope = s.open_scope;
       key = s.key;
+      old_key = s.old_key;
       audience = s.audience;
       revoked = s.revoked;
       server_at = s.server_at;
@@ -105,7 +107,7 @@ impl Model for Start {
 }
 
 impl Start {
-    /// A world with these resources, and with no revocation path, no client and no proxy yet; takes no memory.
+    /// A world with these resources, and with no old key, no revocation path, no client and no proxy yet; takes no memory.
     pub fn new(
         alloc: Global,
         first: Tree,
@@ -114,12 +116,13 @@ impl Start {
         audience: Audience,
         server_at: Peer,
     ) -> Start
-        ensures { result ≡ record { first = first; open_scope = open_scope; key = key; audience = audience; revoked = None; server_at = server_at; minted = []; clients = []; proxies = [] } }
+        ensures { result ≡ record { first = first; open_scope = open_scope; key = key; old_key = None; audience = audience; revoked = None; server_at = server_at; minted = []; clients = []; proxies = [] } }
     {
         Start {
             first,
             open_scope,
             key,
+            old_key: None,
             audience,
             revoked: None,
             server_at,
@@ -127,6 +130,13 @@ impl Start {
             clients: Vec::new(alloc),
             proxies: Vec::new(alloc),
         }
+    }
+
+    /// From now on the server opens a token that doesn't open under its key under this one, its former key.
+    pub fn keep_old_key(&mut self, key: [u8; 16])
+        ensures { self.new ≡ record self.old { old_key = Some key } }
+    {
+        self.old_key = Some(key);
     }
 
     /// From now on resources below this path revoke tokens, by the tokens' ids.
@@ -222,6 +232,7 @@ impl Start {
             first,
             open_scope,
             key,
+            old_key,
             audience,
             revoked,
             server_at,
@@ -233,7 +244,7 @@ impl Start {
             alloc,
             DeskParts {
                 key,
-                old_key: None,
+                old_key,
                 audience,
                 revoked,
             },
@@ -251,6 +262,7 @@ impl Start {
             first,
             open_scope,
             key,
+            old_key,
             audience,
             revoked,
             server_at,
@@ -262,7 +274,7 @@ impl Start {
             alloc,
             DeskParts {
                 key,
-                old_key: None,
+                old_key,
                 audience,
                 revoked,
             },
