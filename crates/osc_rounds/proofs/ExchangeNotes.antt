@@ -97,9 +97,11 @@ module _ (is_sealing : Sealings) (laws : TokenLaws is_sealing)
   own_key (inl own) = own
   own_key (inr old) =
       let holds = welcome.holds in
-      absurd (old.1 (record { protected = algorithm_header; iv = holds.iv; text = text },
-      subst (λ (b : List ℕ). IsToken (is_sealing EightByteTag) before.key b algorithm_header holds.iv text) (sym (its_token ∙ holds.token))
-      (laws.minted before.key holds.iv text holds.ciphertext holds.iv_size holds.short holds.sealed)))
+      absurd (old.1 (
+        record { protected = algorithm_header; iv = holds.iv; text = text },
+        subst (λ (b : List ℕ). IsToken (is_sealing EightByteTag) before.key b algorithm_header holds.iv text) (sym (its_token ∙ holds.token))
+            (laws.minted before.key holds.iv text holds.ciphertext holds.iv_size holds.short holds.sealed),
+      ))
 
   its_key : is_agreed.key ≡ before.key
   its_key = own_key is_agreed.key_is
