@@ -25,9 +25,21 @@ pub record ClockAndRandomState : Type 0 where
   pub generator : ChaCha
   pub told : Option (List ℕ)
 
--- its generator is that of a seed of 32 bytes
-abbrev pub IsSeeded : ClockAndRandomState → Type 0
-IsSeeded supply = (seed : List ℕ) × (length seed ≡ 32) × (supply.generator ≡ of_seed seed)
+-- the generator of a seed of 32 bytes that the system gave
+pub record IsOfSeed (gave : List ℕ → Type 0) (generator : ChaCha) : Type 0 where
+  pub seed : List ℕ
+  pub given : gave seed
+  pub long : length seed ≡ 32
+  pub is : generator ≡ of_seed seed
+
+-- the first so many bytes of a generator of a seed that the system gave
+abbrev pub IsDrawn : (List ℕ → Type 0) → ℕ → List ℕ → Type 0
+IsDrawn gave n bytes = (generator : ChaCha) × IsOfSeed gave generator × (bytes ≡ (fill_bytes n (stream_from generator)).0)
+
+-- It is at the start, and its generator is that of a seed of 32 bytes.
+pub record IsSeeded (supply : ClockAndRandomState) : Type 0 where
+  pub start : supply.last.ms ≡ 0
+  pub generator : (seed : List ℕ) × (length seed ≡ 32) × (supply.generator ≡ of_seed seed)
 
 -- The clock was read once more, and the moment is that reading's, or still the last one.
 pub record Reads (old : ClockAndRandomState) (now : Moment) (new : ClockAndRandomState) : Type 0 where

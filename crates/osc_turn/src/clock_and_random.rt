@@ -4,13 +4,13 @@ ghost use Rattle.std.specs.Prelude.{◌≡◌, ◌≤◌, ◌<◌, ◌^◌, ◌/
 ghost use Rattle.rand_core.specs.Stream.{fill_bytes};
 ghost use Rattle.osc_turn.specs.ClockAndRandom as spec;
 
+use crate::seeds::Seeds;
 use crate::watch::{SystemWatch, Watch};
 use osc_model::{Draw, Moment};
-use rand::Rng;
 use rand::rngs::StdRng;
+use rand::{Rng, SeedableRng};
 use std::io;
 use std::marker::Model;
-use std::random::RandomSource;
 use std::time::{Clock, Duration};
 
 /// Where a node runs: a watch, the last moment, and a generator. Contracts see what the watch told in its place.
@@ -29,19 +29,32 @@ impl<W: Watch + Drop> Model for ClockAndRandom<W> {
     ghost view = { λ supply. record { last = supply.last; generator = supply.generator; told = W.told supply.watch } };
 }
 
-impl<'a, R: Clock + RandomSource> ClockAndRandom<SystemWatch<'a, R>> {
-    /// Over the clock of this runtime, with a generator whose seed of 32 bytes comes from the system.
+impl<'a, R: Clock + Seeds> ClockAndRandom<SystemWatch<'a, R>> {
+    /// From the start on, over the clock of this runtime, with a generator of a seed that it gives.
     pub fn of_system(runtime: &'a R) -> io::Result<ClockAndRandom<SystemWatch<'a, R>>>
         ensures seeded { IfOk result (λ supply. spec.IsSeeded supply) }
+        ensures given { IfOk result (λ supply. spec.IsOfSeed (R.gave runtime.now) supply.generator) }
     {
-        let generator = rand::make_rng(runtime)?;
+        let generator = generator_of(runtime)?;
         Ok(ClockAndRandom::new(SystemWatch::new(runtime), generator))
     }
+}
+
+/// A generator of a seed that the system gives.
+///
+/// # Errors
+///
+/// As of [`Seeds::seed`].
+pub fn generator_of<S: Seeds>(seeds: &S) -> io::Result<StdRng>
+    ensures { IfOk result (λ generator. spec.IsOfSeed (S.gave seeds.now) generator) }
+{
+    Ok(StdRng::from_seed(seeds.seed()?))
 }
 
 impl<W: Watch + Drop> ClockAndRandom<W> {
     /// From the start on.
     pub fn new(watch: W, generator: StdRng) -> ClockAndRandom<W>
+        ensures start { result.last.ms ≡ 0 }
         ensures generator { result.generator ≡ generator }
         ensures told { result.told ≡ W.told watch }
     {

@@ -6,12 +6,14 @@ mod clock_and_random;
 mod error;
 mod pace;
 mod port;
+mod seeds;
 mod turning;
 mod watch;
 
-pub use clock_and_random::{ClockAndRandom, not_before};
+pub use clock_and_random::{ClockAndRandom, generator_of, not_before};
 pub use error::TurnError;
 pub use pace::{Pace, paced_step, paced_turn};
 pub use port::{Port, PortFault};
+pub use seeds::Seeds;
 pub use turning::{Stepped, Turned, send_all, send_step, turn};
 pub use watch::{SystemWatch, Watch};
