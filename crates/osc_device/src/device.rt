@@ -3,7 +3,7 @@ ghost use Rattle.std.specs.Prelude.{◌≡◌, ◌≢◌, ◌∷◌, ◌<◌, �
 ghost use Rattle.osc_model.specs.Refusals as refusal;
 ghost use Rattle.osc_scope.specs.{Entry, IsScope};
 ghost use Rattle.osc_token.specs.declared.claims.Claims.{Claims as AnyClaims};
-ghost use Rattle.osc_client.specs.{Begins, PostFits, acts_at, restarted, core as own_core, IsStep as IsOwnStep};
+ghost use Rattle.osc_client.specs.{Begins, IsFree, PostFits, acts_at, restarted, core as own_core, IsStep as IsOwnStep};
 ghost use Rattle.osc_client.specs.State.{State as Own};
 ghost use Rattle.osc_run.specs.{ClientStep, Came, Due, by_server, ServerStep};
 ghost use Rattle.osc_server.specs.{core, IsStep, again};
@@ -18,7 +18,7 @@ ghost use Rattle.osc_model.specs.declared.step.ClientResult.TheVariants as resul
 ghost use Rattle.osc_model.specs.declared.code.Method.TheVariants.{Delete, Get, Post, Put};
 ghost use Rattle.osc_device.specs.Answered.{IsAnsweredWhereReady, IsOpen, IsWhole, MayOpen, own_request as own_request_of};
 ghost use Rattle.osc_device.specs.Begun.{IsBegun, IsGranted, IsNoDevice, own_claims};
-ghost use Rattle.osc_device.specs.Carrying.{AsksItsServer, Carries, ComesBack, Reaches, at_server};
+ghost use Rattle.osc_device.specs.Carrying.{AsksItsServer, Carries, ComesBack, Reaches, ServerTakesMemory, at_server};
 ghost use Rattle.osc_device.specs.Runs.{AllGoOn, IsOfAnEntry, noted, restarts};
 ghost use Rattle.osc_device.specs.State.{server_address};
 
@@ -173,6 +173,8 @@ impl Device {
         ensures own { self.new.own ≡ self.old.own }
         ensures run { IfOk result (λ step. AllGoOn self.old (λ number. by_server step.notes ∷ []) self.new) }
         ensures err { OnErr result (self.new ≡ self.old) }
+        // What isn't answered takes no memory.
+        ensures needs_memory { OnErr result (ServerTakesMemory self.old.server (record { at = now; from = from; draw = draw.now; what = bytes.now })) }
     {
         runs_go_on_alone();
         self.server.on_datagram::<A>(alloc, now, from, bytes, draw)
@@ -233,6 +235,8 @@ impl Device {
         ensures run { IfOk result (λ round. AllGoOn self.old (λ number. noted number round) self.new) }
         ensures entry { IfOk result (λ round. IsOfAnEntry self.old round) }
         ensures err { OnErr result (self.new ≡ self.old) }
+        // What hinders a request is told without memory.
+        ensures needs_memory { OnErr result ((context : ClientContextState) × IsFree A.is_sealing A.TAG self.old.own request.now draw.now context) }
     {
         a_request_is_answered::<A>();
         runs_go_on::<A>();
@@ -260,6 +264,8 @@ impl Device {
         ensures run { IfOk result (λ round. AllGoOn self.old (λ number. noted number round) self.new) }
         ensures entry { IfOk result (λ round. IsOfAnEntry self.old round) }
         ensures err { OnErr result (self.new ≡ self.old) }
+        // What hinders a request is told without memory.
+        ensures needs_memory { OnErr result ((context : ClientContextState) × IsFree A.is_sealing A.TAG self.old.own (own_request_of Put path format payload) draw.now context) }
     {
         let request = own_request(alloc, Method::Put, path, format, payload);
         self.ask::<A>(alloc, now, &request, draw, server_draw)
@@ -282,6 +288,8 @@ impl Device {
         ensures run { IfOk result (λ round. AllGoOn self.old (λ number. noted number round) self.new) }
         ensures entry { IfOk result (λ round. IsOfAnEntry self.old round) }
         ensures err { OnErr result (self.new ≡ self.old) }
+        // What hinders a request is told without memory.
+        ensures needs_memory { OnErr result ((context : ClientContextState) × IsFree A.is_sealing A.TAG self.old.own (own_request_of Post path format payload) draw.now context) }
     {
         let request = own_request(alloc, Method::Post, path, format, payload);
         self.ask::<A>(alloc, now, &request, draw, server_draw)
@@ -302,6 +310,8 @@ impl Device {
         ensures run { IfOk result (λ round. AllGoOn self.old (λ number. noted number round) self.new) }
         ensures entry { IfOk result (λ round. IsOfAnEntry self.old round) }
         ensures err { OnErr result (self.new ≡ self.old) }
+        // What hinders a request is told without memory.
+        ensures needs_memory { OnErr result ((context : ClientContextState) × IsFree A.is_sealing A.TAG self.old.own (own_request_of Delete path None []) draw.now context) }
     {
         let request = own_request(alloc, Method::Delete, path, None, Bytes::new(alloc));
         self.ask::<A>(alloc, now, &request, draw, server_draw)
@@ -322,6 +332,8 @@ impl Device {
         ensures run { IfOk result (λ round. AllGoOn self.old (λ number. noted number round) self.new) }
         ensures entry { IfOk result (λ round. IsOfAnEntry self.old round) }
         ensures err { OnErr result (self.new ≡ self.old) }
+        // What hinders a request is told without memory.
+        ensures needs_memory { OnErr result ((context : ClientContextState) × IsFree A.is_sealing A.TAG self.old.own (own_request_of Get path None []) draw.now context) }
     {
         let request = own_request(alloc, Method::Get, path, None, Bytes::new(alloc));
         self.ask::<A>(alloc, now, &request, draw, server_draw)
@@ -415,6 +427,8 @@ impl Device {
         ensures fits { IfOk result (λ round. round.begun.notes.result ≢ Some (result_of.Refused refusal.datagram_too_long)) }
         ensures run { IfOk result (λ round. AllGoOn self.old (λ number. noted number round) self.new) }
         ensures err { OnErr result (self.new ≡ self.old) }
+        // What is busy is refused without memory.
+        ensures needs_memory { OnErr result (self.old.own.waiting ≡ None) }
     {
         a_context_is_made::<A>();
         runs_go_on::<A>();
