@@ -32,7 +32,9 @@ fn parts(alloc: Global) -> Result<ServerParts, Fault> {
         tree: Tree::new(alloc),
         open_scope: Scope::new(alloc),
         key: KEY,
+        old_key: None,
         audience: Audience::new(alloc, AUDIENCE)?,
+        revoked: None,
     })
 }
 

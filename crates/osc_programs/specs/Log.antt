@@ -37,7 +37,8 @@ reason_words number =
     else (if number == refusal.bad_claims then codes "the claims of its token can not be read"
     else (if number == refusal.fields then codes "a field is missing, or of another type or length"
     else (if number == refusal.full then codes "too many tokens have a security context"
-    else codes "for another reason")))))))))))
+    else (if number == refusal.revoked then codes "its token is revoked"
+    else codes "for another reason"))))))))))))
 
 -- the codes that tell the reason themselves, in words
 abbrev pub code_words : ℕ → List ℕ

@@ -475,6 +475,7 @@ fn reason_words(number: u8) -> &'static str
         refusals::BAD_CLAIMS => "the claims of its token can not be read",
         refusals::FIELDS => "a field is missing, or of another type or length",
         refusals::FULL => "too many tokens have a security context",
+        refusals::REVOKED => "its token is revoked",
         _ => "for another reason",
     }
 }

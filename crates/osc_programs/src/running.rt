@@ -20,7 +20,7 @@ use crate::reading::{proxy_settings, server_settings};
 use crate::supply::supply_of;
 use crate::turns::take_turns;
 use crate::udp::UdpPort;
-use osc_authz::ServerDesk;
+use osc_authz::{DeskParts, ServerDesk};
 use osc_ccm::Suite;
 use osc_model::laws::permissions_are_ordered;
 use osc_model::{ClientResult, Datagrams, Method, Path, Peer, Resource};
@@ -131,11 +131,21 @@ fn server_with(alloc: Global, settings: ServerSettings, tree: Tree) -> Result<Se
 {
     let ServerSettings {
         key,
+        old_key,
         audience,
+        revoked,
         open,
         ..
     } = settings;
-    let desk = ServerDesk::new(alloc, key, audience);
+    let desk = ServerDesk::of(
+        alloc,
+        DeskParts {
+            key,
+            old_key,
+            audience,
+            revoked,
+        },
+    );
     let open_scope = open_scope(alloc, &open)?;
     Server::new(alloc, tree, desk, open_scope)
 }

@@ -6,3 +6,4 @@ pub mod NoSettings
 pub mod Parts
 pub mod Spelled
 pub mod Resources
+mod RevocationPaths

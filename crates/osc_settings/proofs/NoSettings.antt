@@ -1,7 +1,7 @@
 -- A document that is at fault stands for no settings.
 use Rattle.std.proofs.Common.{◌≡◌, ◌≢◌, ℕ, zero, suc, List, [], ◌∷◌, Option, Some, None, refl, inl, inr, sym, ◌∙◌, subst}
 use Rattle.toml.specs.Data.{Data, Items, Members, no_items, item, array, get_member}
-use Rattle.osc_settings.specs.{IsPortAt, ListedAt, MaySpellAt, SpelledAt, StandForEach, other_key, IsArrayAt, IsClientFault, IsFaultAt, IsFaultOfProxy, IsFirstFault, IsItemFault, IsKeyFault, IsOriginFault, IsOther, IsServerFault, IsTargetFault, IsTextAt, IsWrongAt, name_of, AreClientSettings, AreProxySettings, AreServerSettings, IsOrigin, IsPathText, IsTarget, IsTargetTable, client_keys, proxy_keys, server_keys, target_keys, IsAddress, IsHost, IsOpenAddress, SpellsBytes, SpellsHex}
+use Rattle.osc_settings.specs.{IsPortAt, ListedAt, MaySpellAt, SpelledAt, StandForEach, other_key, IsArrayAt, IsClientFault, IsFaultAt, IsFaultOfProxy, IsFirstFault, IsItemFault, IsKeyFault, IsOriginFault, IsOther, IsServerFault, IsTargetFault, IsTextAt, IsWrongAt, name_of, AreClientSettings, AreProxySettings, AreServerSettings, IsOrigin, IsPathText, IsTarget, IsTargetTable, client_keys, proxy_keys, server_keys, target_keys, IsAddress, IsHost, IsOpenAddress, IsRevocationPath, SpellsBytes, SpellsHex}
 use Rattle.osc_settings.specs.declared.client.ClientSettings.{ClientSettings}
 use Rattle.osc_settings.specs.declared.error.KeyFault.{KeyFault}
 use Rattle.osc_settings.specs.declared.error.SettingsError.{SettingsError}
@@ -44,6 +44,11 @@ no_array key document fault items h s = elim h [ inl wrong ↦ wrong.1 items s |
 
 -- ---- of a server
 
+no_may : {X : Type 0} (key : SettingsKey) (Spells : List ℕ → X → Type 0) (document : Members) (fault : KeyFault) (o : Option X)
+    → IsWrongAt key (λ name. SpelledAt name Spells) document fault → MaySpellAt (name_of key) Spells document o → ⊥
+no_may key Spells document fault None h a = some_there (get_member (name_of key) document) h.0 a
+no_may key Spells document fault (Some x) h a = h.1 x a
+
 server_fault : (document : Members) (fault : KeyFault) (s : ServerSettings) → IsServerFault document fault → AreServerSettings document s → ⊥
 server_fault document fault s h a = elim h [
   | inl other ↦ no_other server_keys document fault other a.keys
@@ -52,12 +57,18 @@ server_fault document fault s h a = elim h [
     | inr bound ↦ elim bound.1 [
       | inl secret ↦ no_spelled key.Key (SpellsBytes 16 16) document fault s.key secret a.key
       | inr keyed ↦ elim keyed.1 [
-        | inl audience ↦ no_text key.Audience document fault s.audience audience a.audience
-        | inr named ↦ elim named.1 [
-          | inl paths ↦ no_list key.Open IsPathText document fault s.open.items paths a.open_paths
-          | inr listed ↦ elim a.resources [
-            | inl there ↦ listed.1.1 s.resources.items there
-            | inr out ↦ some_there (get_member (name_of key.Resource) document) listed.1.0 out.0
+        | inl old ↦ no_may key.OldKey (SpellsBytes 16 16) document fault s.old_key old a.old_key
+        | inr former ↦ elim former.1 [
+          | inl audience ↦ no_text key.Audience document fault s.audience audience a.audience
+          | inr named ↦ elim named.1 [
+            | inl paths ↦ no_list key.Open IsPathText document fault s.open.items paths a.open_paths
+            | inr listed ↦ elim listed.1 [
+              | inl revoked ↦ no_may key.Revoked IsRevocationPath document fault s.revoked revoked a.revoked
+              | inr kept ↦ elim a.resources [
+                | inl there ↦ kept.1.1 s.resources.items there
+                | inr out ↦ some_there (get_member (name_of key.Resource) document) kept.1.0 out.0
+              ]
+            ]
           ]
         ]
       ]

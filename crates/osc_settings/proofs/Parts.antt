@@ -45,6 +45,11 @@ pub context_found : (document : Members) (o : Option (List ℕ)) → MaySpellAt 
 context_found document None h = inr h
 context_found document (Some context) h = inl (context, h)
 
+pub may_found : {X : Type 0} (key : SettingsKey) (Spells : List ℕ → X → Type 0) (document : Members) (o : Option X) → MaySpellAt (name_of key) Spells document o
+    → ((x : X) × SpelledAt (name_of key) Spells document x) ⊎ IsLeftOut (name_of key) document
+may_found key Spells document None h = inr h
+may_found key Spells document (Some x) h = inl (x, h)
+
 -- ---- an origin
 
 pub port_refused : (document : Members) (error : SettingsError)

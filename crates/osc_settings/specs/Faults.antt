@@ -7,7 +7,7 @@ use Rattle.osc_model.specs.declared.node.Peer.{Peer}
 use Rattle.osc_settings.specs.Document.{other_key, IsLeftOut, SpelledAt, IsAlgorithmAt, IsPortAt, ListedAt}
 use Rattle.osc_settings.specs.Keys.{name_of}
 use Rattle.osc_settings.specs.Settings.{server_keys, proxy_keys, target_keys, client_keys, AreResourcesAt, IsOrigin, IsPathText, IsTargetTable}
-use Rattle.osc_settings.specs.Values.{IsAddress, IsHost, IsOpenAddress, SpellsHex, SpellsBytes}
+use Rattle.osc_settings.specs.Values.{IsAddress, IsHost, IsOpenAddress, IsRevocationPath, SpellsHex, SpellsBytes}
 use Rattle.osc_settings.specs.declared.error.KeyFault.{KeyFault}
 use Rattle.osc_settings.specs.declared.error.KeyFault.TheVariants.{Unknown, Missing, Wrong}
 use Rattle.osc_settings.specs.declared.error.SettingsError.{SettingsError}
@@ -56,9 +56,11 @@ IsServerFault document =
     OnlyThen server_keys document
     (KeyThen key.Bind (λ key. SpelledAt key IsAddress) document
     (KeyThen key.Key (λ key. SpelledAt key (SpellsBytes 16 16)) document
+    (MayThen key.OldKey (λ key. SpelledAt key (SpellsBytes 16 16)) document
     (KeyThen key.Audience IsTextAt document
     (KeyThen key.Open (λ key. ListedAt key IsPathText) document
-    (IsWrongAt key.Resource AreResourcesAt document)))))
+    (MayThen key.Revoked (λ key. SpelledAt key IsRevocationPath) document
+    (IsWrongAt key.Resource AreResourcesAt document)))))))
 
 -- ---- of a proxy
 

@@ -1,7 +1,7 @@
 -- The keys of settings: their names, and what should stand at each, in words.
 use Rattle.std.specs.Prelude.{ℕ, List, codes}
 use Rattle.osc_settings.specs.declared.key.SettingsKey.{SettingsKey}
-use Rattle.osc_settings.specs.declared.key.SettingsKey.TheVariants.{Alg, Audience, Bind, Context, Format, Hex, Host, Key, Open, Path, Peer, Port, Resource, Salt, Secret, Target, Text, To, Token}
+use Rattle.osc_settings.specs.declared.key.SettingsKey.TheVariants.{Alg, Audience, Bind, Context, Format, Hex, Host, Key, OldKey, Open, Path, Peer, Port, Resource, Revoked, Salt, Secret, Target, Text, To, Token}
 
 abbrev pub name_of : SettingsKey → List ℕ
 name_of Alg = codes "alg"
@@ -12,11 +12,13 @@ name_of Format = codes "format"
 name_of Hex = codes "hex"
 name_of Host = codes "host"
 name_of Key = codes "key"
+name_of OldKey = codes "old_key"
 name_of Open = codes "open"
 name_of Path = codes "path"
 name_of Peer = codes "peer"
 name_of Port = codes "port"
 name_of Resource = codes "resource"
+name_of Revoked = codes "revoked"
 name_of Salt = codes "salt"
 name_of Secret = codes "secret"
 name_of Target = codes "target"
@@ -33,11 +35,13 @@ form_of Format = codes "a number from 0 to 65535"
 form_of Hex = codes "a text of bytes in hexadecimal"
 form_of Host = codes "a text of 1 to 255 bytes"
 form_of Key = codes "a text of 16 bytes in hexadecimal"
+form_of OldKey = codes "a text of 16 bytes in hexadecimal"
 form_of Open = codes "an array of paths, as ['/e', '/log']"
 form_of Path = codes "a path, as '/e'"
 form_of Peer = codes "a text of an address and a port, as 127.0.0.1:5683"
 form_of Port = codes "a number from 1 to 65535"
 form_of Resource = codes "at most 1024 tables [[resource]] of path, format where it has one, and text or hex, of at most 512 bytes"
+form_of Revoked = codes "a path of at most 4 segments, as '/revoked'"
 form_of Salt = codes "a text of at most 64 bytes in hexadecimal"
 form_of Secret = codes "a text of 1 to 64 bytes in hexadecimal"
 form_of Target = codes "tables [[target]] of host, port and to"

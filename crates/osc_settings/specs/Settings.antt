@@ -5,7 +5,7 @@ use Rattle.osc_model.specs.{IsPath, longest_payload, most_resources}
 use Rattle.osc_model.specs.declared.algorithm.Algorithm.{Algorithm}
 use Rattle.osc_model.specs.declared.algorithm.Algorithm.TheVariants.{EightByteTag}
 use Rattle.osc_settings.specs.Document.{other_key, IsLeftOut, SpelledAt, MaySpellAt, IsAlgorithmAt, IsPortAt, ListedAt}
-use Rattle.osc_settings.specs.Values.{IsAddress, IsHost, IsOpenAddress, SpellsHex, SpellsBytes}
+use Rattle.osc_settings.specs.Values.{IsAddress, IsHost, IsOpenAddress, IsRevocationPath, SpellsHex, SpellsBytes}
 use Rattle.osc_settings.specs.declared.client.ClientSettings.{ClientSettings}
 use Rattle.osc_settings.specs.declared.key.SettingsKey.{SettingsKey}
 use Rattle.osc_settings.specs.declared.key.SettingsKey.TheVariants as key
@@ -17,7 +17,7 @@ use Rattle.osc_settings.specs.declared.server.ServerSettings.{ServerSettings}
 -- ---- of a server
 
 abbrev pub server_keys : List SettingsKey
-server_keys = key.Audience ∷ key.Bind ∷ key.Key ∷ key.Open ∷ key.Resource ∷ []
+server_keys = key.Audience ∷ key.Bind ∷ key.Key ∷ key.OldKey ∷ key.Open ∷ key.Resource ∷ key.Revoked ∷ []
 
 abbrev pub resource_keys : List SettingsKey
 resource_keys = key.Format ∷ key.Hex ∷ key.Path ∷ key.Text ∷ []
@@ -65,8 +65,10 @@ pub record AreServerSettings (document : Members) (settings : ServerSettings) : 
   pub keys : other_key server_keys document ≡ None
   pub bind : SpelledAt (codes "bind") IsAddress document settings.bind
   pub key : SpelledAt (codes "key") (SpellsBytes 16 16) document settings.key
+  pub old_key : MaySpellAt (codes "old_key") (SpellsBytes 16 16) document settings.old_key
   pub audience : get_member (codes "audience") document ≡ Some (string settings.audience)
   pub open_paths : ListedAt (codes "open") IsPathText document settings.open.items
+  pub revoked : MaySpellAt (codes "revoked") IsRevocationPath document settings.revoked
   pub resources : AreResources document settings.resources.items
 
 -- ---- of a proxy

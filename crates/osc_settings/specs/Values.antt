@@ -2,7 +2,7 @@
 use Rattle.std.specs.Prelude.{◌≡◌, ℕ, ◌≤◌, ℤ, pos, List, ◌++◌, length, codes, decimal, Ok}
 use Rattle.std.specs.Net.Grammar.{IsDotted}
 use Rattle.hex.specs.Hex.{decode_of}
-use Rattle.osc_model.specs.{algorithm_number}
+use Rattle.osc_model.specs.{algorithm_number, segments_of, IsPath}
 use Rattle.osc_model.specs.declared.algorithm.Algorithm.{Algorithm}
 use Rattle.osc_model.specs.declared.node.Peer.{Peer}
 
@@ -39,6 +39,11 @@ pub record SpellsBytes (least most : ℕ) (text bytes : List ℕ) : Type 0 where
 -- the bytes of a text that an option Uri-Host can hold: 1 to 255 (RFC 7252 section 5.10, table 4)
 abbrev pub IsHost : List ℕ → List ℕ → Type 0
 IsHost text host = (host ≡ text) × (1 ≤ length host) × (length host ≤ 255)
+
+-- a path of at most 4 segments, below which resources revoke tokens: those of a token's id, of at most 64 bytes, are four more, and a path
+-- has at most eight
+abbrev pub IsRevocationPath : List ℕ → List ℕ → Type 0
+IsRevocationPath text path = (path ≡ text) × IsPath path × (length (segments_of path) ≤ 4)
 
 -- an integer that is the number of a port
 abbrev pub IsPort : ℤ → ℕ → Type 0

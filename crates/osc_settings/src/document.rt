@@ -12,12 +12,12 @@ ghost use Rattle.osc_settings.specs.Faults.{IsFaultAt, IsKeyFault, IsOther};
 ghost use Rattle.osc_settings.specs.Keys.{name_of};
 ghost use Rattle.osc_settings.specs.Inner.Reading as reading;
 ghost use Rattle.osc_settings.specs.Inner.Reading.{IsNoDocument, text_at};
-ghost use Rattle.osc_settings.specs.Values.{IsAddressFrom, IsHost, SpellsBytes, SpellsHex};
+ghost use Rattle.osc_settings.specs.Values.{IsAddressFrom, IsHost, IsRevocationPath, SpellsBytes, SpellsHex};
 
 use crate::error::{KeyFault, SettingsError, ValueError};
 use crate::key::SettingsKey;
 use crate::values;
-use osc_model::{Algorithm, Bytes, Peer};
+use osc_model::{Algorithm, Bytes, Path, Peer};
 use std::alloc::{AllocError, Global};
 use toml::{Table, Value};
 
@@ -204,6 +204,20 @@ pub(crate) fn host_at(
 {
     match text_at(key, table) {
         Some(text) => read_at(key, values::host(alloc, text)),
+        None => Err(untyped_at(key, table)),
+    }
+}
+
+/// The revocation path at a key.
+pub(crate) fn revocation_path_at(
+    alloc: Global,
+    key: SettingsKey,
+    table: &Table,
+) -> Result<Path, SettingsError>
+    ensures { MatchResult result (SpelledAt (name_of key) IsRevocationPath (table_view table.now)) (IsKeyFault (IsFaultAt key (λ name. SpelledAt name IsRevocationPath) (table_view table.now))) }
+{
+    match text_at(key, table) {
+        Some(text) => read_at(key, values::revocation_path(alloc, text)),
         None => Err(untyped_at(key, table)),
     }
 }

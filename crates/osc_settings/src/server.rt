@@ -1,15 +1,17 @@
 //! Settings of a server.
 ghost use Rattle.std.specs.Prelude.{◌≢◌, IfErr, IfOk, MatchResult, codes};
 ghost use Rattle.toml.specs.View.{items_view, table_view, view};
-ghost use Rattle.osc_settings.specs.Document.{ListedAt, StandForEach, StandsFor};
-ghost use Rattle.osc_settings.specs.Faults.{IsFaultAt, IsKeyFault, IsServerFault, IsTextAt, Lacks};
+ghost use Rattle.osc_settings.specs.Document.{ListedAt, MaySpellAt, SpelledAt, StandForEach, StandsFor};
+ghost use Rattle.osc_settings.specs.Faults.{IsFaultAt, IsKeyFault, IsServerFault, IsTextAt, IsWrongAt, Lacks};
 ghost use Rattle.osc_settings.specs.Inner.Reading.{AllListedAt, IsRefusal, StandForAll};
 ghost use Rattle.osc_settings.specs.Settings.{AreServerSettings, IsPathText};
+ghost use Rattle.osc_settings.specs.Values.{IsRevocationPath, SpellsBytes};
 ghost use Rattle.osc_settings.specs.declared.key.SettingsKey.TheVariants as AnyKey;
 ghost use Rattle.osc_settings.specs.declared.server.ServerSettings.{ServerSettings as AnySettings};
 
 use crate::document::{
-    address_at, array_at, document, items_at, only, read_at, text_at, untyped_at,
+    address_at, array_at, document, has, items_at, only, read_at, revocation_path_at, text_at,
+    untyped_at,
 };
 use crate::error::{SettingsError, ValueError};
 use crate::key::SettingsKey;
@@ -22,12 +24,14 @@ use std::fmt;
 use toml::{Table, Value};
 
 /// The keys of its settings.
-const KEYS: [SettingsKey; 5] = [
+const KEYS: [SettingsKey; 7] = [
     SettingsKey::Audience,
     SettingsKey::Bind,
     SettingsKey::Key,
+    SettingsKey::OldKey,
     SettingsKey::Open,
     SettingsKey::Resource,
+    SettingsKey::Revoked,
 ];
 
 /// What a server is told.
@@ -37,12 +41,16 @@ pub struct ServerSettings {
     pub bind: Peer,
     /// The key that it shares with those who issue tokens: `key`, 16 bytes in hexadecimal.
     pub key: [u8; 16],
+    /// Its former key, at a change of key: `old_key`, 16 bytes in hexadecimal. It may be left out.
+    pub old_key: Option<[u8; 16]>,
     /// Its name in tokens: `audience`, a text.
     pub audience: Audience,
     /// The paths whose resources everyone may GET: `open`, an array of their texts.
     pub open: Vec<Path>,
     /// What it has at first: a table `[[resource]]` each, at most 1024. Of several with one path the last counts.
     pub resources: Vec<ResourceSetting>,
+    /// The path below which resources revoke tokens, by the tokens' ids: `revoked`, a text of at most 4 segments. It may be left out.
+    pub revoked: Option<Path>,
 }
 
 // The key isn't printed.
@@ -52,12 +60,13 @@ impl fmt::Debug for ServerSettings {
     }
 }
 
-/// Reads the settings of a server: a document with the keys `bind`, `key`, `audience` and `open`, if need be with `resource`, and with no
-/// other. A resource has the keys `path`, and `text` or `hex`, if need be `format`, and no other.
+/// Reads the settings of a server: a document with the keys `bind`, `key`, `audience` and `open`, if need be with `old_key`,
+/// `revoked` and `resource`, and with no other. A resource has the keys `path`, and `text` or `hex`, if need be `format`, and no other.
 ///
 /// # Errors
 ///
-/// The first fault where the text is no such document, `bind` before `key`, `audience`, `open` and `resource`, and `Memory` for want of memory.
+/// The first fault where the text is no such document, `bind` before `key`, `old_key`, `audience`, `open`, `revoked` and
+/// `resource`, and `Memory` for want of memory.
 pub fn read_server_settings(alloc: Global, text: &str) -> Result<ServerSettings, SettingsError>
     ensures read { IfOk result (StandsFor AreServerSettings text.now) }
     ensures lacks { IfErr result (Lacks (λ document. IsKeyFault (IsServerFault document)) text.now) }
@@ -74,8 +83,10 @@ fn settings_in(alloc: Global, table: &Table) -> Result<ServerSettings, SettingsE
     Ok(ServerSettings {
         bind: address_at(alloc, SettingsKey::Bind, table, 1)?,
         key: array_at(SettingsKey::Key, table)?,
+        old_key: old_key(table)?,
         audience: audience(alloc, table)?,
         open: open_paths(alloc, table)?,
+        revoked: revoked(alloc, table)?,
         resources: resources(alloc, table)?,
     })
 }
@@ -99,6 +110,30 @@ fn open_paths(alloc: Global, table: &Table) -> Result<Vec<Path>, SettingsError>
     match items_at(SettingsKey::Open, table) {
         Some(values) => read_at(SettingsKey::Open, paths(alloc, values)),
         None => Err(untyped_at(SettingsKey::Open, table)),
+    }
+}
+
+fn old_key(table: &Table) -> Result<Option<[u8; 16]>, SettingsError>
+    ensures { MatchResult result
+        (MaySpellAt (codes "old_key") (SpellsBytes 16 16) (table_view table.now))
+        (IsKeyFault (IsWrongAt AnyKey.OldKey (λ name. SpelledAt name (SpellsBytes 16 16)) (table_view table.now))) }
+{
+    if has(SettingsKey::OldKey, table) {
+        Ok(Some(array_at(SettingsKey::OldKey, table)?))
+    } else {
+        Ok(None)
+    }
+}
+
+fn revoked(alloc: Global, table: &Table) -> Result<Option<Path>, SettingsError>
+    ensures { MatchResult result
+        (MaySpellAt (codes "revoked") IsRevocationPath (table_view table.now))
+        (IsKeyFault (IsWrongAt AnyKey.Revoked (λ name. SpelledAt name IsRevocationPath) (table_view table.now))) }
+{
+    if has(SettingsKey::Revoked, table) {
+        Ok(Some(revocation_path_at(alloc, SettingsKey::Revoked, table)?))
+    } else {
+        Ok(None)
     }
 }
 

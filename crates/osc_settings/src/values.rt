@@ -1,15 +1,20 @@
 //! What the texts and the numbers of a document spell.
-ghost use Rattle.std.specs.Prelude.{◌≡◌, ◌↔◌, IfOk, IsTrue, MatchResult};
+ghost use Rattle.std.specs.Prelude.{◌≡◌, ◌==◌, ◌↔◌, length, IfOk, IsTrue, MatchResult};
+ghost use Rattle.std.specs.List.{count_by};
+ghost use Rattle.osc_model.specs.{segments_of};
 ghost use Rattle.std.specs.Net.Grammar.{IsSocketV4Text};
 ghost use Rattle.std.specs.Net.Text.{socket_v4_text};
 ghost use Rattle.osc_settings.specs.Inner.Reading.{IsRefusal, SpellsPath};
-ghost use Rattle.osc_settings.specs.Values.{IsAddressFrom, IsAlgorithm, IsHost, IsPort, SpellsBytes, SpellsHex};
+ghost use Rattle.osc_settings.specs.Values.{IsAddressFrom, IsAlgorithm, IsHost, IsPort, IsRevocationPath, SpellsBytes, SpellsHex};
 
 use crate::error::ValueError;
 use hex::{FromHex, FromHexError};
 use osc_model::{Algorithm, Bytes, Path, Peer};
 use std::alloc::{AllocError, Global};
 use std::net::SocketAddrV4;
+
+/// The most segments of a revocation path: with those of a token's id it isn't too long.
+const MOST_SEGMENTS: usize = 4;
 
 /// The most bytes of a Uri-Host option (RFC 7252 section 5.10, table 4).
 const LONGEST_HOST: usize = 255;
@@ -110,6 +115,30 @@ pub(crate) fn path(alloc: Global, text: &str) -> Result<Path, ValueError>
         Some(path) => Ok(path),
         None => Err(ValueError::Bad),
     }
+}
+
+/// A path of at most 4 segments, of a text.
+pub(crate) fn revocation_path(alloc: Global, text: &str) -> Result<Path, ValueError>
+    ensures { MatchResult result (IsRevocationPath text.now) (IsRefusal (IsRevocationPath text.now)) }
+{
+    let path = path(alloc, text)?;
+    if segments(&path) > MOST_SEGMENTS {
+        return Err(ValueError::Bad);
+    }
+    Ok(path)
+}
+
+// How many segments the path has: one after each `/` of its text.
+fn segments(path: &Path) -> usize
+    ensures { result ≡ length (segments_of path.now) }
+{
+    slashes(path.text())
+}
+
+fn slashes(text: &[u8]) -> usize
+    ensures { result ≡ count_by (λ b. b == 47) text.now }
+{
+    text.iter().filter(|b| **b == b'/').count()
 }
 
 /// The port of a number.

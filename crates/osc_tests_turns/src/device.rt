@@ -24,7 +24,9 @@ fn parts(alloc: Global) -> Result<ServerParts, AllocError> {
         tree: Tree::new(alloc),
         open_scope: Scope::new(alloc),
         key: KEY,
+        old_key: None,
         audience: Audience::new(alloc, "s")?,
+        revoked: None,
     })
 }
 

@@ -48,7 +48,9 @@ fn parts(alloc: Global, key: &PlainKey, name: &[u8], free: &[u8]) -> Result<Serv
         tree: Tree::new(alloc),
         open_scope: open_scope(alloc, free)?,
         key,
+        old_key: None,
         audience: audience(alloc, name)?,
+        revoked: None,
     })
 }
 

@@ -1,0 +1,17 @@
+use Rattle.std.proofs.Common.{List, ℕ}
+use Rattle.std.proofs.lemmas.Result.{err_from_is_err_and}
+use Rattle.osc_settings.specs.{IsRevocationPath}
+use Rattle.osc_settings.specs.Inner.Reading.{IsRefusal, SpellsPath}
+use Rattle.osc_settings.specs.declared.error.ValueError.{ValueError}
+use Rattle.osc_settings.specs.declared.error.ValueError.TheVariants.{Bad, Memory}
+use Rattle.osc_settings.proofs.values.revocation_path.Goals as goal
+
+-- what is no path is none of so few segments
+refused : (text : List ℕ) (error : ValueError) → IsRefusal (SpellsPath text) error → IsRefusal (IsRevocationPath text) error
+refused text Bad none = λ path is. none path (is.0, is.1)
+refused text Memory none = tt
+
+pub returns-in_err-path : goal.returns-in_err-path
+returns-in_err-path c =
+    let p = err_from_is_err_and c.from_residual.result c.from_residual.ensures.1 in
+    rw (p.1, p.2) (refused c.args.text.now c.in_err-path.field-0.0 c.in_err-path.ensures)
