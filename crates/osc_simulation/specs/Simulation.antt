@@ -116,12 +116,13 @@ abbrev pub with_proxies : Beginning → List ProxyName → Beginning
 with_proxies start [] = start
 with_proxies start (proxy ∷ proxies) = with_proxies (with_new_proxy start proxy) proxies
 
--- Nobody is enrolled yet. Tokens are sealed under the key 40 to 4f, for the audience `s`.
+-- Nobody is enrolled yet. Tokens are sealed under the key 40 to 4f alone, for the audience `s`.
 abbrev pub first_start : List Line → Beginning
 first_start lines = record {
   first = tree_from map.empty lines;
   open_scope = scope_from set.empty lines;
   key = token_key;
+  old_key = None;
   audience = codes "s";
   revoked = revocation_in lines;
   server_at = address_of Server;
