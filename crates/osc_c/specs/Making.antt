@@ -1,5 +1,5 @@
 -- Devices that are made of keys, names and scopes.
-use Rattle.std.specs.Prelude.{◌≡◌, ℕ, ◌⊎◌, List, [], take, drop, codes}
+use Rattle.std.specs.Prelude.{◌≡◌, ℕ, ◌⊎◌, List, [], take, drop, codes, None}
 use Rattle.std.specs.Str.{IsUtf8}
 use Rattle.std.specs.FinMap as map
 use Rattle.std.specs.FinSet as set
