@@ -27,8 +27,8 @@ use std::random::RandomSource;
 use std::time::Clock;
 
 /// Runs the script that the reader gives with a server, clients and proxies on sockets of this machine, in one process, which take
-/// their turns one after another: moments are those of the clock, and random bytes are drawn. Its lines are `put`, `open`, `grant`,
-/// `via`, `exchange` and `ask`. After each exchange or request the nodes take turns until its client waits for nothing and no node was
+/// their turns one after another: moments are those of the clock, and random bytes are drawn. Its lines are `put`, `open`, `revoked`,
+/// `grant`, `via`, `exchange` and `ask`. After each exchange or request the nodes take turns until its client waits for nothing and no node was
 /// busy in a whole turn, or until so many whole turns are gone; a client that waits still is `open` then. It writes what the clients
 /// learn, as it comes, and the end lines.
 ///
@@ -139,6 +139,7 @@ fn is_of_a_lab(line: &Line) -> bool {
         Line::Skipped
             | Line::Put { .. }
             | Line::Open { .. }
+            | Line::Revoked { .. }
             | Line::Grant { .. }
             | Line::Via { .. }
             | Line::Exchange { .. }
