@@ -415,7 +415,9 @@ fn sixty_four_tokens_have_contexts(rt: HostRuntime) {
     let mut desk = desk_of(rt.alloc()).expect(&rt, "memory");
     fill(&rt, rt.alloc(), &mut desk);
     for id in 1..65u8 {
-        assert!(rt; is_found(&desk, alloc, 99_999, id) && !is_found(&desk, alloc, 100_000, id));
+        assert!(rt;
+            is_found(&desk, rt.alloc(), 99_999, id) && !is_found(&desk, rt.alloc(), 100_000, id)
+        );
     }
     post_further(&rt, rt.alloc(), &mut desk);
     drop(desk);
