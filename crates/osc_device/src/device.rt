@@ -1,5 +1,5 @@
 //! The device.
-ghost use Rattle.std.specs.Prelude.{◌≡◌, ◌≢◌, ◌∷◌, ◌<◌, ◌≤◌, ◌↔◌, ℕ, true, false, [], List, None, Some, length, IfErr, IfNone, IfOk, IfSome, OnErr};
+ghost use Rattle.std.specs.Prelude.{◌≡◌, ◌≢◌, ◌∷◌, ◌<◌, ◌≤◌, ◌↔◌, ℕ, true, false, [], List, None, Some, length, IfErr, IfNone, IfOk, IfSome, IsSome, OnErr};
 ghost use Rattle.osc_model.specs.Refusals as refusal;
 ghost use Rattle.osc_scope.specs.{Entry, IsScope};
 ghost use Rattle.osc_token.specs.declared.claims.Claims.{Claims as AnyClaims};
@@ -361,6 +361,8 @@ impl Device {
         ensures run { IfOk result (λ found. IfSome found (λ round. AllGoOn self.old (λ number. noted number round) self.new)) }
         ensures entry { IfOk result (λ found. IfSome found (λ round. IsOfAnEntry self.old round)) }
         ensures err { OnErr result (self.new ≡ self.old) }
+        // Without a revocation path nothing takes memory.
+        ensures needs_memory { OnErr result (IsSome self.old.server.desk.revoked) }
     {
         match self.server.desk().revocation_of(alloc, id)? {
             Some(path) => {
@@ -398,6 +400,8 @@ impl Device {
         ensures run { IfOk result (λ found. IfSome found (λ round. AllGoOn self.old (λ number. noted number round) self.new)) }
         ensures entry { IfOk result (λ found. IfSome found (λ round. IsOfAnEntry self.old round)) }
         ensures err { OnErr result (self.new ≡ self.old) }
+        // Without a revocation path nothing takes memory.
+        ensures needs_memory { OnErr result (IsSome self.old.server.desk.revoked) }
     {
         match self.server.desk().revocation_of(alloc, id)? {
             Some(path) => {

@@ -162,8 +162,8 @@ IsKnown above (node.Client client) = IsGranted above client
 IsKnown above (node.Proxy proxy) = IsMade above proxy
 IsKnown above node.Stranger = Unit {0}
 
--- Set-up lines stand before the first event, a path is put once, there is one revocation path at most, a client is granted once and before other lines name it, it is sent
--- by a proxy once, a proxy is made before events name it, and the moment doesn't fall.
+-- Set-up lines stand before the first event, a path is put once, there is one revocation path at most, a client is granted once and
+-- before other lines name it, it is sent by a proxy once, a proxy is made before events name it, and the moment doesn't fall.
 abbrev pub MayFollow : List Line → Line → Type 0
 MayFollow above (Put path resource) = (list_any is_event above ≡ false) × (list_any (puts path) above ≡ false) × (count_by is_put above < most_resources)
 MayFollow above (Open path) = list_any is_event above ≡ false

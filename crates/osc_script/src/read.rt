@@ -41,9 +41,9 @@ impl<T: Drop> From<AllocFailed<T>> for ScriptError {
 /// and are words parted by one space each.
 ///
 /// Set-up lines (`put`, `open`, `revoked`, `grant`, `proxy`, `via`) stand before the first event, which is any line but those and `at`, `draw`,
-/// `drop` and `skip`. A path is put once, and at most 1024 are. At most one line says the revocation path. A client is granted once, and a line that names it stands behind its
-/// grant; at most one says by which proxy it sends. An event that names a proxy stands behind a line that makes it. The moment
-/// doesn't fall.
+/// `drop` and `skip`. A path is put once, and at most 1024 are. At most one line says the revocation path. A client is granted once, and a
+/// line that names it stands after its grant; at most one says by which proxy it sends. An event that names a proxy stands after a line
+/// that makes it. The moment doesn't fall.
 ///
 /// `OutOfMemory` says nothing of the text.
 pub fn read_script(alloc: Global, text: &[u8]) -> Result<Script, ScriptError>

@@ -26,7 +26,8 @@ use Rattle.osc_world.specs.declared.nodes.Placed.{Placed}
 use Rattle.osc_world.specs.declared.start.Holder.{Holder}
 
 -- the resources; what needs no protection; the key of tokens, the former key, if tokens under that are taken, and for whom they are; the
--- path below which resources revoke them, if there is one; where the server stands; the grants with the texts of their tokens; and the clients and the proxies, each with where it stands
+-- path below which resources revoke them, if there is one; where the server stands; the grants with the texts of their tokens; and the
+-- clients and the proxies, each with where it stands
 pub record Beginning : Type 0 where
   pub first : Tree
   pub open_scope : Scope

@@ -48,8 +48,8 @@ pub struct Holder {
 }
 
 /// A world before its first event: the resources, what needs no protection, the key that the issuer of tokens and the server share, for
-/// whom tokens are, the path below which resources revoke them, where the server stands, the clients that were enrolled, and the proxies that were added. No two nodes stand at one
-/// address.
+/// whom tokens are, the former key, the path below which resources revoke tokens, where the server stands, the clients that were enrolled,
+/// and the proxies that were added. No two nodes stand at one address.
 #[derive(Drop)]
 pub struct Start {
     first: Tree,
