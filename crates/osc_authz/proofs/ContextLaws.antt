@@ -7,6 +7,7 @@ use Rattle.std.proofs.lemmas.Slice.Eq.{bytes_eq-Decides}
 use Rattle.osc_model.specs.{stands as stands_at}
 use Rattle.osc_authz.specs.Standing.{Standing}
 use Rattle.osc_authz.specs.SecurityContext.{SecurityContext}
+use Rattle.osc_authz.specs.declared.agreed_post.AgreedPost.{AgreedPost}
 use Rattle.osc_authz.specs.{listed, contexts, is_live, holds_live, alive, has_id, taking, accepted_in, accepted, with_pending, IsTable, In, OfToken, pending_of, of_token, of_tokens, IsConfirmedOf, IsPendingOf, confirmed_by, IsLive, AreKept, HasAdded, HasTaken}
 use Rattle.osc_authz.specs.declared.token_entry.TokenEntry.{TokenEntry}
 use Rattle.osc_authz.proofs.Members.{in_front, in_back, in_either, mapped_in, in_mapped, in_filter, filtered_in, one_of_text}
@@ -115,18 +116,20 @@ one_holding table g h is_table m n e = one_of_text (λ (x : TokenEntry). x.id) t
 
 -- ---- those that live
 
-live_test : (begins ends : Option ℕ) (t : ℕ) (revoked : Bool) → ForSome begins (λ s. s ≤ t) → ForSome ends (λ s. t < s) → revoked ≡ false
-    → (option_map_or (λ s. nat_le s t) begins true && option_map_or (λ s. nat_lt t s) ends true && not revoked) ≡ true
-live_test None None t revoked b e r = rw r refl
-live_test None (Some end) t revoked b e r = let one : nat_lt t end ≡ true = lt-ltb t end (e end refl) in rw (one, r) refl
-live_test (Some begin) None t revoked b e r = let one : nat_le begin t ≡ true = le-leb begin t (b begin refl) in rw (one, r) refl
-live_test (Some begin) (Some end) t revoked b e r =
-    let one : nat_le begin t ≡ true = le-leb begin t (b begin refl) in
-    let two : nat_lt t end ≡ true = lt-ltb t end (e end refl) in
-    rw (one, two, r) refl
+begun_test : (begins : Option ℕ) (t : ℕ) → ForSome begins (λ s. s ≤ t) → option_map_or (λ s. nat_le s t) begins true ≡ true
+begun_test None t b = refl
+begun_test (Some begin) t b = le-leb begin t (b begin refl)
+
+end_test : (ends : Option ℕ) (t : ℕ) → ForSome ends (λ s. t < s) → option_map_or (λ s. nat_lt t s) ends true ≡ true
+end_test None t e = refl
+end_test (Some end) t e = lt-ltb t end (e end refl)
+
+live_test : (begins ends ages : Option ℕ) (t : ℕ) (revoked : Bool) → ForSome begins (λ s. s ≤ t) → ForSome ends (λ s. t < s) → revoked ≡ false → ForSome ages (λ s. t < s)
+    → (option_map_or (λ s. nat_le s t) begins true && option_map_or (λ s. nat_lt t s) ends true && not revoked && option_map_or (λ s. nat_lt t s) ages true) ≡ true
+live_test begins ends ages t revoked b e r y = rw (begun_test begins t b, end_test ends t e, r, end_test ages t y) refl
 
 lives : (now : Standing) (c : SecurityContext) → IsLive now c → is_live now c ≡ true
-lives now c live = live_test c.not_before c.expires (now.at.ms / 1000) (stands_at now.tree c.revocation) live.begun live.not_over live.unrevoked
+lives now c live = live_test c.not_before c.expires c.ends (now.at.ms / 1000) (stands_at now.tree c.revocation) live.begun live.not_over live.unrevoked live.young
 
 first_or : (a b : Bool) → a ≡ true → (a || b) ≡ true
 first_or true b e = refl
@@ -157,7 +160,7 @@ kept now table = record { only = of_alive now table; live = is_alive now table }
 
 -- ---- one more
 
-module _ (token : List ℕ) (held : SecurityContext) where
+module _ (token : List ℕ) (held : SecurityContext) (remember : List AgreedPost → List AgreedPost) where
   -- an entry beside one more pending context: one of before, or the token id's, whose confirmed one is that of before
   data With (g : TokenEntry) (table : List TokenEntry) : Type 0 where
     Other : In g table → With g table
@@ -172,13 +175,13 @@ module _ (token : List ℕ) (held : SecurityContext) where
   nothing : (d : SecurityContext) → None ≡ Some d → ⊥
   nothing d e = cc
 
-  with_one : (table : List TokenEntry) (g : TokenEntry) → In g (with_pending token held table) → With g table
+  with_one : (table : List TokenEntry) (g : TokenEntry) → In g (with_pending token held remember table) → With g table
   with_one [] g (inl e) = Changed (ap (λ (x : TokenEntry). x.id) e) (ap (λ (x : TokenEntry). x.pending) e) (λ d k. absurd (nothing d (sym (ap (λ (x : TokenEntry). x.confirmed) e) ∙ k)))
   with_one [] g (inr m) = absurd m
   with_one (h ∷ table) g m = by (bytes_eq token h.id) refl m (with_one table g)
     where
-      by : (b : Bool) → bytes_eq token h.id ≡ b → In g (cond b ((record h { pending = Some held }) ∷ table) (h ∷ with_pending token held table))
-          → (In g (with_pending token held table) → With g table) → With g (h ∷ table)
+      by : (b : Bool) → bytes_eq token h.id ≡ b → In g (cond b ((record h { pending = Some held; posts = remember h.posts }) ∷ table) (h ∷ with_pending token held remember table))
+          → (In g (with_pending token held remember table) → With g table) → With g (h ∷ table)
       by true same (inl e) rest =
           let is : h.id ≡ token = sym ((bytes_eq-Decides token h.id).0 same) in
           Changed (ap (λ (x : TokenEntry). x.id) e ∙ is) (ap (λ (x : TokenEntry). x.pending) e) (λ d k. (h, inl refl, is, sym (ap (λ (x : TokenEntry). x.confirmed) e) ∙ k))
@@ -186,13 +189,13 @@ module _ (token : List ℕ) (held : SecurityContext) where
       by false other (inl e) rest = Other (inl e)
       by false other (inr m) rest = later g h table (rest m)
 
-  has_new : (table : List TokenEntry) → (g : TokenEntry) × In g (with_pending token held table) × (g.id ≡ token) × (g.pending ≡ Some held)
-  has_new [] = (record { id = token; confirmed = None; pending = Some held }, inl refl, refl, refl)
+  has_new : (table : List TokenEntry) → (g : TokenEntry) × In g (with_pending token held remember table) × (g.id ≡ token) × (g.pending ≡ Some held)
+  has_new [] = (record { id = token; confirmed = None; pending = Some held; posts = remember [] }, inl refl, refl, refl)
   has_new (h ∷ table) = by (bytes_eq token h.id) refl (has_new table)
     where
-      by : (b : Bool) → bytes_eq token h.id ≡ b → (g : TokenEntry) × In g (with_pending token held table) × (g.id ≡ token) × (g.pending ≡ Some held)
-          → (g : TokenEntry) × In g (cond b ((record h { pending = Some held }) ∷ table) (h ∷ with_pending token held table)) × (g.id ≡ token) × (g.pending ≡ Some held)
-      by true same rest = (record h { pending = Some held }, inl refl, sym ((bytes_eq-Decides token h.id).0 same), refl)
+      by : (b : Bool) → bytes_eq token h.id ≡ b → (g : TokenEntry) × In g (with_pending token held remember table) × (g.id ≡ token) × (g.pending ≡ Some held)
+          → (g : TokenEntry) × In g (cond b ((record h { pending = Some held; posts = remember h.posts }) ∷ table) (h ∷ with_pending token held remember table)) × (g.id ≡ token) × (g.pending ≡ Some held)
+      by true same rest = (record h { pending = Some held; posts = remember h.posts }, inl refl, sym ((bytes_eq-Decides token h.id).0 same), refl)
       by false other rest = (rest.0, inr rest.1, rest.2, rest.3)
 
   -- what becomes of an entry
@@ -203,14 +206,14 @@ module _ (token : List ℕ) (held : SecurityContext) where
     confirmed : new.confirmed ≡ h.confirmed
     pending : (h.id ≡ token) ⊎ (new.pending ≡ h.pending)
 
-  stays : (table : List TokenEntry) (h : TokenEntry) → In h table → StillIn h (with_pending token held table)
+  stays : (table : List TokenEntry) (h : TokenEntry) → In h table → StillIn h (with_pending token held remember table)
   stays [] h m = absurd m
   stays (k ∷ table) h m = by (bytes_eq token k.id) refl m (stays table h)
     where
-      by : (b : Bool) → bytes_eq token k.id ≡ b → In h (k ∷ table) → (In h table → StillIn h (with_pending token held table))
-          → StillIn h (cond b ((record k { pending = Some held }) ∷ table) (k ∷ with_pending token held table))
+      by : (b : Bool) → bytes_eq token k.id ≡ b → In h (k ∷ table) → (In h table → StillIn h (with_pending token held remember table))
+          → StillIn h (cond b ((record k { pending = Some held; posts = remember k.posts }) ∷ table) (k ∷ with_pending token held remember table))
       by true same (inl e) rest = record {
-        new = record k { pending = Some held };
+        new = record k { pending = Some held; posts = remember k.posts };
         among = inl refl;
         id = ap (λ (x : TokenEntry). x.id) (sym e);
         confirmed = ap (λ (x : TokenEntry). x.confirmed) (sym e);
@@ -235,38 +238,38 @@ module _ (token : List ℕ) (held : SecurityContext) where
       inr (stood table c (record { entry = r.0; among = r.1; token = t ∙ id ∙ sym r.2; here = ap (λ x. slot x r.0) k ∙ r.3 }))
   came_from table c g t (Changed id pending from) false k e = inl (alike c token false held (t ∙ id) k (one_of c.held held g.pending e pending))
 
-  only_one : (table : List TokenEntry) (c : OfToken) → In c (of_tokens (with_pending token held table)) → (c ≡ pending_of token held) ⊎ In c (of_tokens table)
+  only_one : (table : List TokenEntry) (c : OfToken) → In c (of_tokens (with_pending token held remember table)) → (c ≡ pending_of token held) ⊎ In c (of_tokens table)
   only_one table c m =
-      let s = stands (with_pending token held table) c m in
+      let s = stands (with_pending token held remember table) c m in
       came_from table c s.entry s.token (with_one table s.entry s.among) c.is_confirmed refl s.here
 
-  pub has_pending : (table : List TokenEntry) → In (pending_of token held) (of_tokens (with_pending token held table))
+  pub has_pending : (table : List TokenEntry) → In (pending_of token held) (of_tokens (with_pending token held remember table))
   has_pending table =
       let g = has_new table in
-      stood (with_pending token held table) (pending_of token held) (record { entry = g.0; among = g.1; token = sym g.2; here = g.3 })
+      stood (with_pending token held remember table) (pending_of token held) (record { entry = g.0; among = g.1; token = sym g.2; here = g.3 })
 
-  no_other : (table : List TokenEntry) → IsTable (with_pending token held table) → (c : OfToken) → In c (of_tokens (with_pending token held table)) → IsPendingOf token c → c ≡ pending_of token held
+  no_other : (table : List TokenEntry) → IsTable (with_pending token held remember table) → (c : OfToken) → In c (of_tokens (with_pending token held remember table)) → IsPendingOf token c → c ≡ pending_of token held
   no_other table is_table c m is =
-      let s = stands (with_pending token held table) c m in
+      let s = stands (with_pending token held remember table) c m in
       let g = has_new table in
-      let one : s.entry ≡ g.0 = one_holding (with_pending token held table) s.entry g.0 is_table s.among g.1 (sym s.token ∙ is.0 ∙ sym g.2) in
+      let one : s.entry ≡ g.0 = one_holding (with_pending token held remember table) s.entry g.0 is_table s.among g.1 (sym s.token ∙ is.0 ∙ sym g.2) in
       let its : g.0.pending ≡ Some c.held = ap (λ (x : TokenEntry). x.pending) (sym one) ∙ sym (ap (λ b. slot b s.entry) is.1) ∙ s.here in
       alike c token false held is.0 is.1 (one_of c.held held g.0.pending its g.3)
 
-  stays_or : (table : List TokenEntry) (c : OfToken) → Stands c table → (b : Bool) → c.is_confirmed ≡ b → In c (of_tokens (with_pending token held table)) ⊎ IsPendingOf token c
+  stays_or : (table : List TokenEntry) (c : OfToken) → Stands c table → (b : Bool) → c.is_confirmed ≡ b → In c (of_tokens (with_pending token held remember table)) ⊎ IsPendingOf token c
   stays_or table c s true k =
       let r = stays table s.entry s.among in
-      inl (stood (with_pending token held table) c (record { entry = r.new; among = r.among; token = s.token ∙ sym r.id; here = ap (λ b. slot b r.new) k ∙ r.confirmed ∙ sym (ap (λ b. slot b s.entry) k) ∙ s.here }))
+      inl (stood (with_pending token held remember table) c (record { entry = r.new; among = r.among; token = s.token ∙ sym r.id; here = ap (λ b. slot b r.new) k ∙ r.confirmed ∙ sym (ap (λ b. slot b s.entry) k) ∙ s.here }))
   stays_or table c s false k =
       let r = stays table s.entry s.among in
       ⊎_elim
       (λ (e : s.entry.id ≡ token). inr (s.token ∙ e, k))
       (λ (e : r.new.pending ≡ s.entry.pending).
-      inl (stood (with_pending token held table) c (record { entry = r.new; among = r.among; token = s.token ∙ sym r.id; here = ap (λ b. slot b r.new) k ∙ e ∙ sym (ap (λ b. slot b s.entry) k) ∙ s.here })))
+      inl (stood (with_pending token held remember table) c (record { entry = r.new; among = r.among; token = s.token ∙ sym r.id; here = ap (λ b. slot b r.new) k ∙ e ∙ sym (ap (λ b. slot b s.entry) k) ∙ s.here })))
       r.pending
 
-  pub table_added : (now : Standing) (table : List TokenEntry) → IsTable (with_pending token held (alive now table))
-      → HasAdded now token held (of_tokens table) (of_tokens (with_pending token held (alive now table)))
+  pub table_added : (now : Standing) (table : List TokenEntry) → IsTable (with_pending token held remember (alive now table))
+      → HasAdded now token held (of_tokens table) (of_tokens (with_pending token held remember (alive now table)))
   table_added now table is_table = record {
     only = λ c m. ⊎_elim (λ (e : c ≡ pending_of token held). inl e) (λ (i : In c (of_tokens (alive now table))). inr (of_alive now table c i)) (only_one (alive now table) c m);
     here = has_pending (alive now table);

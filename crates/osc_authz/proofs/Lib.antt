@@ -17,3 +17,6 @@ mod Members
 mod ContextLaws
 mod MeantLaws
 mod OneNameLaws
+mod KnownLaws
+mod NameLemmas
+mod RoomLemmas

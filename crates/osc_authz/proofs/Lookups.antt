@@ -7,6 +7,7 @@ use Rattle.std.proofs.lemmas.Bool.{both_ways, cond-false, cond-true, ltb-true, l
 use Rattle.std.proofs.lemmas.Slice.Eq.{bytes_eq-Decides}
 use Rattle.osc_authz.specs.declared.token_entry.TokenEntry.{TokenEntry}
 use Rattle.osc_authz.specs.SecurityContext.{SecurityContext}
+use Rattle.osc_authz.specs.declared.agreed_post.AgreedPost.{AgreedPost}
 use Rattle.osc_authz.specs.{IsTable, accepted, accepted_in, contexts, has_id, holds_id, ids, listed, taking, with_id, with_pending}
 
 -- ---- a request opened
@@ -229,27 +230,27 @@ module _ (id : List ℕ) (number : ℕ) where
       let it : other ≡ held = cc in
       cond-true (has_id id other) (Some (taking number other)) (find (has_id id) rest) has ∙ ap (λ h. Some (taking number h)) it
 
-  found_in : (i : List ℕ) (c p : Option SecurityContext) (rest later : List SecurityContext) (held : SecurityContext) → IsDistinct bytes_eq (client_ids (listed c ++ listed p ++ rest))
+  found_in : (i : List ℕ) (posts : List AgreedPost) (c p : Option SecurityContext) (rest later : List SecurityContext) (held : SecurityContext) → IsDistinct bytes_eq (client_ids (listed c ++ listed p ++ rest))
       → (option_map_or (has_id id) c false || option_map_or (has_id id) p false) ≡ true → find (has_id id) (listed c ++ listed p ++ rest) ≡ Some held
-      → find (has_id id) (before (accepted_in id number (record { id = i; confirmed = c; pending = p })) later) ≡ Some (taking number held)
+      → find (has_id id) (before (accepted_in id number (record { id = i; confirmed = c; pending = p; posts = posts })) later) ≡ Some (taking number held)
   unfolding IsDistinct
-  found_in i None None rest later held apart has found = absurd (cc)
-  found_in i None (Some other) rest later held apart has found = by (has_id id other) has
+  found_in i posts None None rest later held apart has found = absurd (cc)
+  found_in i posts None (Some other) rest later held apart has found = by (has_id id other) has
     where
       by : (b : Bool) → b ≡ true
-          → find (has_id id) (before (cond b (record { id = i; confirmed = Some (taking number other); pending = None }) (record { id = i; confirmed = None; pending = Some other })) later) ≡ Some (taking number held)
+          → find (has_id id) (before (cond b (record { id = i; confirmed = Some (taking number other); pending = None; posts = posts }) (record { id = i; confirmed = None; pending = Some other; posts = posts })) later) ≡ Some (taking number held)
       by true t = taken_one held other later has (sym (cond-true (has_id id other) (Some other) (find (has_id id) rest) has) ∙ found)
       by false t = absurd (cc)
-  found_in i (Some other) None rest later held apart has found = by (has_id id other) refl has
+  found_in i posts (Some other) None rest later held apart has found = by (has_id id other) refl has
     where
       by : (b : Bool) → has_id id other ≡ b → (b || false) ≡ true
-          → find (has_id id) (before (cond b (record { id = i; confirmed = Some (taking number other); pending = None }) (record { id = i; confirmed = Some other; pending = None })) later) ≡ Some (taking number held)
+          → find (has_id id) (before (cond b (record { id = i; confirmed = Some (taking number other); pending = None; posts = posts }) (record { id = i; confirmed = Some other; pending = None; posts = posts })) later) ≡ Some (taking number held)
       by true t e = taken_one held other later t (sym (cond-true (has_id id other) (Some other) (find (has_id id) rest) t) ∙ found)
       by false t e = absurd (cc)
-  found_in i (Some first) (Some second) rest later held apart has found = by (has_id id first) (has_id id second) refl refl has
+  found_in i posts (Some first) (Some second) rest later held apart has found = by (has_id id first) (has_id id second) refl refl has
     where
       by : (b d : Bool) → has_id id first ≡ b → has_id id second ≡ d → (b || d) ≡ true
-          → find (has_id id) (before (cond d (record { id = i; confirmed = Some (taking number second); pending = None }) (cond b (record { id = i; confirmed = Some (taking number first); pending = Some second }) (record { id = i; confirmed = Some first; pending = Some second }))) later) ≡ Some (taking number held)
+          → find (has_id id) (before (cond d (record { id = i; confirmed = Some (taking number second); pending = None; posts = posts }) (cond b (record { id = i; confirmed = Some (taking number first); pending = Some second; posts = posts }) (record { id = i; confirmed = Some first; pending = Some second; posts = posts }))) later) ≡ Some (taking number held)
       by true true t u e = absurd (both_ways (has_id id second) (none_of first (second ∷ rest) t apart.0).0 u)
       by true false t u e = taken_one held first (second ∷ later) t (sym (cond-true (has_id id first) (Some first) (find (has_id id) (second ∷ rest)) t) ∙ found)
       by false true t u e =
@@ -264,7 +265,7 @@ module _ (id : List ℕ) (number : ℕ) where
     where
       by : (b : Bool) → holds_id id entry ≡ b → (with_id id table ≡ Some held → with_id id (accepted id number table) ≡ Some (taking number held))
           → with_id id (accepted_in id number entry ∷ accepted id number table) ≡ Some (taking number held)
-      by true has up = found_in entry.id entry.confirmed entry.pending (contexts table) (contexts (accepted id number table)) held apart has found
+      by true has up = found_in entry.id entry.posts entry.confirmed entry.pending (contexts table) (contexts (accepted id number table)) held apart has found
       by false has up =
           rw (untouched entry has)
           (misses entry.confirmed entry.pending (contexts (accepted id number table)) has ∙ up (sym (misses entry.confirmed entry.pending (contexts table) has) ∙ found))
@@ -278,61 +279,61 @@ each_of P id table held i d is_table found here within =
 -- ---- where a token id stands
 
 -- a change of the entry at the place, or a new one at the end
-put_within : (token : List ℕ) (held : SecurityContext) (table : List TokenEntry) (d : TokenEntry) → position_or_len (λ entry. bytes_eq token entry.id) table < length table
+put_within : (token : List ℕ) (held : SecurityContext) (remember : List AgreedPost → List AgreedPost) (table : List TokenEntry) (d : TokenEntry) → position_or_len (λ entry. bytes_eq token entry.id) table < length table
     → set table (position_or_len (λ entry. bytes_eq token entry.id) table)
-    (record (get_or table (position_or_len (λ entry. bytes_eq token entry.id) table) d) { pending = Some held })
-    ≡ with_pending token held table
-put_within token held [] d within = absurd (omega arith)
-put_within token held (entry ∷ table) d within = by (bytes_eq token entry.id) (1 + rest) (omega arith) within (put_within token held table d)
+    (record (get_or table (position_or_len (λ entry. bytes_eq token entry.id) table) d) { pending = Some held; posts = remember (get_or table (position_or_len (λ entry. bytes_eq token entry.id) table) d).posts })
+    ≡ with_pending token held remember table
+put_within token held remember [] d within = absurd (omega arith)
+put_within token held remember (entry ∷ table) d within = by (bytes_eq token entry.id) (1 + rest) (omega arith) within (put_within token held remember table d)
   where
     rest : ℕ
     rest = position_or_len (λ entry. bytes_eq token entry.id) table
 
     by : (b : Bool) (n : ℕ) → n ≡ suc rest → cond (not b) n 0 < suc (length table)
-        → (rest < length table → set table rest (record (get_or table rest d) { pending = Some held }) ≡ with_pending token held table)
-        → set (entry ∷ table) (cond (not b) n 0) (record (get_or (entry ∷ table) (cond (not b) n 0) d) { pending = Some held })
-        ≡ cond b ((record entry { pending = Some held }) ∷ table) (entry ∷ with_pending token held table)
+        → (rest < length table → set table rest (record (get_or table rest d) { pending = Some held; posts = remember (get_or table rest d).posts }) ≡ with_pending token held remember table)
+        → set (entry ∷ table) (cond (not b) n 0) (record (get_or (entry ∷ table) (cond (not b) n 0) d) { pending = Some held; posts = remember (get_or (entry ∷ table) (cond (not b) n 0) d).posts })
+        ≡ cond b ((record entry { pending = Some held; posts = remember entry.posts }) ∷ table) (entry ∷ with_pending token held remember table)
     by true n is inside up = refl
     by false n is inside up = rw is (ap (λ t. entry ∷ t) (up (omega (arith, is, inside))))
 
-put_at_end : (token : List ℕ) (held : SecurityContext) (table : List TokenEntry) → length table ≤ position_or_len (λ entry. bytes_eq token entry.id) table
-    → table ++ (record { id = token; confirmed = None; pending = Some held }) ∷ [] ≡ with_pending token held table
-put_at_end token held [] none = refl
-put_at_end token held (entry ∷ table) none = by (bytes_eq token entry.id) (1 + rest) (omega arith) none (put_at_end token held table)
+put_at_end : (token : List ℕ) (held : SecurityContext) (remember : List AgreedPost → List AgreedPost) (table : List TokenEntry) → length table ≤ position_or_len (λ entry. bytes_eq token entry.id) table
+    → table ++ (record { id = token; confirmed = None; pending = Some held; posts = remember [] }) ∷ [] ≡ with_pending token held remember table
+put_at_end token held remember [] none = refl
+put_at_end token held remember (entry ∷ table) none = by (bytes_eq token entry.id) (1 + rest) (omega arith) none (put_at_end token held remember table)
   where
     rest : ℕ
     rest = position_or_len (λ entry. bytes_eq token entry.id) table
 
     new : TokenEntry
-    new = record { id = token; confirmed = None; pending = Some held }
+    new = record { id = token; confirmed = None; pending = Some held; posts = remember [] }
 
-    by : (b : Bool) (n : ℕ) → n ≡ suc rest → suc (length table) ≤ cond (not b) n 0 → (length table ≤ rest → table ++ new ∷ [] ≡ with_pending token held table)
-        → (entry ∷ table) ++ new ∷ [] ≡ cond b ((record entry { pending = Some held }) ∷ table) (entry ∷ with_pending token held table)
+    by : (b : Bool) (n : ℕ) → n ≡ suc rest → suc (length table) ≤ cond (not b) n 0 → (length table ≤ rest → table ++ new ∷ [] ≡ with_pending token held remember table)
+        → (entry ∷ table) ++ new ∷ [] ≡ cond b ((record entry { pending = Some held; posts = remember entry.posts }) ∷ table) (entry ∷ with_pending token held remember table)
     by true n is past up = absurd (omega arith)
     by false n is past up = ap (λ t. entry ∷ t) (up (omega (arith, is, past)))
 
-pub put_here : (token : List ℕ) (held : SecurityContext) (table : List TokenEntry) (i : ℕ) (x : TokenEntry) → position (λ entry. bytes_eq token entry.id) table ≡ Some i
-    → x ≡ get_or table i x → set table i (record x { pending = Some held }) ≡ with_pending token held table
-put_here token held table i x found read = by (nat_lt place (length table)) refl found
+pub put_here : (token : List ℕ) (held : SecurityContext) (remember : List AgreedPost → List AgreedPost) (table : List TokenEntry) (i : ℕ) (x : TokenEntry) → position (λ entry. bytes_eq token entry.id) table ≡ Some i
+    → x ≡ get_or table i x → set table i (record x { pending = Some held; posts = remember x.posts }) ≡ with_pending token held remember table
+put_here token held remember table i x found read = by (nat_lt place (length table)) refl found
   where
     place : ℕ
     place = position_or_len (λ entry. bytes_eq token entry.id) table
 
-    by : (b : Bool) → nat_lt place (length table) ≡ b → cond b (Some place) None ≡ Some i → set table i (record x { pending = Some held }) ≡ with_pending token held table
+    by : (b : Bool) → nat_lt place (length table) ≡ b → cond b (Some place) None ≡ Some i → set table i (record x { pending = Some held; posts = remember x.posts }) ≡ with_pending token held remember table
     by true inside is =
         let same : place ≡ i = cc in
         let item : get_or table place x ≡ x = ap (λ k. get_or table k x) same ∙ sym read in
-        ap₂ (λ (k : ℕ) (y : TokenEntry). set table k (record y { pending = Some held })) (sym same) (sym item) ∙ put_within token held table x (ltb-true place (length table) inside)
+        ap₂ (λ (k : ℕ) (y : TokenEntry). set table k (record y { pending = Some held; posts = remember y.posts })) (sym same) (sym item) ∙ put_within token held remember table x (ltb-true place (length table) inside)
     by false outside is = let none : None ≡ Some i = is in absurd (cc)
 
-pub put_last : (token : List ℕ) (held : SecurityContext) (table : List TokenEntry) → position (λ entry. bytes_eq token entry.id) table ≡ None
-    → table ++ (record { id = token; confirmed = None; pending = Some held }) ∷ [] ≡ with_pending token held table
-put_last token held table none = by (nat_lt place (length table)) refl none
+pub put_last : (token : List ℕ) (held : SecurityContext) (remember : List AgreedPost → List AgreedPost) (table : List TokenEntry) → position (λ entry. bytes_eq token entry.id) table ≡ None
+    → table ++ (record { id = token; confirmed = None; pending = Some held; posts = remember [] }) ∷ [] ≡ with_pending token held remember table
+put_last token held remember table none = by (nat_lt place (length table)) refl none
   where
     place : ℕ
     place = position_or_len (λ entry. bytes_eq token entry.id) table
 
     by : (b : Bool) → nat_lt place (length table) ≡ b → cond b (Some place) None ≡ None
-        → table ++ (record { id = token; confirmed = None; pending = Some held }) ∷ [] ≡ with_pending token held table
+        → table ++ (record { id = token; confirmed = None; pending = Some held; posts = remember [] }) ∷ [] ≡ with_pending token held remember table
     by true inside is = let some : Some place ≡ None = is in absurd (cc)
-    by false outside is = put_at_end token held table (ltb-false place (length table) outside)
+    by false outside is = put_at_end token held remember table (ltb-false place (length table) outside)

@@ -50,10 +50,11 @@ held_is now kid kid_context table c e = by (find (has_id kid) (contexts table)) 
         let p = passed d (is_live now d && is_named kid_context d) refl e in
         let f = found (has_id kid) (contexts table) c (is ∙ ap (λ (x : SecurityContext). Some x) p.0) in
         let seconds = now.at.ms / 1000 in
-        let rest = and_parts (option_map_or (λ s. nat_le s seconds) c.not_before true && option_map_or (λ s. nat_lt seconds s) c.expires true) (not (stands now.tree c.revocation)) (ap (is_live now) (sym p.0) ∙ p.1) in
+        let all = and_parts (option_map_or (λ s. nat_le s seconds) c.not_before true && option_map_or (λ s. nat_lt seconds s) c.expires true && not (stands now.tree c.revocation)) (option_map_or (λ s. nat_lt seconds s) c.ends true) (ap (is_live now) (sym p.0) ∙ p.1) in
+        let rest = and_parts (option_map_or (λ s. nat_le s seconds) c.not_before true && option_map_or (λ s. nat_lt seconds s) c.expires true) (not (stands now.tree c.revocation)) all.0 in
         let parts = and_parts (option_map_or (λ s. nat_le s seconds) c.not_before true) (option_map_or (λ s. nat_lt seconds s) c.expires true) rest.0 in
         let live = live_tested c.not_before c.expires seconds parts.0 parts.1 in
-        (f.0, record { begun = live.0; not_over = live.1; unrevoked = unless (stands now.tree c.revocation) rest.1 }, sym ((bytes_eq-Decides kid c.name.client_id).0 f.1))
+        (f.0, record { begun = live.0; not_over = live.1; unrevoked = unless (stands now.tree c.revocation) rest.1; young = (live_tested None c.ends seconds refl all.1).1 }, sym ((bytes_eq-Decides kid c.name.client_id).0 f.1))
 
 -- the same of the context of its token id
 pub meant_is : (now : Standing) (kid : List ℕ) (kid_context : Option (List ℕ)) (table : List TokenEntry) (held : SecurityContext) → meant now kid kid_context table ≡ Some held

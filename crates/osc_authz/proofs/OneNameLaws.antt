@@ -13,7 +13,7 @@ use Rattle.osc_cose.specs.{enc_structure, object_item}
 use Rattle.osc_scope.specs.{Entry, IsScope, scope_of}
 use Rattle.osc_token.specs.{ComesTo, FitTheirTypes, HasLawfulParts, IsToken, algorithm_header, claims_item, token_object}
 use Rattle.osc_token.specs.declared.claims.Claims.{Claims}
-use Rattle.osc_authz.specs.{IsAgreed, new_context, Agrees, Answers, refused, revoked, full, agreed, ClientContextState, Finishes, made_name, pending_of, DeskState, IsPost, IsAnswer, post_item, answer_item, In, IsKeyFor, Posts, offered, alive, contexts, with_pending, IsLawfulContext}
+use Rattle.osc_authz.specs.{IsAgreed, new_context, Agrees, Answers, agreed_post, end_of, remembering, refused, revoked, full, again, replayed, agreed, ClientContextState, Finishes, made_name, pending_of, DeskState, IsPost, IsAnswer, post_item, answer_item, In, IsKeyFor, Posts, offered, alive, contexts, with_pending, IsLawfulContext}
 use Rattle.osc_authz.specs.Begun.{Begun}
 use Rattle.osc_authz.specs.SecurityContext.{SecurityContext}
 use Rattle.osc_authz.specs.HoldsToken.{HoldsToken}
@@ -24,37 +24,45 @@ use Rattle.osc_authz.specs.declared.error.PostError.{PostError}
 use Rattle.osc_authz.specs.declared.granted.ClientDesk.{ClientDesk}
 use Rattle.osc_authz.specs.declared.token_entry.TokenEntry.{TokenEntry}
 use Rattle.osc_authz.specs.declared.post.Post.{Post}
+use Rattle.osc_authz.specs.declared.agreed_post.AgreedPost.{AgreedPost}
 use Rattle.osc_authz.specs.declared.post.PostAnswer.{PostAnswer}
+use Rattle.osc_authz.specs.declared.post.PostReply.{PostReply}
+use Rattle.osc_authz.specs.declared.post.PostReply.TheVariants.{New, Known}
 use Rattle.osc_authz.proofs.ContextLaws.{has_pending, is_held}
 
 -- ---- a post that is answered 2.01
 
-abbrev ok_answer : PostAnswer → Result PostAnswer PostError
-ok_answer answer = Ok answer
+abbrev ok_answer : PostAnswer → Result PostReply PostError
+ok_answer answer = Ok (New answer)
 
 one_answer_of : (a b : PostAnswer) → ok_answer a ≡ ok_answer b → a ≡ b
 one_answer_of a b e = cc
 
-no_answer : (post : Post) (answer : PostAnswer) (opened : _) (e : PostError) → post ≡ record { opened = opened; answer = Err e } → post.answer ≡ Ok answer → ⊥
+no_answer : (post : Post) (answer : PostAnswer) (opened : _) (e : PostError) → post ≡ record { opened = opened; answer = Err e } → post.answer ≡ Ok (New answer) → ⊥
 no_answer post answer opened e is ok = let refused : post.answer ≡ Err e = ap (λ (p : Post). p.answer) is in cc (refused, ok)
 
-not_refused : (answer : Result PostAnswer PostError) (made : PostAnswer) (e : PostError) → answer ≡ Err e → answer ≡ Ok made → ⊥
+not_refused : (answer : Result PostReply PostError) (made : PostAnswer) (e : PostError) → answer ≡ Err e → answer ≡ Ok (New made) → ⊥
 not_refused answer made e is ok = cc
 
-pub agreed_post : (IsSealing : List ℕ → List ℕ → List ℕ → List ℕ → List ℕ → Type 0) (before after : DeskState) (posting : Posting) (post : Post) (answer : PostAnswer)
-    → Posts IsSealing before posting post after → post.answer ≡ Ok answer → IsAgreed IsSealing before posting post answer after
-agreed_post IsSealing before after posting post answer (Posts.no_post none is same) ok = absurd (no_answer post answer _ _ is ok)
-agreed_post IsSealing before after posting post answer (Posts.not_genuine token nonce1 client_id posts none is same) ok = absurd (no_answer post answer _ _ is ok)
-agreed_post IsSealing before after posting post answer (Posts.opened key nonce1 client_id token its o its_key answers is) ok = by answers
+not_known : (answer : Result PostReply PostError) (made other : PostAnswer) → answer ≡ Ok (Known other) → answer ≡ Ok (New made) → ⊥
+not_known answer made other is ok = cc
+
+pub agreed_posted : (IsSealing : List ℕ → List ℕ → List ℕ → List ℕ → List ℕ → Type 0) (before after : DeskState) (posting : Posting) (post : Post) (answer : PostAnswer)
+    → Posts IsSealing before posting post after → post.answer ≡ Ok (New answer) → IsAgreed IsSealing before posting post answer after
+agreed_posted IsSealing before after posting post answer (Posts.no_post none is same) ok = absurd (no_answer post answer _ _ is ok)
+agreed_posted IsSealing before after posting post answer (Posts.not_genuine token nonce1 client_id posts none is same) ok = absurd (no_answer post answer _ _ is ok)
+agreed_posted IsSealing before after posting post answer (Posts.opened key nonce1 client_id token its o its_key answers is) ok = by answers
   where
-    answer_is : its ≡ Ok answer
+    answer_is : its ≡ Ok (New answer)
     answer_is = sym (ap (λ (p : Post). p.answer) is) ∙ ok
 
     by : Answers before (offered posting nonce1 client_id) token.text its after → IsAgreed IsSealing before posting post answer after
     by (refused error comes e unchanged) = absurd (not_refused its answer _ e answer_is)
     by (revoked claims scope comes gone e unchanged) = absurd (not_refused its answer _ e answer_is)
-    by (full claims scope comes un many e unchanged) = absurd (not_refused its answer _ e answer_is)
-    by (agreed claims scope made comes un room agrees e) = record {
+    by (full claims scope granted many e unchanged) = absurd (not_refused its answer _ e answer_is)
+    by (again claims scope made granted k held e unchanged) = absurd (not_known its answer made e answer_is)
+    by (replayed claims scope made granted k gone e unchanged) = absurd (not_refused its answer _ e answer_is)
+    by (agreed claims scope made granted k agrees e) = record {
       key = key;
       nonce1 = nonce1;
       client_id = client_id;
@@ -63,8 +71,8 @@ agreed_post IsSealing before after posting post answer (Posts.opened key nonce1 
       scope = scope;
       opened = o;
       key_is = its_key;
-      unrevoked = un;
-      granted = comes;
+      granted = granted.granted;
+      unknown = k;
       agrees = subst (λ m. Agrees before (offered posting nonce1 client_id) claims scope m after) (one_answer_of made answer (sym e ∙ answer_is)) agrees;
       noted = ap (λ (p : Post). p.opened) is;
     }
@@ -83,8 +91,8 @@ same_salt : (a b n m p q : List ℕ) → a ≡ b → n ≡ m → p ≡ q → mas
 same_salt a b n m p q salt one two = λ i. master_salt (salt i) (one i) (two i)
 
 module _ (IsSealing : List ℕ → List ℕ → List ℕ → List ℕ → List ℕ → Type 0)
-    (agreed_posts : (before after : DeskState) (posting : Posting) (post : Post) (answer : PostAnswer)
-    → Posts IsSealing before posting post after → post.answer ≡ Ok answer → IsAgreed IsSealing before posting post answer after)
+    (agreed_posteds : (before after : DeskState) (posting : Posting) (post : Post) (answer : PostAnswer)
+    → Posts IsSealing before posting post after → post.answer ≡ Ok (New answer) → IsAgreed IsSealing before posting post answer after)
     (written_post : (token nonce1 client_id : List ℕ) → length token < 2 ^ 64 → 1 ≤ length nonce1 → length nonce1 ≤ 64 → length client_id ≤ 7
     → IsPost (spelling (post_item token nonce1 client_id)) token nonce1 client_id)
     (written_answer : (nonce2 server_id : List ℕ) → 1 ≤ length nonce2 → length nonce2 ≤ 64 → length server_id ≤ 7
@@ -105,12 +113,12 @@ module _ (IsSealing : List ℕ → List ℕ → List ℕ → List ℕ → List �
     (claims : Claims) (entries : List Entry) (client : ClientDesk) (begun : Begun) (finished : Result ClientContextState FinishError)
     (size : length draw.0 ≡ 32) (nonce_size : length begun.nonce1 ≡ 8) (holds : HoldsToken IsSealing before.key claims entries client)
     (posts : Posts IsSealing before (record { on = on; body = spelling (post_item client.token begun.nonce1 (begun.recipient_id ∷ [])); draw = draw }) post after)
-    (ok : post.answer ≡ Ok answer) where
+    (ok : post.answer ≡ Ok (New answer)) where
   abbrev posting : Posting
   posting = record { on = on; body = spelling (post_item client.token begun.nonce1 (begun.recipient_id ∷ [])); draw = draw }
 
   abbrev a : IsAgreed IsSealing before posting post answer after
-  a = agreed_posts before after posting post answer posts ok
+  a = agreed_posteds before after posting post answer posts ok
 
   posted : (a.opened.token ≡ client.token) × (a.nonce1 ≡ begun.nonce1) × (a.client_id ≡ begun.recipient_id ∷ [])
   posted =
@@ -139,15 +147,18 @@ module _ (IsSealing : List ℕ → List ℕ → List ℕ → List ℕ → List �
   granted : (a.claims ≡ claims) × (a.scope ≡ scope_of entries)
   granted =
       minted_texts claims a.claims entries a.scope before.audience on.at holds.fit holds.is_scope
-      (subst (λ x. ComesTo x before.audience on.at (Ok (a.claims, a.scope))) text_is a.granted)
+      (subst (λ x. ComesTo x before.audience on.at (Ok (a.claims, a.scope))) text_is a.granted.comes)
 
   abbrev its : SecurityContext
-  its = new_context before.revoked a.claims a.scope a.nonce1 a.client_id answer
+  its = new_context before.rules on.at a.claims a.scope (agreed_post (offered posting a.nonce1 a.client_id) answer)
+
+  abbrev remember : List AgreedPost → List AgreedPost
+  remember = remembering before.rules.remembered (agreed_post (offered posting a.nonce1 a.client_id) answer)
 
   held : In its (contexts after.table)
   held =
-      let table : List TokenEntry = with_pending a.claims.material.id its (alive on before.table) in
-      subst (λ (d : DeskState). In its (contexts d.table)) (sym a.agrees.added) (is_held table (pending_of a.claims.material.id its) (has_pending a.claims.material.id its (alive on before.table)))
+      let table : List TokenEntry = with_pending a.claims.material.id its remember (alive on before.table) in
+      subst (λ (d : DeskState). In its (contexts d.table)) (sym a.agrees.added) (is_held table (pending_of a.claims.material.id its) (has_pending a.claims.material.id its remember (alive on before.table)))
 
   nonce2_size : length answer.nonce2 ≡ 8
   nonce2_size =
@@ -186,7 +197,8 @@ module _ (IsSealing : List ℕ → List ℕ → List ℕ → List ℕ → List �
   pub one_name : Finishes client begun (code 2 1) (spelling (answer_item answer.nonce2 (answer.recipient_id ∷ []))) finished
       → (its : SecurityContext) × In its (contexts after.table) × (its.scope ≡ scope_of entries)
       × (its.not_before ≡ claims.not_before) × (its.expires ≡ claims.expires)
-      × (its.revocation ≡ revocation_of before.revoked claims.material.id)
+      × (its.revocation ≡ revocation_of before.rules.revoked claims.material.id)
+      × (its.ends ≡ end_of before.rules.seconds on.at)
       × (finished ≡ Ok (record { name = its.name; next = 0 }))
       × (its.window ≡ []) × IsLawfulContext its
       × (HasLawfulParts claims → IfSome its.name.id_context (λ bytes. length bytes ≤ 64))
@@ -196,7 +208,8 @@ module _ (IsSealing : List ℕ → List ℕ → List ℕ → List ℕ → List �
     granted.1,
     ap (λ (c : Claims). c.not_before) granted.0,
     ap (λ (c : Claims). c.expires) granted.0,
-    ap (λ (c : Claims). revocation_of before.revoked c.material.id) granted.0,
+    ap (λ (c : Claims). revocation_of before.rules.revoked c.material.id) granted.0,
+    refl,
     by finishes,
     refl,
     record { byte = answer.recipient_id; one_byte = refl; apart = λ same. a.agrees.free.free (0, omega arith, sym same) },

@@ -1,5 +1,5 @@
 -- A post comes to one outcome.
-use Rattle.std.proofs.Common.{◌≡◌, ℕ, true, false, List, Some, None, Result, Ok, Err, sym, ap, ap₂, subst, ◌∙◌, arith, inl, inr}
+use Rattle.std.proofs.Common.{◌≡◌, ℕ, Bool, true, false, List, Option, Some, None, Result, Ok, Err, sym, ap, ap₂, subst, ◌∙◌, arith, inl, inr}
 use Rattle.std.proofs.lemmas.Bool.{cases_lt}
 use Rattle.osc_model.specs.{is_revoked}
 use Rattle.osc_model.specs.Scope.{Scope}
@@ -8,12 +8,14 @@ use Rattle.osc_model.specs.declared.step.Note.{Note}
 use Rattle.osc_token.specs.{ComesTo, IsToken, token_note}
 use Rattle.osc_token.specs.declared.claims.Claims.{Claims}
 use Rattle.osc_token.specs.declared.error.TokenError.{TokenError}
-use Rattle.osc_authz.specs.{new_context, Agrees, Answers, refused, revoked, full, agreed, DeskState, IsPost, IsKeyFor, IsKeyOf, Opens, Posts, Offer, offered, IsFull, IsLeastFree, alive, with_pending}
+use Rattle.osc_authz.specs.{new_context, Agrees, Answers, MadeIsHeld, agreed_post, known_of, remembering, refused, revoked, full, again, replayed, agreed, DeskState, IsPost, IsKeyFor, IsKeyOf, Opens, Posts, Offer, offered, IsFull, IsLeastFree, alive, with_pending}
 use Rattle.osc_authz.specs.Posting.{Posting}
 use Rattle.osc_authz.specs.declared.error.PostError.{PostError}
 use Rattle.osc_authz.specs.declared.error.PostError.TheVariants as post_error
 use Rattle.osc_authz.specs.declared.post.Post.{Post}
 use Rattle.osc_authz.specs.declared.post.PostAnswer.{PostAnswer}
+use Rattle.osc_authz.specs.declared.post.PostReply.{PostReply}
+use Rattle.osc_authz.specs.declared.post.PostReply.TheVariants as reply
 
 -- ---- what is answered, once the text is known
 
@@ -34,9 +36,6 @@ least_once taken a b p q =
 made_of : List ℕ → ℕ → PostAnswer
 made_of nonce2 byte = record { nonce2 = nonce2; recipient_id = byte }
 
-granted_is : (one other : Claims × Scope) → ◌≡◌ {A = Result (Claims × Scope) TokenError} (Ok one) (Ok other) → one ≡ other
-granted_is one other e = cc
-
 module _ (before : DeskState) (offer : Offer) where
   agrees_once : (claims : Claims) (scope : Scope) (one other : PostAnswer) (after afters : DeskState)
       → Agrees before offer claims scope one after → Agrees before offer claims scope other afters
@@ -46,57 +45,115 @@ module _ (before : DeskState) (offer : Offer) where
       let id = least_once _ one.recipient_id other.recipient_id p.free q.free in
       let nonce : one.nonce2 ≡ other.nonce2 = p.drawn ∙ sym q.drawn in
       let same : one ≡ other = ap₂ made_of nonce id in
-      (same, p.added ∙ ap (λ m. let d : DeskState = record before { table = with_pending claims.material.id (new_context before.revoked claims scope offer.nonce1 offer.client_id m) (alive offer.on before.table) } in d) same ∙ sym q.added)
+      (
+        same,
+        p.added
+        ∙ ap (λ m. let d : DeskState = record before { table = with_pending claims.material.id (new_context before.rules offer.on.at claims scope (agreed_post offer m)) (remembering before.rules.remembered (agreed_post offer m)) (alive offer.on before.table) } in d) same
+        ∙ sym q.added,
+      )
 
-  -- one text isn't both revoked and not
-  both_ways : IsOneResult → (text : List ℕ) (claims others : Claims) (scope scopes : Scope)
-      → ComesTo text before.audience offer.on.at (Ok (claims, scope)) → ComesTo text before.audience offer.on.at (Ok (others, scopes))
-      → is_revoked before.revoked offer.on.tree claims.material.id ≡ true → is_revoked before.revoked offer.on.tree others.material.id ≡ false → ⊥
-  both_ways law text claims others scope scopes comes comes2 gone un =
-      let r = granted_is (claims, scope) (others, scopes) (law text before.audience offer.on.at (Ok (claims, scope)) (Ok (others, scopes)) comes comes2) in
-      let never : true ≡ false = sym gone ∙ ap (λ (x : Claims × Scope). is_revoked before.revoked offer.on.tree x.0.material.id) r ∙ un in cc
+  -- ---- what is answered to claims
 
-  pub answers_once : IsOneResult → (text : List ℕ) (one other : Result PostAnswer PostError) (after afters : DeskState)
+  -- the cases of a post whose text comes to these claims
+  data AnswersTo (claims : Claims) (scope : Scope) (answer : Result PostReply PostError) (after : DeskState) : Type 0 where
+    to_revoked : is_revoked before.rules.revoked offer.on.tree claims.material.id ≡ true → answer ≡ Err post_error.Revoked → after ≡ before → AnswersTo claims scope answer after
+    to_full : is_revoked before.rules.revoked offer.on.tree claims.material.id ≡ false → IsFull claims.material.id (alive offer.on before.table)
+        → answer ≡ Err post_error.Full → after ≡ before → AnswersTo claims scope answer after
+    to_known : (made : PostAnswer) → is_revoked before.rules.revoked offer.on.tree claims.material.id ≡ false → ¬ IsFull claims.material.id (alive offer.on before.table)
+        → known_of before offer claims ≡ Some made → MadeIsHeld before offer claims made
+        → answer ≡ Ok (reply.Known made) → after ≡ before → AnswersTo claims scope answer after
+    to_replayed : (made : PostAnswer) → is_revoked before.rules.revoked offer.on.tree claims.material.id ≡ false → ¬ IsFull claims.material.id (alive offer.on before.table)
+        → known_of before offer claims ≡ Some made → ¬ MadeIsHeld before offer claims made
+        → answer ≡ Err post_error.Replayed → after ≡ before → AnswersTo claims scope answer after
+    to_agreed : (made : PostAnswer) → is_revoked before.rules.revoked offer.on.tree claims.material.id ≡ false → ¬ IsFull claims.material.id (alive offer.on before.table)
+        → known_of before offer claims ≡ None → Agrees before offer claims scope made after
+        → answer ≡ Ok (reply.New made) → AnswersTo claims scope answer after
+
+  -- what a post comes to whose text comes to something
+  abbrev AnswersBy : Result (Claims × Scope) TokenError → Result PostReply PostError → DeskState → Type 0
+  AnswersBy (Err error) answer after = (answer ≡ Err (post_error.Token error)) × (after ≡ before)
+  AnswersBy (Ok granted) answer after = AnswersTo granted.0 granted.1 answer after
+
+  by_its_text : (text : List ℕ) (answer : Result PostReply PostError) (after : DeskState) → Answers before offer text answer after
+      → (result : Result (Claims × Scope) TokenError) × ComesTo text before.audience offer.on.at result × AnswersBy result answer after
+  by_its_text text answer after (refused e comes is same) = (Err e, comes, (is, same))
+  by_its_text text answer after (revoked claims scope comes gone is same) = (Ok (claims, scope), comes, to_revoked gone is same)
+  by_its_text text answer after (full claims scope its many is same) = (Ok (claims, scope), its.comes, to_full its.unrevoked many is same)
+  by_its_text text answer after (again claims scope made its k held is same) = (Ok (claims, scope), its.granted.comes, to_known made its.granted.unrevoked its.room k held is same)
+  by_its_text text answer after (replayed claims scope made its k gone is same) = (Ok (claims, scope), its.granted.comes, to_replayed made its.granted.unrevoked its.room k gone is same)
+  by_its_text text answer after (agreed claims scope made its k agrees is) = (Ok (claims, scope), its.granted.comes, to_agreed made its.granted.unrevoked its.room k agrees is)
+
+  never_both : (b : Bool) → b ≡ true → b ≡ false → ⊥
+  never_both b t f = let never : true ≡ false = sym t ∙ f in cc
+
+  one_made : (o : Option PostAnswer) (a b : PostAnswer) → o ≡ Some a → o ≡ Some b → a ≡ b
+  one_made o a b p q = let same : Some a ≡ Some b = sym p ∙ q in by_some a b same
+    where
+      by_some : (a b : PostAnswer) → Some a ≡ Some b → a ≡ b
+      by_some a b e = cc
+
+  never_known : (o : Option PostAnswer) (a : PostAnswer) → o ≡ Some a → o ≡ None → ⊥
+  never_known o a p q = let never : Some a ≡ None = sym p ∙ q in cc
+
+  to_once : (claims : Claims) (scope : Scope) (one other : Result PostReply PostError) (after afters : DeskState)
+      → AnswersTo claims scope one after → AnswersTo claims scope other afters → (one ≡ other) × (after ≡ afters)
+  to_once claims scope one other after afters (to_revoked g is same) (to_revoked g2 is2 same2) = (is ∙ sym is2, same ∙ sym same2)
+  to_once claims scope one other after afters (to_revoked g is same) (to_full un many is2 same2) = absurd (never_both _ g un)
+  to_once claims scope one other after afters (to_revoked g is same) (to_known m un room k held is2 same2) = absurd (never_both _ g un)
+  to_once claims scope one other after afters (to_revoked g is same) (to_replayed m un room k gone is2 same2) = absurd (never_both _ g un)
+  to_once claims scope one other after afters (to_revoked g is same) (to_agreed m un room k agrees is2) = absurd (never_both _ g un)
+  to_once claims scope one other after afters (to_full un many is same) (to_revoked g is2 same2) = absurd (never_both _ g un)
+  to_once claims scope one other after afters (to_full un many is same) (to_full un2 many2 is2 same2) = (is ∙ sym is2, same ∙ sym same2)
+  to_once claims scope one other after afters (to_full un many is same) (to_known m un2 room k held is2 same2) = absurd (room many)
+  to_once claims scope one other after afters (to_full un many is same) (to_replayed m un2 room k gone is2 same2) = absurd (room many)
+  to_once claims scope one other after afters (to_full un many is same) (to_agreed m un2 room k agrees is2) = absurd (room many)
+  to_once claims scope one other after afters (to_known m un room k held is same) (to_revoked g is2 same2) = absurd (never_both _ g un)
+  to_once claims scope one other after afters (to_known m un room k held is same) (to_full un2 many is2 same2) = absurd (room many)
+  to_once claims scope one other after afters (to_known m un room k held is same) (to_known m2 un2 room2 k2 held2 is2 same2) =
+      (is ∙ ap (λ (x : PostAnswer). Ok (reply.Known x)) (one_made _ m m2 k k2) ∙ sym is2, same ∙ sym same2)
+  to_once claims scope one other after afters (to_known m un room k held is same) (to_replayed m2 un2 room2 k2 gone is2 same2) =
+      absurd (gone (subst (MadeIsHeld before offer claims) (one_made _ m m2 k k2) held))
+  to_once claims scope one other after afters (to_known m un room k held is same) (to_agreed m2 un2 room2 k2 agrees is2) = absurd (never_known _ m k k2)
+  to_once claims scope one other after afters (to_replayed m un room k gone is same) (to_revoked g is2 same2) = absurd (never_both _ g un)
+  to_once claims scope one other after afters (to_replayed m un room k gone is same) (to_full un2 many is2 same2) = absurd (room many)
+  to_once claims scope one other after afters (to_replayed m un room k gone is same) (to_known m2 un2 room2 k2 held is2 same2) =
+      absurd (gone (subst (MadeIsHeld before offer claims) (one_made _ m2 m k2 k) held))
+  to_once claims scope one other after afters (to_replayed m un room k gone is same) (to_replayed m2 un2 room2 k2 gone2 is2 same2) = (is ∙ sym is2, same ∙ sym same2)
+  to_once claims scope one other after afters (to_replayed m un room k gone is same) (to_agreed m2 un2 room2 k2 agrees is2) = absurd (never_known _ m k k2)
+  to_once claims scope one other after afters (to_agreed m un room k agrees is) (to_revoked g is2 same2) = absurd (never_both _ g un)
+  to_once claims scope one other after afters (to_agreed m un room k agrees is) (to_full un2 many is2 same2) = absurd (room many)
+  to_once claims scope one other after afters (to_agreed m un room k agrees is) (to_known m2 un2 room2 k2 held is2 same2) = absurd (never_known _ m2 k2 k)
+  to_once claims scope one other after afters (to_agreed m un room k agrees is) (to_replayed m2 un2 room2 k2 gone is2 same2) = absurd (never_known _ m2 k2 k)
+  to_once claims scope one other after afters (to_agreed m un room k agrees is) (to_agreed m2 un2 room2 k2 agrees2 is2) =
+      let once = agrees_once claims scope m m2 after afters agrees agrees2 in
+      (is ∙ ap (λ (x : PostAnswer). Ok (reply.New x)) once.0 ∙ sym is2, once.1)
+
+  by_once : (result : Result (Claims × Scope) TokenError) (one other : Result PostReply PostError) (after afters : DeskState)
+      → AnswersBy result one after → AnswersBy result other afters → (one ≡ other) × (after ≡ afters)
+  by_once (Err e) one other after afters p q = (p.0 ∙ sym q.0, p.1 ∙ sym q.1)
+  by_once (Ok granted) one other after afters p q = to_once granted.0 granted.1 one other after afters p q
+
+  pub answers_once : IsOneResult → (text : List ℕ) (one other : Result PostReply PostError) (after afters : DeskState)
       → Answers before offer text one after → Answers before offer text other afters
       → (one ≡ other) × (after ≡ afters)
-  answers_once law text one other after afters (refused e comes is same) (refused f comes2 is2 same2) =
-      let r = law text before.audience offer.on.at (Err e) (Err f) comes comes2 in
-      let g : e ≡ f = cc in (is ∙ ap (λ x. Err (post_error.Token x)) g ∙ sym is2, same ∙ sym same2)
-  answers_once law text one other after afters (refused e comes is same) (full claims scope comes2 un many is2 same2) =
-      let r = law text before.audience offer.on.at (Err e) (Ok (claims, scope)) comes comes2 in cc
-  answers_once law text one other after afters (refused e comes is same) (agreed claims scope made comes2 un room agrees is2) =
-      let r = law text before.audience offer.on.at (Err e) (Ok (claims, scope)) comes comes2 in cc
-  answers_once law text one other after afters (full claims scope comes un many is same) (refused e comes2 is2 same2) =
-      let r = law text before.audience offer.on.at (Err e) (Ok (claims, scope)) comes2 comes in cc
-  answers_once law text one other after afters (full claims scope comes un many is same) (full claims2 scope2 comes2 un2 many2 is2 same2) =
-      (is ∙ sym is2, same ∙ sym same2)
-  answers_once law text one other after afters (full claims scope comes un many is same) (agreed claims2 scope2 made comes2 un2 room agrees is2) =
-      let r = granted_is (claims, scope) (claims2, scope2) (law text before.audience offer.on.at (Ok (claims, scope)) (Ok (claims2, scope2)) comes comes2) in
-      absurd (room (subst (λ x. IsFull x.0.material.id (alive offer.on before.table)) r many))
-  answers_once law text one other after afters (agreed claims scope made comes un room agrees is) (refused e comes2 is2 same2) =
-      let r = law text before.audience offer.on.at (Err e) (Ok (claims, scope)) comes2 comes in cc
-  answers_once law text one other after afters (agreed claims scope made comes un room agrees is) (full claims2 scope2 comes2 un2 many is2 same2) =
-      let r = granted_is (claims2, scope2) (claims, scope) (law text before.audience offer.on.at (Ok (claims2, scope2)) (Ok (claims, scope)) comes2 comes) in
-      absurd (room (subst (λ x. IsFull x.0.material.id (alive offer.on before.table)) r many))
-  answers_once law text one other after afters (agreed claims scope made comes un room agrees is) (agreed claims2 scope2 made2 comes2 un2 room2 agrees2 is2) =
-      let r = granted_is (claims2, scope2) (claims, scope) (law text before.audience offer.on.at (Ok (claims2, scope2)) (Ok (claims, scope)) comes2 comes) in
-      let own = subst (λ x. Agrees before offer x.0 x.1 made2 afters) r agrees2 in
-      let once = agrees_once claims scope made made2 after afters agrees own in
-      (is ∙ ap Ok once.0 ∙ sym is2, once.1)
-  answers_once law text one other after afters (refused e comes is same) (revoked claims scope comes2 gone is2 same2) =
-      let r = law text before.audience offer.on.at (Err e) (Ok (claims, scope)) comes comes2 in cc
-  answers_once law text one other after afters (revoked claims scope comes gone is same) (refused e comes2 is2 same2) =
-      let r = law text before.audience offer.on.at (Err e) (Ok (claims, scope)) comes2 comes in cc
-  answers_once law text one other after afters (revoked claims scope comes gone is same) (revoked claims2 scope2 comes2 gone2 is2 same2) =
-      (is ∙ sym is2, same ∙ sym same2)
-  answers_once law text one other after afters (revoked claims scope comes gone is same) (full claims2 scope2 comes2 un2 many is2 same2) =
-      absurd (both_ways law text claims claims2 scope scope2 comes comes2 gone un2)
-  answers_once law text one other after afters (revoked claims scope comes gone is same) (agreed claims2 scope2 made comes2 un2 room agrees is2) =
-      absurd (both_ways law text claims claims2 scope scope2 comes comes2 gone un2)
-  answers_once law text one other after afters (full claims scope comes un many is same) (revoked claims2 scope2 comes2 gone2 is2 same2) =
-      absurd (both_ways law text claims2 claims scope2 scope comes2 comes gone2 un)
-  answers_once law text one other after afters (agreed claims scope made comes un room agrees is) (revoked claims2 scope2 comes2 gone2 is2 same2) =
-      absurd (both_ways law text claims2 claims scope2 scope comes2 comes gone2 un)
+  answers_once law text one other after afters p q =
+      let a = by_its_text text one after p in
+      let b = by_its_text text other afters q in
+      by_once b.0 one other after afters (subst (λ r. AnswersBy r one after) (law text before.audience offer.on.at a.0 b.0 a.1 b.1) a.2) b.2
+
+  -- a post that is known changes nothing
+  pub known_changes_nothing : IsOneResult → (text : List ℕ) (answer : Result PostReply PostError) (after : DeskState) (claims : Claims) (scope : Scope) (made : PostAnswer)
+      → Answers before offer text answer after → ComesTo text before.audience offer.on.at (Ok (claims, scope)) → known_of before offer claims ≡ Some made → after ≡ before
+  known_changes_nothing law text answer after claims scope made p comes k =
+      let a = by_its_text text answer after p in
+      by (subst (λ r. AnswersBy r answer after) (law text before.audience offer.on.at a.0 (Ok (claims, scope)) a.1 comes) a.2)
+    where
+      by : AnswersTo claims scope answer after → after ≡ before
+      by (to_revoked g is same) = same
+      by (to_full un many is same) = same
+      by (to_known m un room k2 held is same) = same
+      by (to_replayed m un room k2 gone is same) = same
+      by (to_agreed m un room k2 agrees is) = absurd (never_known _ made k k2)
 
 -- ---- what a post comes to
 
@@ -113,7 +170,7 @@ IsOneToken IsSealing = (key bytes protected iv text others ivs other : List ℕ)
     → (protected ≡ others) × (iv ≡ ivs) × (text ≡ other)
 
 module _ (IsSealing : List ℕ → List ℕ → List ℕ → List ℕ → List ℕ → Type 0) (before : DeskState) (posting : Posting) where
-  abbrev post_of : Note → Result PostAnswer PostError → Post
+  abbrev post_of : Note → Result PostReply PostError → Post
   post_of note answer = record { opened = Some note; answer = answer }
 
   key_of : (token key : List ℕ) → IsKeyFor IsSealing before token key → IsKeyOf before key

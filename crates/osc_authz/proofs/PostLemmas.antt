@@ -1,5 +1,5 @@
 -- What a post comes to, case by case.
-use Rattle.std.proofs.Common.{◌≡◌, ℕ, Bool, List, Option, Some, None, Result, Err, refl, sym, ap, subst, ◌∙◌}
+use Rattle.std.proofs.Common.{◌≡◌, ℕ, Bool, List, Option, Some, None, IfOk, Result, Ok, Err, inl, inr, refl, sym, ap, subst, ◌∙◌}
 use Rattle.osc_model.specs.{is_revoked, revocation_of, stands}
 use Rattle.osc_model.specs.Scope.{Scope}
 use Rattle.osc_model.specs.Tree.{Tree}
@@ -8,11 +8,14 @@ use Rattle.osc_model.specs.declared.step.Note.{Note}
 use Rattle.osc_token.specs.{ComesTo, IsToken, token_note}
 use Rattle.osc_token.specs.declared.claims.Claims.{Claims}
 use Rattle.osc_token.specs.declared.error.TokenError.{TokenError}
-use Rattle.osc_authz.specs.{Answers, DeskState, IsPost, IsKeyFor, IsKeyOf, IsOpened, Opens, Posts, OpenedToken, offered}
+use Rattle.osc_authz.specs.{Answers, HasRoom, known_of, DeskState, IsPost, IsKeyFor, IsKeyOf, IsOpened, Opens, Posts, Offer, OpenedToken, offered}
 use Rattle.osc_authz.specs.Posting.{Posting}
 use Rattle.osc_authz.specs.declared.error.PostError.{PostError}
 use Rattle.osc_authz.specs.declared.post.Post.{Post}
 use Rattle.osc_authz.specs.declared.post.PostAnswer.{PostAnswer}
+use Rattle.osc_authz.specs.declared.post.PostReply.{PostReply}
+use Rattle.osc_authz.specs.Inner.KnownAnswer.{IsKnownAnswer}
+use Rattle.std.specs.declared.alloc.AllocError.{AllocError}
 
 -- what was judged, for the desk's own audience and at the offer's moment
 pub judged : (text audience own : List ℕ) (now at : Moment) (result : Result (Claims × Scope) TokenError)
@@ -24,10 +27,18 @@ pub judged_revoked : (tree own : Tree) (path revoked : Option (List ℕ)) (token
     → found ≡ stands tree path → found ≡ is → tree ≡ own → path ≡ revocation_of revoked token → token ≡ id → is_revoked revoked own id ≡ is
 judged_revoked tree own path revoked token id found is e b t p k = sym (λ i. stands (t i) ((p ∙ ap (revocation_of revoked) k) i)) ∙ sym e ∙ b
 
+-- what is answered to a post that is known
+pub known_answers : (before : DeskState) (offer : Offer) (text : List ℕ) (claims : Claims) (scope : Scope) (made : PostAnswer) (result : Result (Result PostReply PostError) AllocError)
+    → HasRoom before offer text claims scope → known_of before offer claims ≡ Some made
+    → IfOk result (λ answer. IsKnownAnswer before offer claims made answer) → IfOk result (λ answer. Answers before offer text answer before)
+known_answers before offer text claims scope made (Err e) room k is = tt
+known_answers before offer text claims scope made (Ok answer) room k (inl held) = Answers.again claims scope made room k held.0 held.1 refl
+known_answers before offer text claims scope made (Ok answer) room k (inr gone) = Answers.replayed claims scope made room k gone.0 gone.1 refl
+
 module _ (IsSealing : List ℕ → List ℕ → List ℕ → List ℕ → List ℕ → Type 0) (before after : DeskState) (posting : Posting)
     (token nonce1 client_id : List ℕ) (is_post : IsPost posting.body token nonce1 client_id) where
   -- a post whose token opened, and what was answered
-  pub opened_post : (key : List ℕ) (its : OpenedToken) (note : Note) (answer : Result PostAnswer PostError)
+  pub opened_post : (key : List ℕ) (its : OpenedToken) (note : Note) (answer : Result PostReply PostError)
       → IsToken IsSealing key token its.protected its.iv its.text → IsKeyFor IsSealing before token key → note ≡ token_note key its.protected its.iv its.text
       → Answers before (offered posting nonce1 client_id) note.plaintext answer after
       → Posts IsSealing before posting (record { opened = Some note; answer = answer }) after

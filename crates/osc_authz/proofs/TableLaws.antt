@@ -13,6 +13,7 @@ use Rattle.osc_model.specs.declared.context.ContextName.{ContextName}
 use Rattle.osc_authz.specs.Standing.{Standing}
 use Rattle.osc_authz.specs.declared.token_entry.TokenEntry.{TokenEntry}
 use Rattle.osc_authz.specs.SecurityContext.{SecurityContext}
+use Rattle.osc_authz.specs.declared.agreed_post.AgreedPost.{AgreedPost}
 use Rattle.osc_authz.specs.{IsTable, IsLawfulContext, IsFull, IsLeastFree, accepted, accepted_in, alive, contexts, has_id, has_token, holds_live, ids, listed, taking, without_pending, without_pending_in, with_pending}
 use Rattle.osc_authz.proofs.Parts.{Part, none, part_whole, part_nothing, part_append, part_back, part_map, part_filter, part_length, part_all, part_distinct}
 
@@ -181,12 +182,12 @@ record IsAdded (held : SecurityContext) (others all : List SecurityContext) : Ty
   with_one : all ≡ before ++ held ∷ after
   without_one : others ≡ before ++ after
 
-added : (token : List ℕ) (held : SecurityContext) (table : List TokenEntry) → IsDistinct bytes_eq (tokens table) → IsAdded held (contexts (without_pending token table)) (contexts (with_pending token held table))
+added : (token : List ℕ) (held : SecurityContext) (remember : List AgreedPost → List AgreedPost) (table : List TokenEntry) → IsDistinct bytes_eq (tokens table) → IsAdded held (contexts (without_pending token table)) (contexts (with_pending token held remember table))
 unfolding IsDistinct
-added token held [] apart = record { before = []; after = []; with_one = refl; without_one = refl }
-added token held (entry ∷ table) apart = by (bytes_eq token entry.id) refl (added token held table apart.1)
+added token held remember [] apart = record { before = []; after = []; with_one = refl; without_one = refl }
+added token held remember (entry ∷ table) apart = by (bytes_eq token entry.id) refl (added token held remember table apart.1)
   where
-    here : without_pending token table ≡ table → IsAdded held (contexts ((record entry { pending = None }) ∷ without_pending token table)) (contexts ((record entry { pending = Some held }) ∷ table))
+    here : without_pending token table ≡ table → IsAdded held (contexts ((record entry { pending = None }) ∷ without_pending token table)) (contexts ((record entry { pending = Some held; posts = remember entry.posts }) ∷ table))
     here others = record {
       before = listed entry.confirmed;
       after = contexts table;
@@ -194,8 +195,8 @@ added token held (entry ∷ table) apart = by (bytes_eq token entry.id) refl (ad
       without_one = append_assoc (listed entry.confirmed) [] (contexts (without_pending token table)) ∙ ap (λ t. listed entry.confirmed ++ contexts t) others;
     }
 
-    by : (b : Bool) → bytes_eq token entry.id ≡ b → IsAdded held (contexts (without_pending token table)) (contexts (with_pending token held table))
-        → IsAdded held (contexts (cond b (record entry { pending = None }) entry ∷ without_pending token table)) (contexts (cond b ((record entry { pending = Some held }) ∷ table) (entry ∷ with_pending token held table)))
+    by : (b : Bool) → bytes_eq token entry.id ≡ b → IsAdded held (contexts (without_pending token table)) (contexts (with_pending token held remember table))
+        → IsAdded held (contexts (cond b (record entry { pending = None }) entry ∷ without_pending token table)) (contexts (cond b ((record entry { pending = Some held; posts = remember entry.posts }) ∷ table) (entry ∷ with_pending token held remember table)))
     by true same rest =
         let token_is : token ≡ entry.id = (bytes_eq-Decides token entry.id).0 same in
         here (apart_tokens token table (rw token_is apart.0))
@@ -227,12 +228,12 @@ distinct_among y [] zs other apart = (other, apart)
 distinct_among y (x ∷ xs) zs other apart =
     (each_among (λ z. bytes_eq x z ≡ false) y xs zs (nat_list_eq_equiv.symm x y ∙ other.0) apart.0, distinct_among y xs zs other.1 apart.1)
 
-with_pending_tokens : (token : List ℕ) (held : SecurityContext) (table : List TokenEntry) → tokens (with_pending token held table) ≡ cond (has_token token table) (tokens table) (tokens table ++ token ∷ [])
-with_pending_tokens token held [] = refl
-with_pending_tokens token held (entry ∷ table) = by (bytes_eq token entry.id) (has_token token table) (with_pending_tokens token held table)
+with_pending_tokens : (token : List ℕ) (held : SecurityContext) (remember : List AgreedPost → List AgreedPost) (table : List TokenEntry) → tokens (with_pending token held remember table) ≡ cond (has_token token table) (tokens table) (tokens table ++ token ∷ [])
+with_pending_tokens token held remember [] = refl
+with_pending_tokens token held remember (entry ∷ table) = by (bytes_eq token entry.id) (has_token token table) (with_pending_tokens token held remember table)
   where
-    by : (b there : Bool) → tokens (with_pending token held table) ≡ cond there (tokens table) (tokens table ++ token ∷ [])
-        → tokens (cond b ((record entry { pending = Some held }) ∷ table) (entry ∷ with_pending token held table)) ≡ cond (b || there) (tokens (entry ∷ table)) (tokens (entry ∷ table) ++ token ∷ [])
+    by : (b there : Bool) → tokens (with_pending token held remember table) ≡ cond there (tokens table) (tokens table ++ token ∷ [])
+        → tokens (cond b ((record entry { pending = Some held; posts = remember entry.posts }) ∷ table) (entry ∷ with_pending token held remember table)) ≡ cond (b || there) (tokens (entry ∷ table)) (tokens (entry ∷ table) ++ token ∷ [])
     by true there rest = refl
     by false true rest = ap (λ ids. entry.id ∷ ids) rest
     by false false rest = ap (λ ids. entry.id ∷ ids) rest
@@ -242,12 +243,12 @@ has_token_is token [] = refl
 has_token_is token (entry ∷ table) = ap (λ there. bytes_eq token entry.id || there) (has_token_is token table)
 
 -- With a pending context of a token id for which there is room, and of a recipient ID that is free, a table is one.
-pub with_pending_is_table : (token client_id : List ℕ) (held : SecurityContext) (byte : ℕ) (table : List TokenEntry) → IsTable table → ¬ IsFull token table
+pub with_pending_is_table : (token client_id : List ℕ) (held : SecurityContext) (remember : List AgreedPost → List AgreedPost) (byte : ℕ) (table : List TokenEntry) → IsTable table → ¬ IsFull token table
     → IsLeastFree (client_id ∷ ids (without_pending token table)) byte → held.name.client_id ≡ byte ∷ [] → held.name.server_id ≡ client_id
-    → IsTable (with_pending token held table)
-with_pending_is_table token client_id held byte table is_table room free recipient sender = record {
+    → IsTable (with_pending token held remember table)
+with_pending_is_table token client_id held remember byte table is_table room free recipient sender = record {
   few = few (has_token token table) refl;
-  own_tokens = rw (with_pending_tokens token held table) (own_tokens (has_token token table) refl);
+  own_tokens = rw (with_pending_tokens token held remember table) (own_tokens (has_token token table) refl);
   own_ids = rw (split.with_one, map-append client_id_of split.before (held ∷ split.after)) (distinct_among held.name.client_id (map client_id_of split.before) (map client_id_of split.after) (none_equal held.name.client_id (map client_id_of split.before ++ map client_id_of split.after) (rw (← others) absent)) (rw others at old.own_ids));
   lawful = rw split.with_one (All-from_recursion IsLawfulContext (split.before ++ held ∷ split.after) (each_among IsLawfulContext held split.before split.after lawful (recursion_from_All IsLawfulContext (split.before ++ split.after) (rw split.without_one at old.lawful))));
 }
@@ -255,12 +256,12 @@ with_pending_is_table token client_id held byte table is_table room free recipie
     client_id_of : SecurityContext → List ℕ
     client_id_of = λ held. held.name.client_id
 
-    few : (b : Bool) → has_token token table ≡ b → length (with_pending token held table) ≤ 64
+    few : (b : Bool) → has_token token table ≡ b → length (with_pending token held remember table) ≤ 64
     few true there =
-        omega (arith, length-map (with_pending token held table) (λ entry. entry.id), length-map table (λ entry. entry.id), ap length (with_pending_tokens token held table ∙ ap (λ b. cond b (tokens table) (tokens table ++ token ∷ [])) there), is_table.few)
+        omega (arith, length-map (with_pending token held remember table) (λ entry. entry.id), length-map table (λ entry. entry.id), ap length (with_pending_tokens token held remember table ∙ ap (λ b. cond b (tokens table) (tokens table ++ token ∷ [])) there), is_table.few)
     few false absent =
         let short : length table < 64 = elim (cases_lt (length table) 64) [ inl less ↦ less | inr many ↦ absurd (room (record { many = many; new = absent })) ] in
-        omega (arith, length-map (with_pending token held table) (λ entry. entry.id), length-map table (λ entry. entry.id), ap length (with_pending_tokens token held table ∙ ap (λ b. cond b (tokens table) (tokens table ++ token ∷ [])) absent), length-append (tokens table) (token ∷ []), short)
+        omega (arith, length-map (with_pending token held remember table) (λ entry. entry.id), length-map table (λ entry. entry.id), ap length (with_pending_tokens token held remember table ∙ ap (λ b. cond b (tokens table) (tokens table ++ token ∷ [])) absent), length-append (tokens table) (token ∷ []), short)
 
     own_tokens : (b : Bool) → has_token token table ≡ b → IsDistinct bytes_eq (cond b (tokens table) (tokens table ++ token ∷ []))
     own_tokens true there = is_table.own_tokens
@@ -269,8 +270,8 @@ with_pending_is_table token client_id held byte table is_table room free recipie
     old : IsTable (without_pending token table)
     old = without_pending_is_table token table is_table
 
-    split : IsAdded held (contexts (without_pending token table)) (contexts (with_pending token held table))
-    split = added token held table is_table.own_tokens
+    split : IsAdded held (contexts (without_pending token table)) (contexts (with_pending token held remember table))
+    split = added token held remember table is_table.own_tokens
 
     others : ids (without_pending token table) ≡ map client_id_of split.before ++ map client_id_of split.after
     others = ap (map client_id_of) split.without_one ∙ map-append client_id_of split.before split.after
@@ -286,8 +287,8 @@ with_pending_is_table token client_id held byte table is_table room free recipie
     }
 
 -- the same once the token ids without a live context have gone
-pub added_is_table : (token client_id : List ℕ) (now : Standing) (held : SecurityContext) (byte : ℕ) (table : List TokenEntry) → IsTable table → ¬ IsFull token (alive now table)
+pub added_is_table : (token client_id : List ℕ) (now : Standing) (held : SecurityContext) (remember : List AgreedPost → List AgreedPost) (byte : ℕ) (table : List TokenEntry) → IsTable table → ¬ IsFull token (alive now table)
     → IsLeastFree (client_id ∷ ids (without_pending token (alive now table))) byte → held.name.client_id ≡ byte ∷ [] → held.name.server_id ≡ client_id
-    → IsTable (with_pending token held (alive now table))
-added_is_table token client_id now held byte table is_table room free recipient sender =
-    with_pending_is_table token client_id held byte (alive now table) (alive_is_table now table is_table) room free recipient sender
+    → IsTable (with_pending token held remember (alive now table))
+added_is_table token client_id now held remember byte table is_table room free recipient sender =
+    with_pending_is_table token client_id held remember byte (alive now table) (alive_is_table now table is_table) room free recipient sender

@@ -45,11 +45,12 @@ confirmed_by number context = confirmed_of context.token (taking number context.
 
 -- ---- what stays, comes and goes
 
--- It is the time of the context's token, which isn't revoked.
+-- It is the time of the context's token, which isn't revoked, and the context isn't too old.
 pub record IsLive (on : Standing) (held : SecurityContext) : Type 0 where
   pub begun : HasBegun held.not_before on.at
   pub not_over : IsNotOver held.expires on.at
   pub unrevoked : stands on.tree held.revocation ≡ false
+  pub young : IsNotOver held.ends on.at
 
 -- None is added, and none changes. Each that lives stays.
 pub record AreKept (on : Standing) (old new : List OfToken) : Type 0 where

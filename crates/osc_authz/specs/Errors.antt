@@ -11,6 +11,7 @@ abbrev pub post_number : PostError → ℕ
 post_number post.Fields = refusal.fields
 post_number (post.Token error) = token_number error
 post_number post.Revoked = refusal.revoked
+post_number post.Replayed = refusal.replay
 post_number post.Full = refusal.full
 
 abbrev pub finish_number : FinishError → ℕ

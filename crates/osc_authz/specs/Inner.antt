@@ -2,3 +2,5 @@
 pub mod Marks
 pub mod Places
 pub mod Payload
+pub mod Rooms
+pub mod KnownAnswer

@@ -3,6 +3,7 @@ pub mod Exchange
 pub mod Standing
 pub mod SecurityContext
 pub mod Table
+pub mod Known
 pub mod Desk
 pub mod Posting
 pub mod Post
@@ -18,7 +19,7 @@ pub mod HoldsToken
 pub mod Welcome
 pub mod Inner
 pub use Agreed.{IsAgreed}
-pub use Agreement.{Agrees, Answers, agreed, full, new_context, refused, revoked}
+pub use Agreement.{Agrees, Answers, HasRoom, IsGranted, MadeIsHeld, again, agreed, agreed_post, end_of, full, known_of, name_by, new_context, refused, replayed, revoked}
 pub use Begun.{ClientContextState}
 pub use Client.{Finishes, another_code, equal_ids, made, made_name, no_answer, offered_id}
 pub use Contexts.{AreKept, HasAdded, HasTaken, IsConfirmedOf, IsLive, IsPendingOf, OfToken, confirmed_by, of_token, of_tokens, pending_of}
@@ -26,6 +27,7 @@ pub use Desk.{DeskState}
 pub use Errors.{post_number}
 pub use Exchange.{IsAnswer, IsPost, answer_item, post_item}
 pub use Granted.{IsSecret, IsShort}
+pub use Known.{AreFew, IsStillHeld, known, offers, remembering}
 pub use Members.{In}
 pub use Post.{IsKeyFor, IsKeyOf, IsOpened, Opens, Posts, code_of, no_post, not_genuine, opened}
 pub use Posting.{Offer, OpenedToken, offered}

@@ -10,9 +10,9 @@ use Rattle.osc_authz.specs.Exchange.{IsPost}
 use Rattle.osc_authz.specs.Desk.{DeskState}
 use Rattle.osc_authz.specs.Posting.{OpenedToken, Posting, offered}
 use Rattle.osc_authz.specs.declared.error.PostError.{PostError}
-use Rattle.osc_authz.specs.declared.error.PostError.TheVariants.{Fields, Token, Revoked, Full}
+use Rattle.osc_authz.specs.declared.error.PostError.TheVariants.{Fields, Token, Revoked, Full, Replayed}
 use Rattle.osc_authz.specs.declared.post.Post.{Post}
-use Rattle.osc_authz.specs.declared.post.PostAnswer.{PostAnswer}
+use Rattle.osc_authz.specs.declared.post.PostReply.{PostReply}
 
 -- these bytes are a token that opens under this key
 abbrev pub Opens : (List ℕ → List ℕ → List ℕ → List ℕ → List ℕ → Type 0) → List ℕ → List ℕ → Type 0
@@ -40,7 +40,7 @@ pub data Posts (IsSealing : List ℕ → List ℕ → List ℕ → List ℕ → 
       → ((key : List ℕ) → IsKeyOf before key → ¬ Opens IsSealing key token)
       → post ≡ record { opened = None; answer = Err (Token NotGenuine) } → after ≡ before
       → Posts IsSealing before posting post after
-  opened : (key nonce1 client_id : List ℕ) (its : OpenedToken) (answer : Result PostAnswer PostError)
+  opened : (key nonce1 client_id : List ℕ) (its : OpenedToken) (answer : Result PostReply PostError)
       → (post_is : IsOpened IsSealing key posting.body nonce1 client_id its) → IsKeyFor IsSealing before post_is.token key
       → Answers before (offered posting nonce1 client_id) its.text answer after
       → post ≡ record { opened = Some (token_note key its.protected its.iv its.text); answer = answer }
@@ -56,4 +56,5 @@ code_of (Token TokenError.Audience) = code 4 3
 code_of (Token TokenError.BadClaims) = code 4 0
 code_of (Token TokenError.BadScope) = code 4 0
 code_of Revoked = code 4 1
+code_of Replayed = code 4 1
 code_of Full = code 5 3

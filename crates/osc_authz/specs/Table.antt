@@ -7,6 +7,7 @@ use Rattle.osc_model.specs.{stands}
 use Rattle.osc_window.specs.{with_accepted}
 use Rattle.osc_authz.specs.SecurityContext.{SecurityContext}
 use Rattle.osc_authz.specs.Standing.{Standing}
+use Rattle.osc_authz.specs.declared.agreed_post.AgreedPost.{AgreedPost}
 use Rattle.osc_authz.specs.declared.token_entry.TokenEntry.{TokenEntry}
 
 abbrev pub listed : Option SecurityContext → List SecurityContext
@@ -35,12 +36,13 @@ pub record IsTable (table : List TokenEntry) : Type 0 where
 
 -- ---- which of them live
 
--- its token is in its time, and isn't revoked
+-- its token is in its time, and isn't revoked, and it isn't too old
 abbrev pub is_live : Standing → SecurityContext → Bool
 is_live on held =
     option_map_or (λ seconds. nat_le seconds (on.at.ms / 1000)) held.not_before true
     && option_map_or (λ seconds. nat_lt (on.at.ms / 1000) seconds) held.expires true
     && not (stands on.tree held.revocation)
+    && option_map_or (λ seconds. nat_lt (on.at.ms / 1000) seconds) held.ends true
 
 abbrev pub holds_live : Standing → TokenEntry → Bool
 holds_live on entry = option_map_or (is_live on) entry.confirmed false || option_map_or (is_live on) entry.pending false
@@ -112,12 +114,12 @@ without_pending_in token entry = if bytes_eq token entry.id then record entry { 
 abbrev pub without_pending : List ℕ → List TokenEntry → List TokenEntry
 without_pending token table = map (without_pending_in token) table
 
--- with this pending context of a token id, in the place of the one before
-abbrev pub with_pending : List ℕ → SecurityContext → List TokenEntry → List TokenEntry
-with_pending token held [] = (record { id = token; confirmed = None; pending = Some held }) ∷ []
-with_pending token held (entry ∷ table) =
-    if bytes_eq token entry.id then (record entry { pending = Some held }) ∷ table
-    else entry ∷ with_pending token held table
+-- with this pending context of a token id, in the place of the one before, and with the posts that are known of it then
+abbrev pub with_pending : List ℕ → SecurityContext → (List AgreedPost → List AgreedPost) → List TokenEntry → List TokenEntry
+with_pending token held remember [] = (record { id = token; confirmed = None; pending = Some held; posts = remember [] }) ∷ []
+with_pending token held remember (entry ∷ table) =
+    if bytes_eq token entry.id then (record entry { pending = Some held; posts = remember entry.posts }) ∷ table
+    else entry ∷ with_pending token held remember table
 
 -- the least byte that is none of these IDs
 pub record IsLeastFree (taken : List (List ℕ)) (byte : ℕ) : Type 0 where

@@ -18,5 +18,5 @@ pub record IsWelcome (is_sealing : List ℕ → List ℕ → List ℕ → List �
   pub audience : claims.audience ≡ desk.audience
   pub begun : HasBegun claims.not_before on.at
   pub not_over : IsNotOver claims.expires on.at
-  pub unrevoked : is_revoked desk.revoked on.tree claims.material.id ≡ false
+  pub unrevoked : is_revoked desk.rules.revoked on.tree claims.material.id ≡ false
   pub room : ¬ IsFull claims.material.id (alive on desk.table)

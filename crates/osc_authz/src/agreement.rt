@@ -1,8 +1,10 @@
 //! The context that both ends of an exchange agree on (RFC 9203 section 4.3).
 
-ghost use Rattle.std.specs.Prelude.{◌≡◌, ◌≢◌, ◌≤◌, ℕ, List, Option, [], ◌∷◌, length, IfOk};
+ghost use Rattle.std.specs.Prelude.{◌≡◌, ◌≢◌, ◌≤◌, [], ◌∷◌, length, IfOk};
 ghost use Rattle.osc_model.specs.{revocation_of};
-ghost use Rattle.osc_authz.specs.Agreement.{exchanged_name, new_context};
+ghost use Rattle.osc_authz.specs.Agreement.{end_of, name_by, new_context};
+ghost use Rattle.osc_authz.specs.declared.rules.ContextRules.{ContextRules as AnyRules};
+ghost use Rattle.osc_model.specs.declared.node.Moment.{Moment as AnyMoment};
 
 use crate::context::ServerContext;
 use crate::derivation::derived;
@@ -15,7 +17,7 @@ use osc_token::{Claims, InputMaterial};
 use std::alloc::{AllocError, Global};
 
 /// The id of the material, and the name of the context that a post and its answer make of the rest.
-fn name_of(
+pub(crate) fn name_of(
     alloc: Global,
     material: InputMaterial,
     fields: &PostFields<'_>,
@@ -23,7 +25,7 @@ fn name_of(
 ) -> Result<(Bytes, SharedName), AllocError>
     ensures id { IfOk result (λ made. made.0 ≡ material.id) }
     ensures name { IfOk result (λ made. made.1
-        ≡ exchanged_name material fields.now.nonce1.now answer.now.nonce2 (answer.now.recipient_id ∷ []) fields.now.client_id.now) }
+        ≡ name_by material (record { nonce1 = fields.now.nonce1.now; client_id = fields.now.client_id.now; answer = answer.now })) }
 {
     let InputMaterial {
         id,
@@ -43,20 +45,30 @@ fn name_of(
     Ok((id, SharedName::new(alloc, name)?))
 }
 
-/// The id of the token, and the context that it and this answer to a post make, at a server where a resource at this path revokes it.
+/// What ends a context, beside its token's time.
+#[derive(Drop)]
+pub(crate) struct Bounds {
+    /// The path at which a resource revokes its token.
+    pub revocation: Option<Path>,
+    /// The second from which on it is too old.
+    pub ends: Option<u64>,
+}
+
+/// The id of the token, and the context that it and this answer to a post make, which these bounds end.
 pub(crate) fn context_of(
     alloc: Global,
     claims: Claims,
     scope: Scope,
     fields: &PostFields<'_>,
     answer: &PostAnswer,
-    revocation: Option<Path>,
+    bounds: Bounds,
 ) -> Result<(Bytes, ServerContext), AllocError>
     requires short { length fields.now.client_id.now ≤ 7 }
     requires apart { fields.now.client_id.now ≢ answer.now.recipient_id ∷ [] }
     ensures id { IfOk result (λ made. made.0 ≡ claims.material.id) }
-    ensures context { (revoked : Option (List ℕ)) → revocation ≡ revocation_of revoked claims.material.id
-        → IfOk result (λ made. made.1 ≡ new_context revoked claims scope fields.now.nonce1.now fields.now.client_id.now answer.now) }
+    ensures context { (rules : AnyRules) (now : AnyMoment)
+        → bounds.revocation ≡ revocation_of rules.revoked claims.material.id → bounds.ends ≡ end_of rules.seconds now
+        → IfOk result (λ made. made.1 ≡ new_context rules now claims scope (record { nonce1 = fields.now.nonce1.now; client_id = fields.now.client_id.now; answer = answer.now })) }
 {
     let Claims {
         material,
@@ -65,6 +77,7 @@ pub(crate) fn context_of(
         ..
     } = claims;
     let (id, name) = name_of(alloc, material, fields, answer)?;
+    let Bounds { revocation, ends } = bounds;
     let (sender, recipient) = derived(alloc, &name, Side::Server)?;
     let context = ServerContext {
         name,
@@ -74,6 +87,7 @@ pub(crate) fn context_of(
         not_before,
         expires,
         revocation,
+        ends,
     };
     Ok((id, context))
 }

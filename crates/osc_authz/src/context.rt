@@ -22,6 +22,8 @@ pub struct ServerContext {
     pub(crate) expires: Option<u64>,
     // Where a resource says that its token is revoked.
     pub(crate) revocation: Option<Path>,
+    // The second from which on it is too old.
+    pub(crate) ends: Option<u64>,
 }
 
 impl Drop for ServerContext {
@@ -34,6 +36,7 @@ impl Drop for ServerContext {
             not_before: _,
             expires: _,
             revocation: _,
+            ends: _,
         } = self;
     }
 }
@@ -50,7 +53,7 @@ impl Model for ServerContext {
 
     ghost coded = { Prim.hlevel (codes, coded_scope) };
 
-    ghost view = { λ context. record { name = context.name; scope = context.scope; not_before = context.not_before; expires = context.expires; revocation = context.revocation; window = context.recipient.window } };
+    ghost view = { λ context. record { name = context.name; scope = context.scope; not_before = context.not_before; expires = context.expires; revocation = context.revocation; ends = context.ends; window = context.recipient.window } };
 
     ghost invariant = { λ context. (context.sender ≡ sender_of context.name Server 0) × (context.recipient ≡ recipient_of context.name Server context.recipient.window) };
 }
@@ -84,7 +87,7 @@ impl ServerContext {
         &self.scope
     }
 
-    /// Whether its token is in its time, and isn't revoked.
+    /// Whether its token is in its time, and isn't revoked, and it isn't too old.
     pub(crate) fn is_live(&self, on: &Standing<'_>) -> bool
         ensures { result ≡ is_live_of on.now self.now }
     {
@@ -92,6 +95,7 @@ impl ServerContext {
         self.not_before.is_none_or(|first| first <= seconds)
             && self.expires.is_none_or(|end| seconds < end)
             && !is_there(on.tree, &self.revocation)
+            && self.ends.is_none_or(|end| seconds < end)
     }
 
     /// Whether this is its recipient ID.

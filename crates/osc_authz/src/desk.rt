@@ -1,6 +1,6 @@
 //! The server's end of exchanges.
 
-ghost use Rattle.std.specs.Prelude.{◌≡◌, ◌≤◌, ◌⊎◌, ℕ, List, [], length, IfOk, IsErr, IsSome, OnErr, Some, None, Ok, option_map};
+ghost use Rattle.std.specs.Prelude.{◌≡◌, ◌≤◌, ◌⊎◌, ℕ, List, [], length, ◌↔◌, IfOk, IsErr, IsSome, IsTrue, OnErr, Some, None, Ok, option_map};
 ghost use Rattle.std.specs.Option.{IfSome};
 ghost use Rattle.osc_model.specs.declared.context.Side.TheVariants.{Server};
 ghost use Rattle.osc_context.specs.{accepted_of, greatest_number};
@@ -11,26 +11,30 @@ ghost use Rattle.osc_model.specs.{revocation_of};
 ghost use Rattle.osc_token.specs.{ComesTo, IsToken, token_note};
 ghost use Rattle.osc_token.specs.declared.claims.Claims.{Claims as AnyClaims};
 ghost use Rattle.osc_authz.specs.Agreement.{Agrees, Answers};
+ghost use Rattle.osc_authz.specs.Inner.KnownAnswer.{IsKnownAnswer};
 ghost use Rattle.osc_authz.specs.SecurityContext.{SecurityContext};
 ghost use Rattle.osc_authz.specs.Inner.Payload.{post_fields as fields_of};
 ghost use Rattle.osc_token.specs.Inner.Reading.{IsItem};
 ghost use Rattle.osc_authz.specs.Table.{IsTable, IsFull, accepted, alive, confirmed_at, meant, taking, with_id};
 ghost use Rattle.osc_authz.specs.Post.{IsKeyFor, IsKeyOf, Opens, Posts};
 ghost use Rattle.osc_authz.specs.Posting.{OpenedToken};
+ghost use Rattle.osc_authz.specs.Known.{IsStillHeld};
 
-use crate::agreement::context_of;
+use crate::agreed_post::PostRoom;
+use crate::agreement::{Bounds, context_of, name_of};
 use crate::context::ServerContext;
 use crate::error::PostError;
 use crate::payload::{PostFields, post_fields};
 use crate::places::{NOWHERE, Places, places_of};
-use crate::post::{Post, PostAnswer};
+use crate::post::{Post, PostAnswer, PostReply};
+use crate::rules::ContextRules;
 use crate::standing::{Standing, is_there};
-use crate::table;
+use crate::table::{self, Addition};
 use crate::token_entry::TokenEntry;
 use osc_cbor::ItemRef;
 use osc_ccm::Aead;
 use osc_context::AcceptedNumber;
-use osc_model::{Draw, Note, Path, revoked_path};
+use osc_model::{Draw, Note, Path, SharedName, revoked_path};
 use osc_scope::Scope;
 use osc_token::{Audience, Claims, TokenError, judge, open_token};
 use std::alloc::{AllocError, Global};
@@ -44,18 +48,18 @@ pub struct DeskParts {
     pub old_key: Option<[u8; 16]>,
     /// For whom tokens must be.
     pub audience: Audience,
-    /// The path below which a resource revokes a token, by the hexadecimal text of the token's id.
-    pub revoked: Option<Path>,
+    /// What it rules for its contexts.
+    pub rules: ContextRules,
 }
 
 /// The desk at authz-info: it judges tokens, and keeps the contexts that they made. For each token id it has at most one
 /// context that a request has opened under, and one of the newest post; at most 64 token ids have one. A look-up takes the
-/// same time however many there are, and no memory.
+/// same time however many there are, and no memory. Of each token id it knows so many of the newest posts as it is told.
 pub struct ServerDesk {
     key: [u8; 16],
     old_key: Option<[u8; 16]>,
     audience: Audience,
-    revoked: Option<Path>,
+    rules: ContextRules,
     table: Vec<TokenEntry>,
     // Where each recipient ID stands in the table.
     places: Places,
@@ -67,7 +71,7 @@ impl Drop for ServerDesk {
             key: _,
             old_key: _,
             audience: _,
-            revoked: _,
+            rules: _,
             table: _,
             places: _,
         } = self;
@@ -77,6 +81,7 @@ impl Drop for ServerDesk {
 impl Model for ServerDesk {
     ghost use Rattle.osc_authz.specs.Desk.{DeskState};
     ghost use Rattle.osc_authz.specs.Table.{IsTable};
+    ghost use Rattle.osc_authz.specs.Known.{AreFew};
     ghost use Rattle.std.specs.Coded.{codes};
     ghost use Rattle.osc_model.specs.{coded_scope};
 
@@ -84,11 +89,11 @@ impl Model for ServerDesk {
 
     ghost coded = { Prim.hlevel (codes, coded_scope) };
 
-    ghost view = { λ desk. record { key = desk.key; old_key = desk.old_key; audience = desk.audience; revoked = desk.revoked; table = desk.table.items } };
+    ghost view = { λ desk. record { key = desk.key; old_key = desk.old_key; audience = desk.audience; rules = desk.rules; table = desk.table.items } };
 
     ghost use Rattle.osc_authz.specs.Inner.Places.{IsIndex};
 
-    ghost invariant = { λ desk. IsTable desk.table.items × IsIndex desk.places desk.table.items };
+    ghost invariant = { λ desk. IsTable desk.table.items × IsIndex desk.places desk.table.items × AreFew desk.rules.remembered desk.table.items };
 }
 
 /// What a post offers whose token opened: when and on which resources, its fields, and the random bytes of the step.
@@ -113,9 +118,9 @@ impl<'a> Model for Offered<'a> {
 
 impl ServerDesk {
     /// The desk of a server that shares this key with the issuer of tokens for this audience. It has no contexts, no old key and no
-    /// revocation path, and takes no memory.
+    /// rules, and takes no memory.
     pub fn new(alloc: Global, key: [u8; 16], audience: Audience) -> ServerDesk
-        ensures { result ≡ record { key = key; old_key = None; audience = audience; revoked = None; table = [] } }
+        ensures { result ≡ record { key = key; old_key = None; audience = audience; rules = record { revoked = None; seconds = None; remembered = 0 }; table = [] } }
     {
         ServerDesk::of(
             alloc,
@@ -123,26 +128,26 @@ impl ServerDesk {
                 key,
                 old_key: None,
                 audience,
-                revoked: None,
+                rules: ContextRules::none(),
             },
         )
     }
 
     /// The desk of these parts. It has no contexts, and takes no memory.
     pub fn of(alloc: Global, parts: DeskParts) -> ServerDesk
-        ensures { result ≡ record { key = parts.key; old_key = parts.old_key; audience = parts.audience; revoked = parts.revoked; table = [] } }
+        ensures { result ≡ record { key = parts.key; old_key = parts.old_key; audience = parts.audience; rules = parts.rules; table = [] } }
     {
         let DeskParts {
             key,
             old_key,
             audience,
-            revoked,
+            rules,
         } = parts;
         ServerDesk {
             key,
             old_key,
             audience,
-            revoked,
+            rules,
             table: Vec::new(alloc),
             places: [NOWHERE; 256],
         }
@@ -151,7 +156,8 @@ impl ServerDesk {
     /// What a POST to authz-info with this payload does. Where the desk refuses nothing, it adds one pending context, whose
     /// name has the nonce of the draw (its first 8 bytes), in the place of the one that is pending for the token's id, after
     /// the token ids that have no live context have left the table. Its recipient ID is the least byte that no other
-    /// context has and that isn't the client's own. Else nothing is changed.
+    /// context has and that isn't the client's own. Else nothing is changed: a post that is known is answered as before while its context is
+    /// held, and refused after that.
     ///
     /// Without memory nothing is changed; that comes only where the payload is one whole item of CBOR.
     pub fn post<A: Aead>(
@@ -252,7 +258,7 @@ impl ServerDesk {
         alloc: Global,
         offer: &Offered<'_>,
         text: &[u8],
-    ) -> Result<Result<PostAnswer, PostError>, AllocError>
+    ) -> Result<Result<PostReply, PostError>, AllocError>
         requires { length offer.now.client_id ≤ 7 }
         ensures answers { IfOk result (λ answer. Answers self.old offer.now text.now answer self.new) }
         ensures err { OnErr result (self.new ≡ self.old) }
@@ -268,12 +274,12 @@ impl ServerDesk {
         alloc: Global,
         offer: &Offered<'_>,
         verdict: Result<(Claims, Scope), TokenError>,
-    ) -> Result<Result<PostAnswer, PostError>, AllocError>
+    ) -> Result<Result<PostReply, PostError>, AllocError>
         requires { length offer.now.client_id ≤ 7 }
         ensures answers { (text : List ℕ) → ComesTo text self.old.audience offer.now.on.at verdict
             → IfOk result (λ answer. Answers self.old offer.now text answer self.new) }
         ensures memory { IsErr result → (claims : AnyClaims) × (scope : AnyScope) × (verdict ≡ Ok (claims, scope))
-            × (IsSome self.old.revoked ⊎ (¬ IsFull claims.material.id (alive offer.now.on self.old.table))) }
+            × (IsSome self.old.rules.revoked ⊎ (¬ IsFull claims.material.id (alive offer.now.on self.old.table))) }
         ensures err { OnErr result (self.new ≡ self.old) }
     {
         match verdict {
@@ -290,11 +296,11 @@ impl ServerDesk {
         offer: &Offered<'_>,
         claims: Claims,
         scope: Scope,
-    ) -> Result<Result<PostAnswer, PostError>, AllocError>
+    ) -> Result<Result<PostReply, PostError>, AllocError>
         requires { length offer.now.client_id ≤ 7 }
         ensures answers { (text : List ℕ) → ComesTo text self.old.audience offer.now.on.at (Ok (claims, scope))
             → IfOk result (λ answer. Answers self.old offer.now text answer self.new) }
-        ensures memory { IsErr result → IsSome self.old.revoked ⊎ (¬ IsFull claims.material.id (alive offer.now.on self.old.table)) }
+        ensures memory { IsErr result → IsSome self.old.rules.revoked ⊎ (¬ IsFull claims.material.id (alive offer.now.on self.old.table)) }
         ensures err { OnErr result (self.new ≡ self.old) }
     {
         let revocation = self.revocation_of(alloc, claims.material.id.as_slice())?;
@@ -305,16 +311,47 @@ impl ServerDesk {
         if table::is_full(&self.table, on, claims.material.id.as_slice()) {
             return Ok(Err(PostError::Full));
         }
-        Ok(Ok(self.agree(alloc, offer, claims, scope, revocation)?))
+        match table::known(&self.table, claims.material.id.as_slice(), &offer.fields) {
+            Some(made) => self.answer_known(alloc, offer, claims, made),
+            None => Ok(Ok(PostReply::New(self.agree(alloc, offer, claims, scope, revocation)?))),
+        }
+    }
+
+    /// What is answered to a post that is known: what it was answered before, while its context is held.
+    fn answer_known(
+        &self,
+        alloc: Global,
+        offer: &Offered<'_>,
+        claims: Claims,
+        made: PostAnswer,
+    ) -> Result<Result<PostReply, PostError>, AllocError>
+        ensures { IfOk result (λ answer. IsKnownAnswer self.now offer.now claims made answer) }
+    {
+        let (_, name) = name_of(alloc, claims.material, &offer.fields, &made)?;
+        if self.holds(offer.on, &name) {
+            Ok(Ok(PostReply::Known(made)))
+        } else {
+            Ok(Err(PostError::Replayed))
+        }
+    }
+
+    /// Whether the context of this name is held, and lives.
+    fn holds(&self, on: &Standing<'_>, name: &SharedName) -> bool
+        ensures { IsTrue result ↔ IsStillHeld on.now name.now self.now.table }
+    {
+        match self.get(name.client_id.as_slice()) {
+            Some(context) => context.name == *name && context.is_live(on),
+            None => false,
+        }
     }
 
     /// The path at which a resource revokes the tokens of this id: none where the server has no revocation path, or the id is too long for
     /// one. Without memory for it an `AllocError`.
     pub fn revocation_of(&self, alloc: Global, id: &[u8]) -> Result<Option<Path>, AllocError>
-        ensures path { IfOk result (λ path. path ≡ revocation_of self.now.revoked id.now) }
-        ensures memory { IsErr result → IsSome self.now.revoked }
+        ensures path { IfOk result (λ path. path ≡ revocation_of self.now.rules.revoked id.now) }
+        ensures memory { IsErr result → IsSome self.now.rules.revoked }
     {
-        match &self.revoked {
+        match &self.rules.revoked {
             Some(root) => revoked_path(alloc, root, id),
             None => Ok(None),
         }
@@ -332,25 +369,29 @@ impl ServerDesk {
     ) -> Result<PostAnswer, AllocError>
         requires short { length offer.now.client_id ≤ 7 }
         requires room { ¬ IsFull claims.material.id (alive offer.now.on self.old.table) }
-        requires revocation { revocation ≡ revocation_of self.old.revoked claims.material.id }
+        requires revocation { revocation ≡ revocation_of self.old.rules.revoked claims.material.id }
         ensures agreed { IfOk result (λ answer. Agrees self.old offer.now claims scope answer self.new) }
         ensures err { OnErr result (self.new ≡ self.old) }
     {
+        let on = offer.on;
         let token = claims.material.id.as_slice();
         let answer = PostAnswer {
             nonce2: offer.draw.nonce(),
-            recipient_id: table::free_id(&self.table, offer.on, token, offer.fields.client_id),
+            recipient_id: table::free_id(&self.table, on, token, offer.fields.client_id),
         };
-        let (token, context) = context_of(
-            alloc,
-            claims,
-            scope,
-            &offer.fields,
-            &answer,
+        let bounds = Bounds {
             revocation,
-        )?;
+            ends: self.rules.end_of(on.at),
+        };
+        let (token, context) = context_of(alloc, claims, scope, &offer.fields, &answer, bounds)?;
+        let room = PostRoom::new(alloc, self.rules.remembered, &offer.fields, answer)?;
         self.table.reserve_exact(1)?;
-        table::add_pending(&mut self.table, offer.on, token, context);
+        let added = Addition {
+            token,
+            context,
+            room,
+        };
+        table::add_pending(alloc, &mut self.table, on, added);
         self.places = places_of(&self.table);
         Ok(answer)
     }

@@ -21,6 +21,9 @@ pub enum PostError {
     /// Its token is revoked.
     #[error("the token is revoked")]
     Revoked,
+    /// It was agreed to before, and the context that it made is gone.
+    #[error("the post came before")]
+    Replayed,
     /// 64 other tokens have a live context.
     #[error("too many tokens have a context")]
     Full,
@@ -35,6 +38,7 @@ impl PostError {
             PostError::Fields => refusals::FIELDS,
             PostError::Token(error) => error.number(),
             PostError::Revoked => refusals::REVOKED,
+            PostError::Replayed => refusals::REPLAY,
             PostError::Full => refusals::FULL,
         }
     }
@@ -46,7 +50,7 @@ impl PostError {
         match self {
             PostError::Fields => Code::BAD_REQUEST,
             PostError::Token(error) => token_code(error),
-            PostError::Revoked => Code::UNAUTHORIZED,
+            PostError::Revoked | PostError::Replayed => Code::UNAUTHORIZED,
             PostError::Full => Code::SERVICE_UNAVAILABLE,
         }
     }

@@ -1,25 +1,28 @@
 //! Laws of the definitions, for the crates above. These functions do nothing: whoever calls one has its clauses for a proof.
 
-ghost use Rattle.std.specs.Prelude.{◌≡◌, ◌↔◌, ◌≤◌, ◌<◌, ◌^◌, ℕ, List, [], ◌∷◌, length, true, false, Option, Some, Ok, Result, IfSome};
+ghost use Rattle.std.specs.Prelude.{◌≡◌, ◌↔◌, ◌≤◌, ◌<◌, ◌^◌, ℕ, List, [], ◌∷◌, length, true, false, Option, Some, None, Ok, Result, IfSome};
 ghost use Rattle.osc_cbor.specs.{spelling};
 ghost use Rattle.osc_model.specs.{code, nonce_drawn, revocation_of, stands, HasBegun, IsNotOver};
 ghost use Rattle.osc_model.specs.declared.code.Code.{Code as AnyCode};
 ghost use Rattle.osc_authz.specs.Standing.{Standing};
 ghost use Rattle.osc_model.specs.declared.node.Draw.{Draw as AnyDraw};
 ghost use Rattle.osc_scope.specs.{Entry, scope_of};
-ghost use Rattle.osc_token.specs.{HasLawfulParts};
+ghost use Rattle.osc_model.specs.Scope.{Scope as AnyScope};
+ghost use Rattle.osc_token.specs.{ComesTo, HasLawfulParts};
 ghost use Rattle.osc_token.specs.declared.claims.Claims.{Claims as AnyClaims};
 ghost use Rattle.osc_authz.specs.Agreed.{IsAgreed};
+ghost use Rattle.osc_authz.specs.Agreement.{Answers, end_of, known_of};
 ghost use Rattle.osc_authz.specs.Begun.{Begun, ClientContextState};
 ghost use Rattle.osc_authz.specs.Client.{Finishes};
 ghost use Rattle.osc_authz.specs.Contexts.{OfToken, of_tokens, IsLive, AreKept, HasAdded, HasTaken};
 ghost use Rattle.osc_authz.specs.Desk.{DeskState};
 ghost use Rattle.osc_authz.specs.Exchange.{IsPost, IsAnswer, post_item, answer_item};
 ghost use Rattle.osc_authz.specs.SecurityContext.{SecurityContext};
+ghost use Rattle.osc_authz.specs.Known.{AreFew, known};
 ghost use Rattle.osc_authz.specs.HoldsToken.{HoldsToken};
 ghost use Rattle.osc_authz.specs.Members.{In};
 ghost use Rattle.osc_authz.specs.Post.{Posts};
-ghost use Rattle.osc_authz.specs.Posting.{Posting};
+ghost use Rattle.osc_authz.specs.Posting.{Offer, Posting};
 ghost use Rattle.osc_authz.specs.Table.{IsLawfulContext, IsTable, accepted, alive, contexts, is_live, meant, with_pending};
 ghost use Rattle.osc_authz.specs.Welcome.{IsWelcome};
 ghost use Rattle.osc_authz.specs.declared.error.FinishError.{FinishError as AnyFinishError};
@@ -27,6 +30,10 @@ ghost use Rattle.osc_authz.specs.declared.granted.ClientDesk.{ClientDesk as AnyC
 ghost use Rattle.osc_authz.specs.declared.token_entry.TokenEntry.{TokenEntry};
 ghost use Rattle.osc_authz.specs.declared.post.Post.{Post as AnyPost};
 ghost use Rattle.osc_authz.specs.declared.post.PostAnswer.{PostAnswer as AnyAnswer};
+ghost use Rattle.osc_authz.specs.declared.post.PostReply.{PostReply as AnyReply};
+ghost use Rattle.osc_authz.specs.declared.post.PostReply.TheVariants.{Known, New};
+ghost use Rattle.osc_authz.specs.declared.agreed_post.AgreedPost.{AgreedPost};
+ghost use Rattle.osc_authz.specs.declared.error.PostError.{PostError as AnyPostError};
 
 use osc_ccm::Aead;
 
@@ -59,10 +66,10 @@ pub fn lengths_of_answers()
     ensures { (nonce2 : List ℕ) (id : ℕ) → length nonce2 ≡ 8 → length (spelling (answer_item nonce2 (id ∷ []))) ≡ 16 }
 {}
 
-/// A context is live exactly in the time of its token, as long as that isn't revoked.
+/// A context is live exactly in the time of its token, as long as that isn't revoked and the context isn't too old.
 pub fn live_in_its_time()
     ensures { (held : SecurityContext) (on : Standing)
-        → is_live on held ≡ true ↔ (HasBegun held.not_before on.at × IsNotOver held.expires on.at × (stands on.tree held.revocation ≡ false)) }
+        → is_live on held ≡ true ↔ (HasBegun held.not_before on.at × IsNotOver held.expires on.at × (stands on.tree held.revocation ≡ false) × IsNotOver held.ends on.at) }
 {}
 
 /// The context that a request means is held, pending or confirmed, and live, and has the request's kid as its recipient ID.
@@ -102,9 +109,9 @@ pub fn live_contexts()
 /// One more pending context of a token id, where the token ids without a live context have left the table, takes the place of
 /// the one that was pending for this id, and each other that lives stays.
 pub fn one_more_context()
-    ensures { (on : Standing) (token : List ℕ) (held : SecurityContext) (table : List TokenEntry)
-        → IsTable (with_pending token held (alive on table))
-        → HasAdded on token held (of_tokens table) (of_tokens (with_pending token held (alive on table))) }
+    ensures { (on : Standing) (token : List ℕ) (held : SecurityContext) (remember : List AgreedPost → List AgreedPost) (table : List TokenEntry)
+        → IsTable (with_pending token held remember (alive on table))
+        → HasAdded on token held (of_tokens table) (of_tokens (with_pending token held remember (alive on table))) }
 {}
 
 /// Where the context with an ID accepts a number, its window takes the number, it is confirmed in the place of the older one of
@@ -115,20 +122,38 @@ pub fn numbers_taken()
         → HasTaken on number context (of_tokens table) (of_tokens (accepted context.held.name.client_id number table)) }
 {}
 
-/// A post that is answered 2.01 opened, was granted, and made a context.
+/// A post that made a context opened, and was granted.
 pub fn posts_that_agree<A: Aead>()
     ensures { (before after : DeskState) (posting : Posting) (post : AnyPost) (answer : AnyAnswer)
-        → Posts A.is_sealing before posting post after → post.answer ≡ Ok answer
+        → Posts A.is_sealing before posting post after → post.answer ≡ Ok (New answer)
         → IsAgreed A.is_sealing before posting post answer after }
 {}
 
-/// A post with a token that is welcome is answered 2.01, with the nonce of the draw.
+/// A post that is known changes nothing, whatever it is answered.
+pub fn known_posts<A: Aead>()
+    ensures answered { (before after : DeskState) (posting : Posting) (post : AnyPost) (answer : AnyAnswer)
+        → Posts A.is_sealing before posting post after → post.answer ≡ Ok (Known answer) → after ≡ before }
+    ensures unchanged { (before after : DeskState) (offer : Offer) (text : List ℕ) (answer : Result AnyReply AnyPostError)
+        (claims : AnyClaims) (scope : AnyScope) (made : AnyAnswer)
+        → Answers before offer text answer after → ComesTo text before.audience offer.on.at (Ok (claims, scope))
+        → known_of before offer claims ≡ Some made → after ≡ before }
+{
+    osc_token::laws::one_outcome();
+}
+
+/// Where no post is remembered, none is known.
+pub fn no_known_posts()
+    ensures { (token nonce1 client_id : List ℕ) (table : List TokenEntry) → AreFew 0 table → known token nonce1 client_id table ≡ None }
+{}
+
+/// A post with a token that is welcome, and which isn't known, is answered 2.01, with the nonce of the draw.
 pub fn welcome_posts<A: Aead>()
     ensures { (before after : DeskState) (on : Standing) (draw : AnyDraw) (post : AnyPost) (claims : AnyClaims) (entries : List Entry)
         (client : AnyClient) (nonce1 : List ℕ) (id : ℕ)
         → IsWelcome A.is_sealing before on claims entries client → length nonce1 ≡ 8
+        → known claims.material.id nonce1 (id ∷ []) before.table ≡ None
         → Posts A.is_sealing before (record { on = on; body = spelling (post_item client.token nonce1 (id ∷ [])); draw = draw }) post after
-        → (answer : AnyAnswer) × (post.answer ≡ Ok answer) × (answer.nonce2 ≡ nonce_drawn draw) }
+        → (answer : AnyAnswer) × (post.answer ≡ Ok (New answer)) × (answer.nonce2 ≡ nonce_drawn draw) }
 {
     what_is_written();
     one_payload();
@@ -145,11 +170,12 @@ pub fn one_name<A: Aead>()
         → length draw.0 ≡ 32 → length begun.nonce1 ≡ 8 → HoldsToken A.is_sealing before.key claims entries client
         → Posts A.is_sealing before
         (record { on = on; body = spelling (post_item client.token begun.nonce1 (begun.recipient_id ∷ [])); draw = draw }) post after
-        → post.answer ≡ Ok answer
+        → post.answer ≡ Ok (New answer)
         → Finishes client begun (code 2 1) (spelling (answer_item answer.nonce2 (answer.recipient_id ∷ []))) finished
         → (held : SecurityContext) × In held (contexts after.table) × (held.scope ≡ scope_of entries)
         × (held.not_before ≡ claims.not_before) × (held.expires ≡ claims.expires)
-        × (held.revocation ≡ revocation_of before.revoked claims.material.id)
+        × (held.revocation ≡ revocation_of before.rules.revoked claims.material.id)
+        × (held.ends ≡ end_of before.rules.seconds on.at)
         × (finished ≡ Ok (record { name = held.name; next = 0 }))
         × (held.window ≡ []) × IsLawfulContext held
         × (HasLawfulParts claims → IfSome held.name.id_context (λ bytes. length bytes ≤ 64)) }

@@ -4,6 +4,7 @@
 //! Generic over the cipher of tokens: all that is known of it is the law of `Aead`.
 #![tactic(auto)]
 
+mod agreed_post;
 mod agreement;
 mod client;
 mod context;
@@ -16,6 +17,7 @@ mod marks;
 mod payload;
 mod places;
 mod post;
+mod rules;
 mod standing;
 mod table;
 mod token_entry;
@@ -25,5 +27,6 @@ pub use context::ServerContext;
 pub use desk::{DeskParts, ServerDesk};
 pub use error::{FinishError, GrantError, PostError};
 pub use granted::ClientDesk;
-pub use post::{Post, PostAnswer};
+pub use post::{Post, PostAnswer, PostReply};
+pub use rules::ContextRules;
 pub use standing::Standing;

@@ -12,8 +12,8 @@ use osc_model::Note;
 pub struct Post {
     /// The note of the token's opening, if it opened; also where the post was refused for what the token says.
     pub opened: Option<Note>,
-    /// What is answered: 2.01 with this payload, or the code of the refusal.
-    pub answer: Result<PostAnswer, PostError>,
+    /// What is answered: 2.01 with a payload, or the code of the refusal.
+    pub answer: Result<PostReply, PostError>,
 }
 
 impl Post {
@@ -26,6 +26,15 @@ impl Post {
             answer: Err(error),
         }
     }
+}
+
+/// What a post that isn't refused is answered, by 2.01.
+#[derive(Clone, Copy, Debug, PartialEq, Eq)]
+pub enum PostReply {
+    /// It made a context.
+    New(PostAnswer),
+    /// It is known, and the context that it made is held: it is answered as before.
+    Known(PostAnswer),
 }
 
 /// What the server answers to a post that makes a context (RFC 9203 section 4.2).

@@ -1,21 +1,27 @@
 //! The table of a desk: look-ups, what is full, which recipient ID is free, and one more pending context.
 
-ghost use Rattle.std.specs.Prelude.{◌≡◌, ◌↔◌, ℕ, IsFalse, ◌<◌, ◌≤◌, ◌∷◌, length, option_map, bytes_eq, position, IfSome, IsTrue, Some};
+ghost use Rattle.std.specs.Prelude.{◌≡◌, ◌↔◌, ℕ, IsFalse, ◌<◌, ◌≤◌, ◌∷◌, ◌++◌, find, length, option_map, bytes_eq, position, take, IfSome, IsTrue, Some};
 ghost use Rattle.std.specs.Vec.{vec_len, vec_capacity};
 ghost use Rattle.osc_model.specs.declared.context.Side.TheVariants.{Server};
 ghost use Rattle.osc_context.specs.{accepted_of, greatest_number};
 ghost use Rattle.osc_window.specs.{IsFresh};
 ghost use Rattle.osc_authz.specs.SecurityContext.{SecurityContext};
 ghost use Rattle.osc_authz.specs.Inner.Places.{IsIndex};
+ghost use Rattle.osc_authz.specs.Inner.Rooms.{IsRoom};
+ghost use Rattle.osc_authz.specs.Known.{known as known_of};
 ghost use Rattle.osc_authz.specs.Table.{IsTable, IsFull, IsLeastFree, accepted, alive, confirmed_at, has_token, ids, taking, with_id as with_id_of, without_pending, with_pending};
 
+use crate::agreed_post::{AgreedPosts, PostRoom};
 use crate::context::ServerContext;
 use crate::marks::{least_unmarked, mark, mark_staying};
+use crate::payload::PostFields;
 use crate::places::{Places, place_of_id, places_of};
+use crate::post::PostAnswer;
 use crate::standing::Standing;
 use crate::token_entry::TokenEntry;
 use osc_context::AcceptedNumber;
 use osc_model::Bytes;
+use std::alloc::Global;
 
 /// How many token ids have a context at most.
 const MOST: usize = 64;
@@ -120,18 +126,41 @@ pub(crate) fn free_id(table: &[TokenEntry], on: &Standing<'_>, token: &[u8], cli
     }
 }
 
+/// What the post of this token id with these fields was answered, if it is known.
+pub(crate) fn known(table: &[TokenEntry], token: &[u8], fields: &PostFields<'_>) -> Option<PostAnswer>
+    ensures { result ≡ known_of token.now fields.now.nonce1.now fields.now.client_id.now table.now }
+{
+    entry_of(table, token)?.posts.answer(fields.nonce1, fields.client_id)
+}
+
+/// The contexts and posts of a token id.
+fn entry_of<'a>(table: &'a [TokenEntry], token: &[u8]) -> Option<&'a TokenEntry>
+    ensures { option_map (λ entry. entry.now) result ≡ find (λ entry. bytes_eq token.now entry.id) table.now }
+{
+    table.iter().find(|entry| entry.is_of_token(token))
+}
+
+/// A pending context that is to be added, the id of its token, and the room for its post among those that are known.
+#[derive(Drop)]
+pub(crate) struct Addition {
+    pub token: Bytes,
+    pub context: ServerContext,
+    pub room: PostRoom,
+}
+
 /// Lets the token ids without a live context go, and adds this pending one, for which there is room.
 pub(crate) fn add_pending(
+    alloc: Global,
     table: &mut Vec<TokenEntry>,
     on: &Standing<'_>,
-    token: Bytes,
-    context: ServerContext,
+    added: Addition,
 )
-    requires { vec_len table.old < vec_capacity table.old }
-    ensures { table.new.items ≡ with_pending token context (alive on.now table.old.items) }
+    requires room { vec_len table.old < vec_capacity table.old }
+    requires posts { IsRoom added.room }
+    ensures { table.new.items ≡ with_pending added.token added.context (λ older. take added.room.most (added.room.posts.items ++ older)) (alive on.now table.old.items) }
 {
     keep_alive(table, on);
-    put_pending(table, token, context);
+    put_pending(alloc, table, added);
 }
 
 /// How many token ids have a live context.
@@ -161,16 +190,23 @@ fn keep_alive(table: &mut Vec<TokenEntry>, on: &Standing<'_>)
 }
 
 /// Makes this the pending context of its token id, in the room that there is.
-fn put_pending(table: &mut Vec<TokenEntry>, token: Bytes, context: ServerContext)
-    requires { vec_len table.old < vec_capacity table.old }
-    ensures { table.new.items ≡ with_pending token context table.old.items }
+fn put_pending(alloc: Global, table: &mut Vec<TokenEntry>, added: Addition)
+    requires room { vec_len table.old < vec_capacity table.old }
+    requires posts { IsRoom added.room }
+    ensures { table.new.items ≡ with_pending added.token added.context (λ older. take added.room.most (added.room.posts.items ++ older)) table.old.items }
 {
+    let Addition {
+        token,
+        context,
+        room,
+    } = added;
     match place_of(table, token.as_slice()) {
-        Some(index) => table[index].pending = Some(context),
+        Some(index) => table[index].add(alloc, context, room),
         None => table.push_reserved(TokenEntry {
             id: token,
             confirmed: None,
             pending: Some(context),
+            posts: room.before(AgreedPosts::none(alloc)),
         }),
     }
 }

@@ -1,6 +1,7 @@
 //! The contexts of one token id.
 
-ghost use Rattle.std.specs.Prelude.{◌≡◌, ◌≤◌, ◌++◌, true, false, find, option_map, bytes_eq, IsSome};
+ghost use Rattle.std.specs.Prelude.{◌≡◌, ◌≤◌, ◌++◌, true, false, find, option_map, bytes_eq, take, IsSome, Some};
+ghost use Rattle.osc_authz.specs.Inner.Rooms.{IsRoom};
 ghost use Rattle.std.specs.Option.{option_map_or, IfSome};
 ghost use Rattle.osc_model.specs.declared.context.Side.TheVariants.{Server};
 ghost use Rattle.osc_context.specs.{accepted_of, greatest_number};
@@ -8,16 +9,20 @@ ghost use Rattle.osc_window.specs.{IsFresh};
 ghost use Rattle.osc_authz.specs.SecurityContext.{SecurityContext};
 ghost use Rattle.osc_authz.specs.Table.{is_live as is_live_of, holds_live as holds_live_of, holds_id, listed, has_id, taking, accepted_in};
 
+use crate::agreed_post::{AgreedPosts, PostRoom};
 use crate::context::ServerContext;
 use crate::standing::Standing;
 use osc_context::AcceptedNumber;
 use osc_model::Bytes;
+use std::alloc::Global;
+use std::mem;
 
-/// The contexts of one token id: one that a request has opened under, and one of the newest post.
+/// The contexts of one token id: one that a request has opened under, and one of the newest post; and the posts of it that are known.
 pub struct TokenEntry {
     pub id: Bytes,
     pub confirmed: Option<ServerContext>,
     pub pending: Option<ServerContext>,
+    pub posts: AgreedPosts,
 }
 
 impl Drop for TokenEntry {
@@ -26,6 +31,7 @@ impl Drop for TokenEntry {
             id: _,
             confirmed: _,
             pending: _,
+            posts: _,
         } = self;
     }
 }
@@ -77,6 +83,16 @@ impl TokenEntry {
         ensures { result ≡ bytes_eq token.now self.now.id }
     {
         token == self.id.as_slice()
+    }
+
+    /// A post made this context: it is the pending one, and the post is known beside the older ones.
+    pub fn add(&mut self, alloc: Global, context: ServerContext, room: PostRoom)
+        requires { IsRoom room }
+        ensures { self.new ≡ record self.old { pending = Some context; posts = take room.most (room.posts.items ++ self.old.posts) } }
+    {
+        self.pending = Some(context);
+        let older = mem::replace(&mut self.posts, AgreedPosts::none(alloc));
+        self.posts = room.before(older);
     }
 
     /// Whether the pending context has this recipient ID.

@@ -86,6 +86,13 @@ impl Path {
         &self.text
     }
 
+    /// How many segments it has: 1 to 8. Takes no memory.
+    pub fn segments(&self) -> usize
+        ensures { result ≡ length (segments_of self.now) }
+    {
+        slashes(self.text())
+    }
+
     /// Whether this path begins with all segments of the other: it is that path, or one below it. Takes no memory.
     pub fn begins_with(&self, above: &Path) -> bool
         ensures { result ≡ begins_with (segments_of self.now) (segments_of above.now) }

@@ -49,6 +49,6 @@ AreUnrevoked grants revoked tree (entry ∷ entries) =
 pub record OneHistory (w : WorldState) : Type 0 where
   pub legal : IsLegal read_request (grants_of w.minted) w.first (history w.notes)
   pub effects : effect read_request (grants_of w.minted) w.first (history w.notes) ≡ w.server.tree
-  pub none_revoked : AreUnrevoked (grants_of w.minted) w.server.revoked w.first (history w.notes)
+  pub none_revoked : AreUnrevoked (grants_of w.minted) w.server.rules.revoked w.first (history w.notes)
   pub asked : (entry : Entry) → In entry (history w.notes) → IsAskedByHolder w.minted w.notes entry
   pub answered : (a : Acceptance) → In a (acceptances w.notes) → IsReplyOfRequest w.notes a

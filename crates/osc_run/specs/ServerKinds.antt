@@ -1,5 +1,5 @@
 -- The kinds of step that a server may take. Beyond what its kind names, a step seals nothing, adds no context and no entry, drops
--- no context that lives, and changes neither a context that stays nor a resource. The revocation path stays what it is.
+-- no context that lives, and changes neither a context that stays nor a resource. The rules of contexts stay what they are.
 use Rattle.std.specs.Prelude.{◌≡◌, ◌≢◌, ℕ, ◌≤◌, false, IsTrue, List, [], ◌∷◌, length, Option, Some, Ok}
 use Rattle.osc_model.specs.{Outcome, apply_read, is_revoked, out_of_memory, takes_memory, quiet}
 use Rattle.osc_model.specs.Scope.{Scope}
@@ -18,7 +18,7 @@ use Rattle.osc_token.specs.{ComesTo, token_note}
 use Rattle.osc_token.specs.declared.claims.Claims.{Claims}
 use Rattle.osc_authz.specs.{new_context, OfToken, IsLive, AreKept, HasAdded, HasTaken, In}
 use Rattle.osc_authz.specs.Standing.{Standing}
-use Rattle.osc_authz.specs.declared.post.PostAnswer.{PostAnswer}
+use Rattle.osc_authz.specs.declared.agreed_post.AgreedPost.{AgreedPost}
 use Rattle.osc_run.specs.States.{ServerState}
 use Rattle.osc_options.specs.{read_request, reply_text, IsWithinRanges}
 
@@ -52,7 +52,7 @@ pub record IsServerIdle (old : ServerState) (now : Moment) (notes : StepNotes) (
   pub noted : notes ≡ record quiet { opens = opened; refused = refused }
   pub contexts : AreKept (standing old now) old.contexts new.contexts
   pub tree : new.tree ≡ old.tree
-  pub revoked : new.revoked ≡ old.revoked
+  pub rules : new.rules ≡ old.rules
 
 -- A token opens, its claims are granted, and its id isn't revoked. One pending context with the input material, the scope and the times of these claims
 -- is added, in the place of the pending one of the token's id. Its master salt has the nonce that the server drew, its IDs differ,
@@ -66,17 +66,15 @@ pub record IsPosted (old : ServerState) (now : Moment) (notes : StepNotes) (new 
   pub claims : Claims
   pub scope : Scope
   pub granted : ComesTo text audience now (Ok (claims, scope))
-  pub unrevoked : is_revoked old.revoked old.tree claims.material.id ≡ false
-  pub nonce1 : List ℕ
-  pub client_id : List ℕ
-  pub short : length client_id ≤ longest_id
-  pub answer : PostAnswer
-  pub size : length answer.nonce2 ≡ 8
-  pub apart : answer.recipient_id ∷ [] ≢ client_id
-  pub noted : notes ≡ record quiet { opens = Some (token_note key protected iv text); drawn = Some answer.nonce2 }
-  pub contexts : HasAdded (standing old now) claims.material.id (new_context old.revoked claims scope nonce1 client_id answer) old.contexts new.contexts
+  pub unrevoked : is_revoked old.rules.revoked old.tree claims.material.id ≡ false
+  pub post : AgreedPost
+  pub short : length post.client_id ≤ longest_id
+  pub size : length post.answer.nonce2 ≡ 8
+  pub apart : post.answer.recipient_id ∷ [] ≢ post.client_id
+  pub noted : notes ≡ record quiet { opens = Some (token_note key protected iv text); drawn = Some post.answer.nonce2 }
+  pub contexts : HasAdded (standing old now) claims.material.id (new_context old.rules now claims scope post) old.contexts new.contexts
   pub tree : new.tree ≡ old.tree
-  pub revoked : new.revoked ≡ old.revoked
+  pub rules : new.rules ≡ old.rules
 
 -- A request opens under a context that is held and lives, at a fresh number (RFC 8613 sections 7.4 and 8.2). The window takes the
 -- number, and the context is confirmed, in the place of an older confirmed one of its token's id. The machine applies the plaintext
@@ -100,7 +98,7 @@ pub record IsServed (old : ServerState) (now : Moment) (notes : StepNotes) (new 
         served = Some (record { context = context.held.name; number = number; plaintext = text; moment = now; reply = reply });
       }
   pub contexts : HasTaken (standing old now) number context old.contexts new.contexts
-  pub revoked : new.revoked ≡ old.revoked
+  pub rules : new.rules ≡ old.rules
 
 -- The server starts again: no context is left, and each resource stays.
 pub record IsServerRestarted (old : ServerState) (notes : StepNotes) (new : ServerState) : Type 0 where

@@ -7,14 +7,15 @@ use Rattle.osc_model.specs.declared.context.ContextName.{ContextName}
 use Rattle.osc_authz.specs.{ClientContextState, OfToken}
 use Rattle.osc_authz.specs.Begun.{Begun}
 use Rattle.osc_authz.specs.declared.granted.ClientDesk.{ClientDesk}
+use Rattle.osc_authz.specs.declared.rules.ContextRules.{ContextRules}
 use Rattle.osc_run.specs.Notes.{Noted}
 
--- the contexts that a server holds, each with its token's id and whether it is confirmed; its resources; and the path below which these
--- revoke tokens, if there is one
+-- the contexts that a server holds, each with its token's id and whether it is confirmed; its resources; and what it rules for its
+-- contexts
 pub record ServerState : Type 0 where
   pub contexts : List OfToken
   pub tree : Tree
-  pub revoked : Option (List ℕ)
+  pub rules : ContextRules
 
 -- a protected request that waits for its response: its context, its sender sequence number and its plaintext
 pub record OpenAsk : Type 0 where

@@ -8,7 +8,6 @@ pub mod AlgorithmWords
 pub mod ChangeWords
 pub mod ScopeTexts
 pub mod GrantWords
-pub mod RevocationPaths
 pub mod Lines
 pub mod Said
 pub mod Places

@@ -1,9 +1,7 @@
 //! Lines that stand before the first event.
 
 ghost use Rattle.std.specs.Prelude.{◌≡◌, ◌≤◌, ◌==◌, ◌↔◌, ◌∷◌, codes, length, IfOk, IsTrue, map, Some};
-ghost use Rattle.std.specs.List.{count_by};
 ghost use Rattle.osc_cbor.specs.{spelling};
-ghost use Rattle.osc_model.specs.{segments_of};
 ghost use Rattle.osc_token.specs.{most_claims, claims_item};
 ghost use Rattle.osc_script.specs.Grants.{claims_of};
 ghost use Rattle.osc_script.specs.Line.{Say};
@@ -73,23 +71,10 @@ pub(crate) fn revoked(alloc: Global, args: &[&str]) -> Result<Option<Line>, Allo
     let Some(path) = Path::from_text(alloc, path.as_bytes())? else {
         return Ok(None);
     };
-    if segments(&path) > MOST_SEGMENTS {
+    if path.segments() > MOST_SEGMENTS {
         return Ok(None);
     }
     Ok(Some(Line::Revoked { path }))
-}
-
-// How many segments the path has: one after each `/` of its text.
-fn segments(path: &Path) -> usize
-    ensures { result ≡ length (segments_of path.now) }
-{
-    slashes(path.text())
-}
-
-fn slashes(text: &[u8]) -> usize
-    ensures { result ≡ count_by (λ b. b == 47) text.now }
-{
-    text.iter().filter(|b| **b == b'/').count()
 }
 
 // PROXY

@@ -6,4 +6,3 @@ pub mod NoSettings
 pub mod Parts
 pub mod Spelled
 pub mod Resources
-mod RevocationPaths

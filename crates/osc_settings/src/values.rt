@@ -1,7 +1,5 @@
 //! What the texts and the numbers of a document spell.
 ghost use Rattle.std.specs.Prelude.{◌≡◌, ◌==◌, ◌↔◌, length, IfOk, IsTrue, MatchResult};
-ghost use Rattle.std.specs.List.{count_by};
-ghost use Rattle.osc_model.specs.{segments_of};
 ghost use Rattle.std.specs.Net.Grammar.{IsSocketV4Text};
 ghost use Rattle.std.specs.Net.Text.{socket_v4_text};
 ghost use Rattle.osc_settings.specs.Inner.Reading.{IsRefusal, SpellsPath};
@@ -122,23 +120,10 @@ pub(crate) fn revocation_path(alloc: Global, text: &str) -> Result<Path, ValueEr
     ensures { MatchResult result (IsRevocationPath text.now) (IsRefusal (IsRevocationPath text.now)) }
 {
     let path = path(alloc, text)?;
-    if segments(&path) > MOST_SEGMENTS {
+    if path.segments() > MOST_SEGMENTS {
         return Err(ValueError::Bad);
     }
     Ok(path)
-}
-
-// How many segments the path has: one after each `/` of its text.
-fn segments(path: &Path) -> usize
-    ensures { result ≡ length (segments_of path.now) }
-{
-    slashes(path.text())
-}
-
-fn slashes(text: &[u8]) -> usize
-    ensures { result ≡ count_by (λ b. b == 47) text.now }
-{
-    text.iter().filter(|b| **b == b'/').count()
 }
 
 /// The port of a number.

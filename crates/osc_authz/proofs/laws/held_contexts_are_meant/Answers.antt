@@ -41,4 +41,4 @@ pub returns : goal.returns
 returns c = λ now table held is_table here live.
     means now held (with_id held.name.client_id table)
     (found held (contexts table) here (λ other m same. c.one_context.ensures.held table held other is_table here m same))
-    ((c.live_in_its_time.ensures held now).1 (live.begun, live.not_over, live.unrevoked))
+    ((c.live_in_its_time.ensures held now).1 (live.begun, live.not_over, live.unrevoked, live.young))

@@ -1,4 +1,4 @@
-use Rattle.std.proofs.Common.{◌≡◌, ◌∙◌, refl, sym, ap, inl, inr, subst, true, false, ℕ, ◌<◌, ◌≤◌, ◌^◌, List, [], ◌∷◌, length, Result, Ok, Err, arith}
+use Rattle.std.proofs.Common.{◌≡◌, ◌∙◌, refl, sym, ap, inl, inr, subst, true, false, ℕ, ◌<◌, ◌≤◌, ◌^◌, List, [], ◌∷◌, length, Result, Ok, Err, Some, None, arith}
 use Rattle.osc_model.specs.{nonce_drawn, is_revoked, HasBegun, IsNotOver}
 use Rattle.osc_model.specs.Scope.{Scope}
 use Rattle.osc_model.specs.declared.node.Draw.{Draw}
@@ -9,11 +9,12 @@ use Rattle.osc_scope.specs.{Entry, IsScope, scope_of}
 use Rattle.osc_token.specs.{ComesTo, HasLawfulParts, IsToken, algorithm_header, claims_item, token_object}
 use Rattle.osc_token.specs.declared.claims.Claims.{Claims}
 use Rattle.osc_token.specs.declared.error.TokenError.{TokenError}
-use Rattle.osc_authz.specs.{Answers, refused, revoked, full, agreed, DeskState, IsPost, post_item, IsKeyFor, IsOpened, Posts, OpenedToken, offered, IsFull, alive, IsWelcome}
+use Rattle.osc_authz.specs.{Answers, IsGranted, refused, revoked, full, again, replayed, agreed, known, DeskState, IsPost, post_item, IsKeyFor, IsOpened, Posts, OpenedToken, offered, IsFull, alive, IsWelcome}
 use Rattle.osc_authz.specs.Standing.{Standing}
 use Rattle.osc_authz.specs.declared.granted.ClientDesk.{ClientDesk}
 use Rattle.osc_authz.specs.declared.post.Post.{Post}
 use Rattle.osc_authz.specs.declared.post.PostAnswer.{PostAnswer}
+use Rattle.osc_authz.specs.declared.post.PostReply.TheVariants.{New}
 use Rattle.osc_authz.proofs.laws.welcome_posts.Goals as goal
 
 abbrev granted : Claims → Scope → Result (Claims × Scope) TokenError
@@ -48,7 +49,8 @@ module _ (is_sealing : List ℕ → List ℕ → List ℕ → List ℕ → List 
     → ComesTo text claims.audience now outcome
     → outcome ≡ Ok (claims, scope_of entries))
     (before after : DeskState) (on : Standing) (draw : Draw) (post : Post) (claims : Claims) (entries : List Entry) (holder : ClientDesk) (posted : List ℕ) (id : ℕ)
-    (welcome : IsWelcome is_sealing before on claims entries holder) (size : length posted ≡ 8) where
+    (welcome : IsWelcome is_sealing before on claims entries holder) (size : length posted ≡ 8)
+    (unknown : known claims.material.id posted (id ∷ []) before.table ≡ None) where
   abbrev body : List ℕ
   body = spelling (post_item holder.token posted (id ∷ []))
 
@@ -83,7 +85,7 @@ module _ (is_sealing : List ℕ → List ℕ → List ℕ → List ℕ → List 
       (subst (λ (k : List ℕ). IsToken is_sealing k its.token token.protected token.iv token.text) (own_key key nonce1 client_id token its its_key) its.is_token))
       (subst (λ (a : List ℕ). ComesTo token.text a on.at outcome) (sym welcome.audience) comes)
 
-  is_agreed : Posts is_sealing before (record { on = on; body = body; draw = draw }) post after → (answer : PostAnswer) × (post.answer ≡ Ok answer) × (answer.nonce2 ≡ nonce_drawn draw)
+  is_agreed : Posts is_sealing before (record { on = on; body = body; draw = draw }) post after → (answer : PostAnswer) × (post.answer ≡ Ok (New answer)) × (answer.nonce2 ≡ nonce_drawn draw)
   is_agreed (Posts.no_post none is same) = absurd (none holder.token posted (id ∷ []) is_post)
   is_agreed (Posts.not_genuine token nonce1 client_id its none is same) =
       let is : holder.token ≡ token = (one body holder.token posted (id ∷ []) token nonce1 client_id is_post its).0 in
@@ -93,19 +95,28 @@ module _ (is_sealing : List ℕ → List ℕ → List ℕ → List ℕ → List 
       ))
   is_agreed (Posts.opened key nonce1 client_id token answer its its_key answers is) = by answers
     where
-      by : Answers before (offered (record { on = on; body = body; draw = draw }) nonce1 client_id) token.text answer after → (answer : PostAnswer) × (post.answer ≡ Ok answer) × (answer.nonce2 ≡ nonce_drawn draw)
+      isnt_known : (others : Claims) (scope : Scope) (made : PostAnswer) → IsGranted before (offered (record { on = on; body = body; draw = draw }) nonce1 client_id) token.text others scope
+          → known others.material.id nonce1 client_id before.table ≡ Some made → ⊥
+      isnt_known others scope made found k =
+          let same_as : others ≡ claims = same_claims others claims scope (scope_of entries) (comes_to key nonce1 client_id token (granted others scope) its its_key found.comes) in
+          let same_post = one body its.token nonce1 client_id holder.token posted (id ∷ []) its.is_post is_post in
+          let never : Some made ≡ None = sym k ∙ (λ i. known (same_as i).material.id (same_post.1 i) (same_post.2 i) before.table) ∙ unknown in cc
+
+      by : Answers before (offered (record { on = on; body = body; draw = draw }) nonce1 client_id) token.text answer after → (answer : PostAnswer) × (post.answer ≡ Ok (New answer)) × (answer.nonce2 ≡ nonce_drawn draw)
       by (refused error comes is_err same) =
           absurd (never error claims (scope_of entries) (comes_to key nonce1 client_id token (refusal error) its its_key comes))
       by (revoked others scope comes gone is_err same) =
           let same_as : others ≡ claims = same_claims others claims scope (scope_of entries) (comes_to key nonce1 client_id token (granted others scope) its its_key comes) in
-          let never : true ≡ false = sym gone ∙ ap (λ (k : Claims). is_revoked before.revoked on.tree k.material.id) same_as ∙ welcome.unrevoked in cc
-      by (full others scope comes un is_full is_err same) =
-          let same_as : others ≡ claims = same_claims others claims scope (scope_of entries) (comes_to key nonce1 client_id token (granted others scope) its its_key comes) in
+          let never : true ≡ false = sym gone ∙ ap (λ (k : Claims). is_revoked before.rules.revoked on.tree k.material.id) same_as ∙ welcome.unrevoked in cc
+      by (full others scope found is_full is_err same) =
+          let same_as : others ≡ claims = same_claims others claims scope (scope_of entries) (comes_to key nonce1 client_id token (granted others scope) its its_key found.comes) in
           absurd (welcome.room (subst (λ (k : Claims). IsFull k.material.id (alive on before.table)) same_as is_full))
-      by (agreed others scope made comes un not_full agrees answer_is) =
+      by (again others scope made found k held is_ok same) = absurd (isnt_known others scope made found.granted k)
+      by (replayed others scope made found k gone is_err same) = absurd (isnt_known others scope made found.granted k)
+      by (agreed others scope made found k agrees answer_is) =
           (made, ap (λ (p : Post). p.answer) is ∙ answer_is, agrees.drawn)
 
 pub returns : goal.returns
-returns g c = λ before after on draw post claims entries holder posted id welcome size posts.
+returns g c = λ before after on draw post claims entries holder posted id welcome size unknown posts.
     is_agreed g.A.Aead.is_sealing c.what_is_written.ensures.post c.one_payload.ensures.post c.minted_tokens.ensures c.what_was_minted.ensures
-    before after on draw post claims entries holder posted id welcome size posts
+    before after on draw post claims entries holder posted id welcome size unknown posts

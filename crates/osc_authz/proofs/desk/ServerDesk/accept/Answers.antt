@@ -3,6 +3,7 @@ use Rattle.std.proofs.lemmas.List.{take_at}
 use Rattle.osc_authz.specs.declared.token_entry.TokenEntry.{TokenEntry}
 use Rattle.osc_authz.specs.Inner.Places.{IsIndex}
 use Rattle.osc_authz.specs.{IsTable, accepted, with_id}
+use Rattle.osc_authz.proofs.AgreementLemmas.{few_accepted}
 use Rattle.osc_authz.proofs.Lookups.{found_again}
 use Rattle.osc_authz.proofs.TableLaws.{accepted_is_table}
 use Rattle.osc_authz.proofs.desk.ServerDesk.accept.Goals as goal
@@ -25,7 +26,11 @@ kept : (c : goal.After-self-1) → IsTable (take c.self.inside.table.len (c.acce
 kept c = rw (same c) (accepted_is_table c.args.id.now c.args.number c.self.inside.table.items c.self.invariant.0)
 
 pub invariant_of-self : goal.invariant_of-self
-invariant_of-self c = (kept c, subst (λ (table : List TokenEntry). IsIndex c.accept.new.places table) (sym (written c)) c.accept.ensures.index)
+invariant_of-self c = (
+  kept c,
+  subst (λ (table : List TokenEntry). IsIndex c.accept.new.places table) (sym (written c)) c.accept.ensures.index,
+  rw (same c) (few_accepted c.args.id.now c.args.number c.self.inside.rules.remembered c.self.inside.table.items c.self.invariant.2),
+)
 
 pub returns-clause-table : goal.returns-clause-table
 returns-clause-table c = kept c

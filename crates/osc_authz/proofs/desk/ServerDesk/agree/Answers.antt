@@ -1,24 +1,52 @@
-use Rattle.std.proofs.Common.{◌≡◌, ◌∷◌, sym, ap, subst, ◌∙◌}
+use Rattle.std.proofs.Common.{◌≡◌, ℕ, ◌∷◌, ◌++◌, List, take, sym, ap, subst, ◌∙◌}
 use Rattle.osc_model.specs.{nonce_drawn}
-use Rattle.osc_authz.specs.{IsFull, IsLeastFree, IsTable, alive, ids, new_context, with_pending, without_pending}
+use Rattle.osc_authz.specs.{AreFew, agreed_post, end_of, remembering, IsFull, IsLeastFree, IsTable, alive, ids, new_context, with_pending, without_pending}
+use Rattle.osc_authz.specs.declared.agreed_post.AgreedPost.{AgreedPost}
 use Rattle.osc_authz.specs.declared.post.PostAnswer.{PostAnswer}
-use Rattle.osc_authz.proofs.AgreementLemmas.{agreed_is_table}
+use Rattle.osc_authz.proofs.AgreementLemmas.{agreed_is_table, few_after, few_remembered, kept_in_room}
 use Rattle.osc_authz.proofs.desk.ServerDesk.agree.Goals.{After-deref-2}
 use Rattle.osc_authz.proofs.desk.ServerDesk.agree.Goals as goal
+
+-- the post, and what is known of the token id once it is agreed to
+abbrev post : After-deref-2 → AgreedPost
+post c = record { nonce1 = c.offer.inside.fields.nonce1.now; client_id = c.offer.inside.fields.client_id.now; answer = record { nonce2 = c.nonce.result; recipient_id = c.free_id.result } }
+
+abbrev remember : After-deref-2 → List AgreedPost → List AgreedPost
+remember c older = take c.in_ok-room.room.most (c.in_ok-room.room.posts.items ++ older)
+
+-- the context is the one of the claims
+its_context : (c : After-deref-2) → c.in_ok-token.context ≡ new_context c.args.self.now.rules c.offer.inside.on.now.at c.args.claims c.args.scope (post c)
+its_context c =
+    c.in_ok-token.ensures.context c.args.self.now.rules c.offer.inside.on.now.at c.requires.revocation
+    (c.end_of.ensures ∙ (λ i. end_of (c.self.view_is i).rules.seconds (c.on.view_is i).at))
+
+-- few posts stay known
+few : (c : After-deref-2) → AreFew c.self.inside.rules.remembered c.add_pending.new.table.items
+few c =
+    let most = c.in_ok-room.ensures.most in
+    subst (λ (n : ℕ). AreFew n c.add_pending.new.table.items) most
+    (subst (AreFew c.in_ok-room.room.most) (sym c.add_pending.ensures)
+    (few_after c.offer.inside.on.now c.in_ok-token.token c.in_ok-token.context (remember c) c.in_ok-room.room.most c.reserve_exact.new.self.items
+    (λ older. few_remembered c.in_ok-room.room.most (c.in_ok-room.room.posts.items ++ older))
+    (subst (λ (n : ℕ). AreFew n c.reserve_exact.new.self.items) (sym most) (subst (AreFew c.self.inside.rules.remembered) (sym c.in_ok-reserve_exact.ensures.items) c.self.invariant.2))))
+
+-- the post is the first that is known
+first_known : (c : After-deref-2) (older : List AgreedPost) → remember c older ≡ remembering c.self.inside.rules.remembered (post c) older
+first_known c older =
+    (λ i. take (c.in_ok-room.ensures.most i) (c.in_ok-room.room.posts.items ++ older))
+    ∙ kept_in_room c.self.inside.rules.remembered (post c) c.in_ok-room.room.posts.items older c.in_ok-room.ensures.post
 
 -- the table with the context is a table
 added : (c : After-deref-2) → IsTable c.add_pending.new.table.items
 added c =
     let table = ap (λ desk. desk.table) c.self.view_is in
     let on = ap (λ offer. offer.on) c.offer.view_is in
-    let fields = c.offer.inside.fields in
-    agreed_is_table c.offer.inside.on.now c.args.self.now.revoked c.args.claims c.args.scope fields.nonce1.now fields.client_id.now
-    (record { nonce2 = c.nonce.result; recipient_id = c.free_id.result })
+    agreed_is_table c.offer.inside.on.now c.args.self.now.rules c.args.claims c.args.scope (post c) (remember c)
     c.args.self.now.table c.deref.result.now c.reserve_exact.new.self.items c.add_pending.new.table.items c.as_slice-token.result.now
     c.in_ok-token.token c.in_ok-token.context (subst IsTable table c.self.invariant.0)
     (subst (λ s. ¬ IsFull c.args.claims.material.id (alive s c.args.self.now.table)) (sym on) c.requires.room)
     c.as_slice-token.ensures (c.deref.ensures.value ∙ table) c.free_id.ensures
-    c.in_ok-token.ensures.id (c.in_ok-token.ensures.context c.args.self.now.revoked c.requires.revocation)
+    c.in_ok-token.ensures.id (its_context c)
     (c.in_ok-reserve_exact.ensures.items ∙ table) c.add_pending.ensures
 
 pub places_of-self-inside-requires : goal.places_of-self-inside-requires
@@ -28,6 +56,7 @@ pub invariant_of-self-2 : goal.invariant_of-self-2
 invariant_of-self-2 c = (
   added (goal.at.invariant_of-self-2 c).After-deref-2,
   rw (← c.deref-2.ensures.value) c.places_of-self-inside.ensures,
+  few (goal.at.invariant_of-self-2 c).After-deref-2,
 )
 
 pub returns-clause-agreed : goal.returns-clause-agreed
@@ -37,15 +66,17 @@ returns-clause-agreed c =
     let id = c.as_slice-token.ensures in
     let answer : PostAnswer = record { nonce2 = c.nonce.result; recipient_id = c.free_id.result } in
     let seen = c.deref.ensures.value ∙ table in
+    let at = (goal.at.returns-clause-agreed c).After-deref-2 in
     let reserved = c.in_ok-reserve_exact.ensures.items ∙ table in
-    let context = c.in_ok-token.ensures.context c.args.self.now.revoked c.requires.revocation in
+    let context = its_context at in
     let added : c.add_pending.new.table.items
-    ≡ with_pending c.args.claims.material.id (new_context c.args.self.now.revoked c.args.claims c.args.scope c.args.offer.now.nonce1 c.args.offer.now.client_id answer)
-    (alive c.args.offer.now.on c.args.self.now.table) =
+    ≡ with_pending c.args.claims.material.id (new_context c.args.self.now.rules c.args.offer.now.on.at c.args.claims c.args.scope (agreed_post c.args.offer.now answer))
+    (remembering c.args.self.now.rules.remembered (agreed_post c.args.offer.now answer)) (alive c.args.offer.now.on c.args.self.now.table) =
     c.add_pending.ensures
-    ∙ (λ i. with_pending (c.in_ok-token.ensures.id i) (context i) (alive (on i) (reserved i)))
+    ∙ (λ i. with_pending (c.in_ok-token.ensures.id i) (context i) (λ older. first_known at older i) (alive (on i) (reserved i)))
     ∙ (λ i. with_pending c.args.claims.material.id
-    (new_context c.args.self.now.revoked c.args.claims c.args.scope (c.offer.view_is i).nonce1 (c.offer.view_is i).client_id answer)
+    (new_context c.args.self.now.rules (on i).at c.args.claims c.args.scope (agreed_post (c.offer.view_is i) answer))
+    (remembering (c.self.view_is i).rules.remembered (agreed_post (c.offer.view_is i) answer))
     (alive c.args.offer.now.on c.args.self.now.table))
     in
     record {
