@@ -1,6 +1,5 @@
 -- As many as there is room for.
 use Rattle.std.proofs.Common.{◌≡◌, ℕ, zero, suc, ◌≤◌, ◌<◌, List, [], ◌∷◌, ◌++◌, length, take, refl, sym, ap, ◌∙◌, arith, append_assoc}
-use Rattle.std.proofs.lemmas.List.{take-append-le}
 use Rattle.osc_authz.specs.declared.agreed_post.AgreedPost.{AgreedPost}
 
 take_none : (n : ℕ) → take n (let none : List AgreedPost = [] in none) ≡ []

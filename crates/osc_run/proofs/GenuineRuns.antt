@@ -10,6 +10,7 @@ use Rattle.osc_model.specs.declared.step.Entry.{Entry}
 use Rattle.osc_model.specs.declared.step.Note.{Note}
 use Rattle.osc_token.specs.{token_note}
 use Rattle.osc_authz.specs.{OfToken, confirmed_by, In}
+use Rattle.osc_authz.specs.declared.rules.ContextRules.{ContextRules}
 use Rattle.osc_run.specs.{Noted, ByClient, by_server, by_client, by_proxy, ServerState, ClientState, Minted, grants_of, WorldState, opening_note, IsServed, ServerStep, ServerIdle, Posted, Served, ServerRestarted, request_note, response_note, IsEnding, IsAnswered, ClientStep, ClientIdle, Started, Made, Asked, Answered, Ended, Lied, ClientRestarted, IsTextOf, IsStart, WorldStep, OfServer, OfClient, OfProxy, Skipped, IsRun, IsGenuineOpening, IsGenuine, HasOwnSecrets, AreUnrevoked, history, questions, question_in, Acceptance, acceptance_in, acceptances, IsReplyOfRequest}
 use Rattle.osc_options.specs.{read_request}
 use Rattle.osc_run.specs.Premise.{Premise}
@@ -24,10 +25,10 @@ use Rattle.osc_run.proofs.Replied.{AskedBy, more_asked_by, sealed_question, no_t
 -- what is known of the history
 pub record Right (w : WorldState) : Type 0 where
   pub texts : (m : Minted) → In m w.minted → IsTextOf m.grant m.text
-  pub granted : (c : OfToken) → In c w.server.contexts → Granted w.minted w.server.revoked c.held
+  pub granted : (c : OfToken) → In c w.server.contexts → Granted w.minted w.server.rules.revoked c.held
   pub legal : IsLegal read_request (grants_of w.minted) w.first (history w.notes)
   pub effects : effect read_request (grants_of w.minted) w.first (history w.notes) ≡ w.server.tree
-  pub unrevoked : AreUnrevoked (grants_of w.minted) w.server.revoked w.first (history w.notes)
+  pub unrevoked : AreUnrevoked (grants_of w.minted) w.server.rules.revoked w.first (history w.notes)
   pub asked : (e : Entry) → In e (history w.notes) → AskedBy w.minted w.notes e.context e.number e.plaintext
   pub answered : (a : Acceptance) → In a (acceptances w.notes) → IsReplyOfRequest w.notes a
 
@@ -54,17 +55,17 @@ more_replied notes s a r = record {
 -- ---- a step that serves nothing and accepts nothing
 
 same_history : (v : WorldState) (s : Noted) (server : ServerState) (clients : List ClientState) → s.notes.served ≡ None → accepted_in s ≡ None
-    → ((c : OfToken) → In c server.contexts → Granted v.minted v.server.revoked c.held) → server.tree ≡ v.server.tree → server.revoked ≡ v.server.revoked → Right v
+    → ((c : OfToken) → In c server.contexts → Granted v.minted v.server.rules.revoked c.held) → server.tree ≡ v.server.tree → server.rules ≡ v.server.rules → Right v
     → Right (record v { server = server; clients = clients; notes = s ∷ v.notes })
 same_history v s server clients h g granted t r k =
     let same : history (s ∷ v.notes) ≡ history v.notes = collected_same (λ (r : Noted). r.notes.served) s v.notes h in
     record {
       texts = k.texts;
-      granted = subst (λ (o : Option (List ℕ)). (c : OfToken) → In c server.contexts → Granted v.minted o c.held) (sym r) granted;
+      granted = subst (λ (o : ContextRules). (c : OfToken) → In c server.contexts → Granted v.minted o.revoked c.held) (sym r) granted;
       legal = subst (IsLegal read_request (grants_of v.minted) v.first) (sym same) k.legal;
       effects = ap (effect read_request (grants_of v.minted) v.first) same ∙ k.effects ∙ sym t;
-      unrevoked = subst (λ (o : Option (List ℕ)). AreUnrevoked (grants_of v.minted) o v.first (history (s ∷ v.notes))) (sym r)
-          (subst (AreUnrevoked (grants_of v.minted) v.server.revoked v.first) (sym same) k.unrevoked);
+      unrevoked = subst (λ (o : ContextRules). AreUnrevoked (grants_of v.minted) o.revoked v.first (history (s ∷ v.notes))) (sym r)
+          (subst (AreUnrevoked (grants_of v.minted) v.server.rules.revoked v.first) (sym same) k.unrevoked);
       asked = λ e m. more_asked_by v.minted v.notes s e (k.asked e (none_served v.notes s e h m));
       answered = λ a m. more_replied v.notes s a (k.answered a (collected_none accepted_in s v.notes a g m));
     }
@@ -85,8 +86,8 @@ right_of_served laws v now server notes p genuine own kept k =
     let g = k.granted x p.is_held in
     record {
       texts = k.texts;
-      granted = subst (λ (o : Option (List ℕ)). (c : OfToken) → In c server.contexts → Granted v.minted o c.held) (sym p.revoked) (λ c m. ⊎_elim
-          (λ (u : c ≡ confirmed_by p.number x). subst (λ (d : OfToken). Granted v.minted v.server.revoked d.held) (sym u) (record { source = g.source; granted = g.granted; secret = g.secret; scope = g.scope; not_before = g.not_before; expires = g.expires; revocation = g.revocation }))
+      granted = subst (λ (o : ContextRules). (c : OfToken) → In c server.contexts → Granted v.minted o.revoked c.held) (sym p.rules) (λ c m. ⊎_elim
+          (λ (u : c ≡ confirmed_by p.number x). subst (λ (d : OfToken). Granted v.minted v.server.rules.revoked d.held) (sym u) (record { source = g.source; granted = g.granted; secret = g.secret; scope = g.scope; not_before = g.not_before; expires = g.expires; revocation = g.revocation }))
           (λ (u : In c v.server.contexts × (c.held.name ≢ x.held.name)). k.granted c u.0)
           (p.contexts.only c m));
       legal = still_legal laws v.minted v.first v.notes v.server server now s p own g kept.server k.effects k.legal;
@@ -102,19 +103,19 @@ right_of_served laws v now server notes p genuine own kept k =
 right_of_server : Laws → (v : WorldState) (now : Moment) (server : ServerState) (notes : StepNotes) → ServerStep v.server now notes server → IsGenuine v.minted (by_server notes ∷ v.notes) → HasOwnSecrets v.minted → Kept v → Right v
     → Right (record v { server = server; notes = by_server notes ∷ v.notes })
 right_of_server laws v now server notes (ServerIdle p) genuine own kept k =
-    same_history v (by_server notes) server v.clients (ap (λ (r : StepNotes). r.served) p.noted) refl (λ c m. k.granted c (p.contexts.only c m)) p.tree p.revoked k
+    same_history v (by_server notes) server v.clients (ap (λ (r : StepNotes). r.served) p.noted) refl (λ c m. k.granted c (p.contexts.only c m)) p.tree p.rules k
 right_of_server laws v now server notes (Posted p) genuine own kept k =
     let a : OfToken = added_of v.server server now notes p in
     let opening = genuine.0 (token_note p.key p.protected p.iv p.text) (ap (λ (r : StepNotes). r.opens) p.noted) in
     let new = posted_granted v.minted v.notes v.server server now notes p k.texts opening in
     same_history v (by_server notes) server v.clients (ap (λ (r : StepNotes). r.served) p.noted) refl
-    (λ c m. ⊎_elim (λ (u : c ≡ a). subst (λ (d : OfToken). Granted v.minted v.server.revoked d.held) (sym u) new) (λ (u : In c v.server.contexts). k.granted c u) (p.contexts.only c m))
-    p.tree p.revoked k
+    (λ c m. ⊎_elim (λ (u : c ≡ a). subst (λ (d : OfToken). Granted v.minted v.server.rules.revoked d.held) (sym u) new) (λ (u : In c v.server.contexts). k.granted c u) (p.contexts.only c m))
+    p.tree p.rules k
 right_of_server laws v now server notes (Served p) genuine own kept k = right_of_served laws v now server notes p genuine own kept k
 right_of_server laws v now server notes (ServerRestarted p) genuine own kept k =
     same_history v (by_server notes) server v.clients (ap (λ (r : StepNotes). r.served) p.noted) refl
     (λ c m. absurd (subst (λ (t : ServerState). In c t.contexts) p.is m))
-    (ap (λ (t : ServerState). t.tree) p.is) (ap (λ (t : ServerState). t.revoked) p.is) k
+    (ap (λ (t : ServerState). t.tree) p.is) (ap (λ (t : ServerState). t.rules) p.is) k
 
 -- ---- a client
 
@@ -184,7 +185,7 @@ right_of_client laws v i lied old new notes at (Answered honest p) genuine own k
       granted = k.granted;
       legal = subst (IsLegal read_request (grants_of v.minted) v.first) (sym same) k.legal;
       effects = ap (effect read_request (grants_of v.minted) v.first) same ∙ k.effects;
-      unrevoked = subst (AreUnrevoked (grants_of v.minted) v.server.revoked v.first) (sym same) k.unrevoked;
+      unrevoked = subst (AreUnrevoked (grants_of v.minted) v.server.rules.revoked v.first) (sym same) k.unrevoked;
       asked = λ e m. more_asked_by v.minted v.notes s e (k.asked e (none_served v.notes s e none m));
       answered = λ a m. ⊎_elim
           (λ (u : a ≡ b). more_replied v.notes s a (subst (IsReplyOfRequest v.notes) (sym u) reply))
@@ -223,7 +224,7 @@ right_start w p = record {
   granted = λ c m. absurd (subst (In c) p.contexts m);
   legal = subst (λ (n : List Noted). IsLegal read_request (grants_of w.minted) w.first (history n)) (sym p.notes) (record { once = tt; timely = tt; answered = tt });
   effects = ap (λ (n : List Noted). effect read_request (grants_of w.minted) w.first (history n)) p.notes ∙ sym p.tree;
-  unrevoked = subst (λ (n : List Noted). AreUnrevoked (grants_of w.minted) w.server.revoked w.first (history n)) (sym p.notes) tt;
+  unrevoked = subst (λ (n : List Noted). AreUnrevoked (grants_of w.minted) w.server.rules.revoked w.first (history n)) (sym p.notes) tt;
   asked = λ e m. absurd (subst (λ (n : List Noted). In e (history n)) p.notes m);
   answered = λ a m. absurd (subst (λ (n : List Noted). In a (acceptances n)) p.notes m);
 }

@@ -16,6 +16,7 @@ use Rattle.osc_window.specs.{IsFresh}
 use Rattle.osc_token.specs.{ComesTo, token_note}
 use Rattle.osc_authz.specs.SecurityContext.{SecurityContext}
 use Rattle.osc_authz.specs.{In}
+use Rattle.osc_authz.specs.declared.rules.ContextRules.{ContextRules}
 use Rattle.osc_run.specs.{Noted, ServerState, Minted, grants_of, Replies, Applied, OutOfMemory, IsPosted, IsServed, IsTextOf, IsGenuineOpening, HasOwnSecrets, IsUnrevoked, AreUnrevoked, history}
 use Rattle.osc_options.specs.{read_request}
 use Rattle.osc_run.proofs.LawsBelow.{Laws}
@@ -57,7 +58,7 @@ pub record Granted (minted : List Minted) (revoked : Option (List ℕ)) (c : Sec
 
 -- a context that a genuine token added
 pub posted_granted : (minted : List Minted) (earlier : List Noted) (old new : ServerState) (now : Moment) (notes : StepNotes) (p : IsPosted old now notes new)
-    → ((m : Minted) → In m minted → IsTextOf m.grant m.text) → IsGenuineOpening minted earlier (token_note p.key p.protected p.iv p.text) → Granted minted old.revoked (added_of old new now notes p).held
+    → ((m : Minted) → In m minted → IsTextOf m.grant m.text) → IsGenuineOpening minted earlier (token_note p.key p.protected p.iv p.text) → Granted minted old.rules.revoked (added_of old new now notes p).held
 posted_granted minted earlier old new now notes p texts genuine =
     let m = genuine.token (refl, refl) in
     let rights = texts m.0 m.1 p.audience now p.claims p.scope (subst (λ (text : List ℕ). ComesTo text p.audience now (Ok (p.claims, p.scope))) (sym m.2) p.granted) in
@@ -68,7 +69,7 @@ posted_granted minted earlier old new now notes p texts genuine =
       scope = sym rights.scope;
       not_before = sym rights.not_before;
       expires = sym rights.expires;
-      revocation = sym (ap (revocation_of old.revoked) rights.id);
+      revocation = sym (ap (revocation_of old.rules.revoked) rights.id);
     }
 
 -- ---- one more entry
@@ -111,10 +112,10 @@ module _ (laws : Laws) (minted : List Minted) (first : Tree) (notes : List Noted
   abbrev its : Entry
   its = entry_of old new now s.notes p
 
-  scope_is : HasOwnSecrets minted → Granted minted old.revoked p.context.held → scope_of (grant_of (grants_of minted) p.context.held.name) ≡ p.context.held.scope
+  scope_is : HasOwnSecrets minted → Granted minted old.rules.revoked p.context.held → scope_of (grant_of (grants_of minted) p.context.held.name) ≡ p.context.held.scope
   scope_is own g = ap scope_of (grant_found minted g.source p.context.held.name own g.granted g.secret) ∙ g.scope
 
-  may_follow : HasOwnSecrets minted → Granted minted old.revoked p.context.held → ServerPart old.contexts notes → effect read_request (grants_of minted) first (history notes) ≡ old.tree
+  may_follow : HasOwnSecrets minted → Granted minted old.rules.revoked p.context.held → ServerPart old.contexts notes → effect read_request (grants_of minted) first (history notes) ≡ old.tree
       → MayFollow read_request (grants_of minted) first (history notes) its
   may_follow own g k tree =
       let found = grant_found minted g.source p.context.held.name own g.granted g.secret in
@@ -131,12 +132,12 @@ module _ (laws : Laws) (minted : List Minted) (first : Tree) (notes : List Noted
   more : history (s ∷ notes) ≡ history notes ++ its ∷ []
   more = collected_push (λ (r : Noted). r.notes.served) s notes its (ap (λ (r : StepNotes). r.served) p.noted)
 
-  pub still_legal : HasOwnSecrets minted → Granted minted old.revoked p.context.held → ServerPart old.contexts notes → effect read_request (grants_of minted) first (history notes) ≡ old.tree
+  pub still_legal : HasOwnSecrets minted → Granted minted old.rules.revoked p.context.held → ServerPart old.contexts notes → effect read_request (grants_of minted) first (history notes) ≡ old.tree
       → IsLegal read_request (grants_of minted) first (history notes) → IsLegal read_request (grants_of minted) first (history (s ∷ notes))
   still_legal own g k tree legal =
       subst (IsLegal read_request (grants_of minted) first) (sym more) (laws.one_more_legal read_request (grants_of minted) first (history notes) its legal (may_follow own g k tree))
 
-  pub still_effects : HasOwnSecrets minted → Granted minted old.revoked p.context.held → effect read_request (grants_of minted) first (history notes) ≡ old.tree
+  pub still_effects : HasOwnSecrets minted → Granted minted old.rules.revoked p.context.held → effect read_request (grants_of minted) first (history notes) ≡ old.tree
       → effect read_request (grants_of minted) first (history (s ∷ notes)) ≡ new.tree
   still_effects own g tree =
       let its_scope = scope_is own g in
@@ -145,16 +146,16 @@ module _ (laws : Laws) (minted : List Minted) (first : Tree) (notes : List Noted
       ∙ (λ i. if p.reply.code.0 == 160 then tree i else (apply_read (tree i) (its_scope i) (read_request p.text)).tree)
       ∙ tree_is laws old.tree p.context.held.scope (read_request p.text) p.reply new.tree p.tree
 
-  is_unrevoked : HasOwnSecrets minted → Granted minted old.revoked p.context.held → IsUnrevoked (grants_of minted) old.revoked old.tree its
+  is_unrevoked : HasOwnSecrets minted → Granted minted old.rules.revoked p.context.held → IsUnrevoked (grants_of minted) old.rules.revoked old.tree its
   is_unrevoked own g =
       let found = grant_found minted g.source p.context.held.name own g.granted g.secret in
-      subst (λ (o : Option Grant). IsSomeAnd o (λ grant. is_revoked old.revoked old.tree grant.id ≡ false)) (sym found)
+      subst (λ (o : Option Grant). IsSomeAnd o (λ grant. is_revoked old.rules.revoked old.tree grant.id ≡ false)) (sym found)
       (ap (stands old.tree) g.revocation ∙ p.is_live.unrevoked)
 
-  pub still_unrevoked : HasOwnSecrets minted → Granted minted old.revoked p.context.held → effect read_request (grants_of minted) first (history notes) ≡ old.tree
-      → AreUnrevoked (grants_of minted) old.revoked first (history notes) → AreUnrevoked (grants_of minted) new.revoked first (history (s ∷ notes))
+  pub still_unrevoked : HasOwnSecrets minted → Granted minted old.rules.revoked p.context.held → effect read_request (grants_of minted) first (history notes) ≡ old.tree
+      → AreUnrevoked (grants_of minted) old.rules.revoked first (history notes) → AreUnrevoked (grants_of minted) new.rules.revoked first (history (s ∷ notes))
   still_unrevoked own g tree all =
-      subst (λ (r : Option (List ℕ)). AreUnrevoked (grants_of minted) r first (history (s ∷ notes))) (sym p.revoked)
-      (subst (AreUnrevoked (grants_of minted) old.revoked first) (sym more)
-      (one_more_unrevoked (grants_of minted) old.revoked first (history notes) its all
-      (subst (λ (t : Tree). IsUnrevoked (grants_of minted) old.revoked t its) (sym tree) (is_unrevoked own g))))
+      subst (λ (r : ContextRules). AreUnrevoked (grants_of minted) r.revoked first (history (s ∷ notes))) (sym p.rules)
+      (subst (AreUnrevoked (grants_of minted) old.rules.revoked first) (sym more)
+      (one_more_unrevoked (grants_of minted) old.rules.revoked first (history notes) its all
+      (subst (λ (t : Tree). IsUnrevoked (grants_of minted) old.rules.revoked t its) (sym tree) (is_unrevoked own g))))

@@ -19,3 +19,4 @@ mod OneRound
 mod ServerDoes
 mod ClientDoes
 mod Read
+mod Ages

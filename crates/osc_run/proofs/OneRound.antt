@@ -23,7 +23,9 @@ use Rattle.osc_authz.specs.{new_context, OfToken, pending_of, confirmed_by}
 use Rattle.osc_authz.specs.Begun.{Begun}
 use Rattle.osc_authz.specs.SecurityContext.{SecurityContext}
 use Rattle.osc_authz.specs.declared.granted.ClientDesk.{ClientDesk}
+use Rattle.osc_authz.specs.declared.agreed_post.AgreedPost.{AgreedPost}
 use Rattle.osc_authz.specs.declared.post.PostAnswer.{PostAnswer}
+use Rattle.osc_authz.specs.declared.rules.ContextRules.{ContextRules}
 use Rattle.osc_run.specs.{Noted, by_server, by_client, ClientState, Nothing, Exchange, Ask, Minted, WorldState, opening_note, reply_note, Replies, Applied, Posted, Served, request_note, response_note, Started, Made, Asked, Answered, IsTextOf, IsStart, IsNewClient, WorldStep, OfServer, OfClient, IsReached, IsGenuineOpening, IsGenuine, HasFreshDraws}
 use Rattle.osc_run.specs.Premise.{Premise}
 
@@ -92,8 +94,17 @@ module _ (key text audience : List ℕ) (now : Moment) (claims : Claims) (lawful
   abbrev answer : PostAnswer
   answer = record { nonce2 = eight 2; recipient_id = 1 }
 
+  no_age : (seconds : ℕ) → None ≡ Some seconds → ⊥
+  no_age seconds e = cc
+
+  abbrev rules : ContextRules
+  rules = record { revoked = None; seconds = None; remembered = 0 }
+
+  abbrev post : AgreedPost
+  post = record { nonce1 = eight 1; client_id = byte 0; answer = answer }
+
   abbrev held : SecurityContext
-  held = new_context None claims scope (eight 1) (byte 0) answer
+  held = new_context rules now claims scope post
 
   abbrev name : ContextName
   name = held.name
@@ -150,7 +161,7 @@ module _ (key text audience : List ℕ) (now : Moment) (claims : Claims) (lawful
   world contexts client notes = record {
     minted = (record { grant = grant; text = text }) ∷ [];
     first = tree;
-    server = record { contexts = contexts; tree = tree; revoked = None };
+    server = record { contexts = contexts; tree = tree; rules = rules };
     clients = client ∷ [];
     notes = notes;
   }
@@ -192,7 +203,7 @@ module _ (key text audience : List ℕ) (now : Moment) (claims : Claims) (lawful
       (Started refl (record { begun = begun; size = refl; offered = refl; noted = refl; before = refl; is = refl })) refl
 
   step_posted : Has → WorldStep (world [] waiting (started ∷ [])) (world (pending ∷ []) waiting (posted ∷ started ∷ []))
-  step_posted h = OfServer now (record { contexts = pending ∷ []; tree = tree; revoked = None }) (record quiet { opens = Some (token_note key [] [] text); drawn = Some (eight 2) })
+  step_posted h = OfServer now (record { contexts = pending ∷ []; tree = tree; rules = rules }) (record quiet { opens = Some (token_note key [] [] text); drawn = Some (eight 2) })
       (Posted (record {
         key = key;
         protected = [];
@@ -203,10 +214,8 @@ module _ (key text audience : List ℕ) (now : Moment) (claims : Claims) (lawful
         scope = scope;
         granted = h.granted;
         unrevoked = refl;
-        nonce1 = eight 1;
-        client_id = byte 0;
+        post = post;
         short = omega arith;
-        answer = answer;
         size = refl;
         apart = other_id;
         noted = refl;
@@ -217,7 +226,7 @@ module _ (key text audience : List ℕ) (now : Moment) (claims : Claims) (lawful
           live = λ c m live. absurd m;
         };
         tree = refl;
-        revoked = refl;
+        rules = refl;
       })) refl
 
   step_made : WorldStep (world (pending ∷ []) waiting (posted ∷ started ∷ [])) (world (pending ∷ []) ready (made ∷ posted ∷ started ∷ []))
@@ -239,11 +248,11 @@ module _ (key text audience : List ℕ) (now : Moment) (claims : Claims) (lawful
       (Asked refl (record { context = record { name = name; next = 0 }; lawful = omega arith; plaintext = []; noted = refl; held = refl; before = refl; is = refl })) refl
 
   step_served : Has → WorldStep (world (pending ∷ []) asking (asked ∷ made ∷ posted ∷ started ∷ [])) (world (confirmed ∷ []) asking (served ∷ asked ∷ made ∷ posted ∷ started ∷ []))
-  step_served h = OfServer now (record { contexts = confirmed ∷ []; tree = tree; revoked = None }) (record quiet { seals = Some (reply_note name 0 refusal); opens = Some (opening_note name 0 []); served = Some entry })
+  step_served h = OfServer now (record { contexts = confirmed ∷ []; tree = tree; rules = rules }) (record quiet { seals = Some (reply_note name 0 refusal); opens = Some (opening_note name 0 []); served = Some entry })
       (Served (record {
         context = pending;
         is_held = inl refl;
-        is_live = record { begun = h.begins; not_over = h.ends; unrevoked = refl };
+        is_live = record { begun = h.begins; not_over = h.ends; unrevoked = refl; young = λ seconds e. absurd (no_age seconds e) };
         number = 0;
         lawful = omega arith;
         fresh = All-nil _;
@@ -258,7 +267,7 @@ module _ (key text audience : List ℕ) (now : Moment) (claims : Claims) (lawful
           older_gone = λ c m is. ⊎_elim (λ (e : c ≡ confirmed). e) (λ n. absurd n) m;
           live = λ c m live. ⊎_elim (λ (e : c ≡ pending). inr (inl e)) (λ n. absurd n) m;
         };
-        revoked = refl;
+        rules = refl;
       })) refl
 
   step_answered : Has → WorldStep (world (confirmed ∷ []) asking (served ∷ asked ∷ made ∷ posted ∷ started ∷ [])) after

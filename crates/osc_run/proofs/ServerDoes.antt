@@ -1,5 +1,5 @@
 -- What desk, window and protection do at a server is what the kinds of step name.
-use Rattle.std.proofs.Common.{◌≡◌, ◌≤◌, ℕ, List, length, Option, Some, Result, Ok, Err, refl, sym, ap, ◌∙◌, subst, arith, length-take}
+use Rattle.std.proofs.Common.{◌≡◌, ◌≤◌, ℕ, List, length, Option, Some, None, Result, Ok, Err, refl, sym, ap, ◌∙◌, subst, arith, length-take}
 use Rattle.osc_model.specs.{apply_read, nonce_drawn, quiet}
 use Rattle.osc_model.specs.Tree.{Tree}
 use Rattle.osc_model.specs.declared.node.Moment.{Moment}
@@ -7,14 +7,18 @@ use Rattle.osc_model.specs.declared.reply.Reply.{Reply}
 use Rattle.osc_model.specs.declared.step.RefusedRequest.{RefusedRequest}
 use Rattle.osc_context.specs.{greatest_number}
 use Rattle.osc_window.specs.{IsFresh}
-use Rattle.osc_authz.specs.{IsAgreed, Answers, new_context, OfToken, of_tokens, IsLive, AreKept, HasAdded, HasTaken, DeskState, In, Posts, offered, IsTable, accepted, alive, meant, with_pending}
+use Rattle.osc_authz.specs.{IsAgreed, Answers, agreed_post, remembering, new_context, OfToken, of_tokens, IsLive, AreKept, HasAdded, HasTaken, DeskState, In, Posts, offered, IsTable, accepted, alive, meant, with_pending}
 use Rattle.osc_authz.specs.SecurityContext.{SecurityContext}
 use Rattle.osc_authz.specs.Posting.{Posting}
 use Rattle.osc_authz.specs.Standing.{Standing}
 use Rattle.osc_authz.specs.declared.error.PostError.{PostError}
+use Rattle.osc_authz.specs.declared.rules.ContextRules.{ContextRules}
 use Rattle.osc_authz.specs.declared.token_entry.TokenEntry.{TokenEntry}
 use Rattle.osc_authz.specs.declared.post.Post.{Post}
+use Rattle.osc_authz.specs.declared.agreed_post.AgreedPost.{AgreedPost}
 use Rattle.osc_authz.specs.declared.post.PostAnswer.{PostAnswer}
+use Rattle.osc_authz.specs.declared.post.PostReply.{PostReply}
+use Rattle.osc_authz.specs.declared.post.PostReply.TheVariants.{New}
 use Rattle.osc_options.specs.{read_request, IsWithinRanges}
 use Rattle.osc_run.specs.{opening_note, reply_note, Replies, IsServerIdle, IsPosted, IsServed}
 
@@ -22,16 +26,19 @@ use Rattle.osc_run.specs.{opening_note, reply_note, Replies, IsServerIdle, IsPos
 
 -- with one more pending context the others are as they were
 abbrev pub AddedLaw : Type 0
-AddedLaw = (now : Standing) (token : List ℕ) (held : SecurityContext) (table : List TokenEntry) → IsTable (with_pending token held (alive now table))
-    → HasAdded now token held (of_tokens table) (of_tokens (with_pending token held (alive now table)))
+AddedLaw = (now : Standing) (token : List ℕ) (held : SecurityContext) (remember : List AgreedPost → List AgreedPost) (table : List TokenEntry)
+    → IsTable (with_pending token held remember (alive now table))
+    → HasAdded now token held (of_tokens table) (of_tokens (with_pending token held remember (alive now table)))
 
 pub agreed : AddedLaw → (IsSealing : List ℕ → List ℕ → List ℕ → List ℕ → List ℕ → Type 0) (before after : DeskState) (posting : Posting) (post : Post) (answer : PostAnswer)
     → length posting.draw.0 ≡ 32 → IsAgreed IsSealing before posting post answer after → IsTable after.table
-    → IsPosted (record { contexts = of_tokens before.table; tree = posting.on.tree; revoked = before.revoked }) posting.on.at (record quiet { opens = post.opened; drawn = Some answer.nonce2 }) (record { contexts = of_tokens after.table; tree = posting.on.tree; revoked = after.revoked })
+    → IsPosted (record { contexts = of_tokens before.table; tree = posting.on.tree; rules = before.rules }) posting.on.at (record quiet { opens = post.opened; drawn = Some answer.nonce2 }) (record { contexts = of_tokens after.table; tree = posting.on.tree; rules = after.rules })
 agreed law IsSealing before after posting post answer size a is_table =
     let token : List ℕ = a.claims.material.id in
-    let added : SecurityContext = new_context before.revoked a.claims a.scope a.nonce1 a.client_id answer in
-    let table : after.table ≡ with_pending token added (alive posting.on before.table) = ap (λ (d : DeskState). d.table) a.agrees.added in
+    let its : AgreedPost = agreed_post (offered posting a.nonce1 a.client_id) answer in
+    let added : SecurityContext = new_context before.rules posting.on.at a.claims a.scope its in
+    let remember : List AgreedPost → List AgreedPost = remembering before.rules.remembered its in
+    let table : after.table ≡ with_pending token added remember (alive posting.on before.table) = ap (λ (d : DeskState). d.table) a.agrees.added in
     let eight : length (nonce_drawn posting.draw) ≡ 8 = omega (arith, size, length-take 8 posting.draw.0) in
     record {
       key = a.key;
@@ -41,23 +48,21 @@ agreed law IsSealing before after posting post answer size a is_table =
       audience = before.audience;
       claims = a.claims;
       scope = a.scope;
-      granted = a.granted;
-      unrevoked = a.unrevoked;
-      nonce1 = a.nonce1;
-      client_id = a.client_id;
+      granted = a.granted.comes;
+      unrevoked = a.granted.unrevoked;
+      post = its;
       short = a.opened.is_post.id_size;
-      answer = answer;
       size = ap length a.agrees.drawn ∙ eight;
       apart = λ same. a.agrees.free.free (0, omega arith, sym same);
       noted = λ i. record quiet { opens = a.noted i; drawn = Some answer.nonce2 };
-      contexts = subst (λ (t : List TokenEntry). HasAdded posting.on token added (of_tokens before.table) (of_tokens t)) (sym table) (law posting.on token added before.table (subst IsTable table is_table));
+      contexts = subst (λ (t : List TokenEntry). HasAdded posting.on token added (of_tokens before.table) (of_tokens t)) (sym table) (law posting.on token added remember before.table (subst IsTable table is_table));
       tree = refl;
-      revoked = ap (λ (d : DeskState). d.revoked) a.agrees.added;
+      rules = ap (λ (d : DeskState). d.rules) a.agrees.added;
     }
 
 -- ---- a post that is refused
 
-not_agreed : (answer : Result PostAnswer PostError) (made : PostAnswer) (error : PostError) → answer ≡ Ok made → answer ≡ Err error → ⊥
+not_agreed : (answer : Result PostReply PostError) (made : PostAnswer) (error : PostError) → answer ≡ Ok (New made) → answer ≡ Err error → ⊥
 not_agreed answer made error is e = cc
 
 unchanged : (IsSealing : List ℕ → List ℕ → List ℕ → List ℕ → List ℕ → Type 0) (before after : DeskState) (posting : Posting) (post : Post) (error : PostError)
@@ -72,12 +77,14 @@ unchanged IsSealing before after posting post error (Posts.opened key nonce1 cli
     by : Answers before (offered posting nonce1 client_id) token.text its after → after ≡ before
     by (Answers.refused refusal comes answer same) = same
     by (Answers.revoked claims scope comes gone answer same) = same
-    by (Answers.full claims scope comes un many answer same) = same
-    by (Answers.agreed claims scope made comes un room agrees answer) = absurd (not_agreed its made error answer its_answer)
+    by (Answers.full claims scope granted many answer same) = same
+    by (Answers.again claims scope made granted k held answer same) = same
+    by (Answers.replayed claims scope made granted k gone answer same) = same
+    by (Answers.agreed claims scope made granted k agrees answer) = absurd (not_agreed its made error answer its_answer)
 
 pub refused : (IsSealing : List ℕ → List ℕ → List ℕ → List ℕ → List ℕ → Type 0) (before after : DeskState) (posting : Posting) (post : Post) (error : PostError) (why : Option RefusedRequest)
     → Posts IsSealing before posting post after → post.answer ≡ Err error
-    → IsServerIdle (record { contexts = of_tokens before.table; tree = posting.on.tree; revoked = before.revoked }) posting.on.at (record quiet { opens = post.opened; refused = why }) (record { contexts = of_tokens after.table; tree = posting.on.tree; revoked = after.revoked })
+    → IsServerIdle (record { contexts = of_tokens before.table; tree = posting.on.tree; rules = before.rules }) posting.on.at (record quiet { opens = post.opened; refused = why }) (record { contexts = of_tokens after.table; tree = posting.on.tree; rules = after.rules })
 refused IsSealing before after posting post error why posts e =
     let same : after ≡ before = unchanged IsSealing before after posting post error posts e in
     record {
@@ -86,8 +93,20 @@ refused IsSealing before after posting post error why posts e =
       noted = refl;
       contexts = subst (λ (d : DeskState). AreKept posting.on (of_tokens before.table) (of_tokens d.table)) (sym same) (record { only = λ c m. m; live = λ c m live. m });
       tree = refl;
-      revoked = ap (λ (d : DeskState). d.revoked) same;
+      rules = ap (λ (d : DeskState). d.rules) same;
     }
+
+-- a post that is answered as before changes nothing
+pub known : (IsSealing : List ℕ → List ℕ → List ℕ → List ℕ → List ℕ → Type 0) (before after : DeskState) (posting : Posting) (post : Post) → after ≡ before
+    → IsServerIdle (record { contexts = of_tokens before.table; tree = posting.on.tree; rules = before.rules }) posting.on.at (record quiet { opens = post.opened }) (record { contexts = of_tokens after.table; tree = posting.on.tree; rules = after.rules })
+known IsSealing before after posting post same = record {
+  opened = post.opened;
+  refused = None;
+  noted = refl;
+  contexts = subst (λ (d : DeskState). AreKept posting.on (of_tokens before.table) (of_tokens d.table)) (sym same) (record { only = λ c m. m; live = λ c m live. m });
+  tree = refl;
+  rules = ap (λ (d : DeskState). d.rules) same;
+}
 
 -- ---- a request that opens
 
@@ -101,18 +120,18 @@ abbrev pub TakenLaw : Type 0
 TakenLaw = (now : Standing) (number : ℕ) (context : OfToken) (table : List TokenEntry) → IsTable table → In context (of_tokens table)
     → HasTaken now number context (of_tokens table) (of_tokens (accepted context.held.name.client_id number table))
 
-module _ (taken : TakenLaw) (now : Moment) (table : List TokenEntry) (is_table : IsTable table) (number : ℕ) (few : number ≤ greatest_number) (text : List ℕ) (reply : Reply) (within : IsWithinRanges reply) (tree after : Tree) (revoked : Option (List ℕ)) where
+module _ (taken : TakenLaw) (now : Moment) (table : List TokenEntry) (is_table : IsTable table) (number : ℕ) (few : number ≤ greatest_number) (text : List ℕ) (reply : Reply) (within : IsWithinRanges reply) (tree after : Tree) (rules : ContextRules) where
   abbrev on : Standing
   on = record { at = now; tree = tree }
 
   abbrev Serves : SecurityContext → List ℕ → Type 0
-  Serves held kid = IsServed (record { contexts = of_tokens table; tree = tree; revoked = revoked }) now
+  Serves held kid = IsServed (record { contexts = of_tokens table; tree = tree; rules = rules }) now
       (record quiet {
         seals = Some (reply_note held.name number reply);
         opens = Some (opening_note held.name number text);
         served = Some (record { context = held.name; number = number; plaintext = text; moment = now; reply = reply });
       })
-      (record { contexts = of_tokens (accepted kid number table); tree = after; revoked = revoked })
+      (record { contexts = of_tokens (accepted kid number table); tree = after; rules = rules })
 
   opened_under : (context : OfToken) → In context (of_tokens table) → IsLive on context.held → IsFresh context.held.window number
       → Replies tree (apply_read tree context.held.scope (read_request text)) reply after → Serves context.held context.held.name.client_id
@@ -129,7 +148,7 @@ module _ (taken : TakenLaw) (now : Moment) (table : List TokenEntry) (is_table :
     tree = replies;
     noted = refl;
     contexts = taken on number context table is_table there;
-    revoked = refl;
+    rules = refl;
   }
 
   pub opened : MeantLaw → (kid : List ℕ) (kid_context : Option (List ℕ)) (held : SecurityContext) → meant on kid kid_context table ≡ Some held → IsFresh held.window number

@@ -44,7 +44,7 @@ server_stays old new notes s h sub k = record {
 
 -- the context that a post adds
 abbrev pub added_of : (old new : ServerState) (now : Moment) (notes : StepNotes) → IsPosted old now notes new → OfToken
-added_of old new now notes p = pending_of p.claims.material.id (new_context old.revoked p.claims p.scope p.nonce1 p.client_id p.answer)
+added_of old new now notes p = pending_of p.claims.material.id (new_context old.rules now p.claims p.scope p.post)
 
 -- a step that adds a context with a nonce that was never drawn before
 pub posted_keeps : Laws → (old new : ServerState) (now : Moment) (notes : List Noted) (s : Noted) → IsPosted old now s.notes new → HasFreshDraws (s ∷ notes) → ServerPart old.contexts notes → ServerPart new.contexts (s ∷ notes)
@@ -52,7 +52,7 @@ posted_keeps laws old new now notes s p f k =
     let served : s.notes.served ≡ None = ap (λ (r : StepNotes). r.served) p.noted in
     let a : OfToken = added_of old new now s.notes p in
     let its_nonce : List ℕ = server_nonce a.held.name.salt in
-    let drawn : p.answer.nonce2 ≡ its_nonce = sym (laws.nonces_of_a_salt p.claims.material.salt p.nonce1 p.answer.nonce2 p.size) in
+    let drawn : p.post.answer.nonce2 ≡ its_nonce = sym (laws.nonces_of_a_salt p.claims.material.salt p.post.nonce1 p.post.answer.nonce2 p.size) in
     let draws : s.notes.drawn ≡ Some its_nonce = ap (λ (r : StepNotes). r.drawn) p.noted ∙ ap (λ (n : List ℕ). Some n) drawn in
     let here : IsDrawn (s ∷ notes) its_nonce = (s, inl refl, draws) in
     let never : (n : List ℕ) → n ≡ its_nonce → IsDrawn notes n → ⊥ = λ n e d. f.0 its_nonce draws (subst (IsDrawn notes) e d) in

@@ -9,8 +9,10 @@ pub mod Runs
 pub mod Nodes
 pub mod Premise
 pub mod History
+pub mod Ages
 pub mod OneHistory
 pub mod OwnNonces
+pub use Ages.{AreNext, AreYoung, IsYoung}
 pub use ClientKinds.{Answered, Asked, ClientIdle, ClientRestarted, ClientStep, Ended, IsAnswered, IsAsked, IsEnding, IsMade, IsRaised, IsSkipped, IsStarted, Lied, Made, Started, request_note, response_note}
 pub use History.{Acceptance, acceptance_in, acceptances, history, question_in, questions}
 pub use Nodes.{Came, Cause, Due, moment_of}

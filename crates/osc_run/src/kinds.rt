@@ -29,6 +29,8 @@ ghost use Rattle.osc_authz.specs.declared.error.PostError.{PostError as AnyError
 ghost use Rattle.osc_authz.specs.declared.token_entry.TokenEntry.{TokenEntry};
 ghost use Rattle.osc_authz.specs.declared.post.Post.{Post as AnyPost};
 ghost use Rattle.osc_authz.specs.declared.post.PostAnswer.{PostAnswer as AnyAnswer};
+ghost use Rattle.osc_authz.specs.declared.post.PostReply.TheVariants.{Known, New};
+ghost use Rattle.osc_authz.specs.declared.rules.ContextRules.{ContextRules as AnyRules};
 ghost use Rattle.osc_model.specs.declared.step.RefusedRequest.{RefusedRequest as AnyRefused};
 ghost use Rattle.osc_run.specs.States.{ClientState, Exchange, Nothing};
 ghost use Rattle.osc_run.specs.ServerKinds.{opening_note, reply_note, Replies, IsServerIdle, IsPosted, IsServed};
@@ -48,13 +50,13 @@ pub fn minted_texts()
     osc_token::laws::minted_texts();
 }
 
-/// A post that is answered 2.01 is the kind of step that adds a context.
+/// A post that made a context is the kind of step that adds one.
 pub fn posts_that_agree<A: Aead>()
     ensures { (before after : DeskState) (posting : Posting) (post : AnyPost) (answer : AnyAnswer)
-        → length posting.draw.0 ≡ 32 → Posts A.is_sealing before posting post after → post.answer ≡ Ok answer → IsTable after.table
-        → IsPosted (record { contexts = of_tokens before.table; tree = posting.on.tree; revoked = before.revoked }) posting.on.at
+        → length posting.draw.0 ≡ 32 → Posts A.is_sealing before posting post after → post.answer ≡ Ok (New answer) → IsTable after.table
+        → IsPosted (record { contexts = of_tokens before.table; tree = posting.on.tree; rules = before.rules }) posting.on.at
         (record quiet { opens = post.opened; drawn = Some answer.nonce2 })
-        (record { contexts = of_tokens after.table; tree = posting.on.tree; revoked = after.revoked }) }
+        (record { contexts = of_tokens after.table; tree = posting.on.tree; rules = after.rules }) }
 {
     osc_authz::laws::posts_that_agree::<A>();
     osc_authz::laws::one_more_context();
@@ -64,25 +66,36 @@ pub fn posts_that_agree<A: Aead>()
 pub fn posts_that_are_refused<A: Aead>()
     ensures { (before after : DeskState) (posting : Posting) (post : AnyPost) (error : AnyError) (why : Option AnyRefused)
         → Posts A.is_sealing before posting post after → post.answer ≡ Err error
-        → IsServerIdle (record { contexts = of_tokens before.table; tree = posting.on.tree; revoked = before.revoked }) posting.on.at
+        → IsServerIdle (record { contexts = of_tokens before.table; tree = posting.on.tree; rules = before.rules }) posting.on.at
         (record quiet { opens = post.opened; refused = why })
-        (record { contexts = of_tokens after.table; tree = posting.on.tree; revoked = after.revoked }) }
+        (record { contexts = of_tokens after.table; tree = posting.on.tree; rules = after.rules }) }
 {}
+
+/// A post that is answered as before is an idle step, in which its token opened.
+pub fn posts_that_are_known<A: Aead>()
+    ensures { (before after : DeskState) (posting : Posting) (post : AnyPost) (answer : AnyAnswer)
+        → Posts A.is_sealing before posting post after → post.answer ≡ Ok (Known answer)
+        → IsServerIdle (record { contexts = of_tokens before.table; tree = posting.on.tree; rules = before.rules }) posting.on.at
+        (record quiet { opens = post.opened })
+        (record { contexts = of_tokens after.table; tree = posting.on.tree; rules = after.rules }) }
+{
+    osc_authz::laws::known_posts::<A>();
+}
 
 /// A request that opens under the context that it means, at a fresh number, is the kind of step that serves: the window takes the
 /// number, and the reply is the machine's.
 pub fn requests_that_open()
-    ensures { (now : AnyMoment) (kid : List ℕ) (kid_context : Option (List ℕ)) (table : List TokenEntry) (held : SecurityContext) (number : ℕ) (text : List ℕ) (reply : AnyReply) (tree after : Tree) (revoked : Option (List ℕ))
+    ensures { (now : AnyMoment) (kid : List ℕ) (kid_context : Option (List ℕ)) (table : List TokenEntry) (held : SecurityContext) (number : ℕ) (text : List ℕ) (reply : AnyReply) (tree after : Tree) (rules : AnyRules)
         → IsTable table → meant (record { at = now; tree = tree }) kid kid_context table ≡ Some held
         → number ≤ greatest_number → IsFresh held.window number
         → IsWithinRanges reply → Replies tree (apply_read tree held.scope (read_request text)) reply after
-        → IsServed (record { contexts = of_tokens table; tree = tree; revoked = revoked }) now
+        → IsServed (record { contexts = of_tokens table; tree = tree; rules = rules }) now
         (record quiet {
           seals = Some (reply_note held.name number reply);
           opens = Some (opening_note held.name number text);
           served = Some (record { context = held.name; number = number; plaintext = text; moment = now; reply = reply });
         })
-        (record { contexts = of_tokens (accepted kid number table); tree = after; revoked = revoked }) }
+        (record { contexts = of_tokens (accepted kid number table); tree = after; rules = rules }) }
 {
     osc_authz::laws::meant_contexts();
     osc_authz::laws::numbers_taken();

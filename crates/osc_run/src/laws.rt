@@ -16,6 +16,7 @@ ghost use Rattle.osc_options.specs.{read_request};
 ghost use Rattle.osc_run.specs.Runs.{IsReached};
 ghost use Rattle.osc_run.specs.Premise.{Premise, HasFreshDraws};
 ghost use Rattle.osc_run.specs.History.{history, acceptances};
+ghost use Rattle.osc_run.specs.Ages.{AreYoung};
 ghost use Rattle.osc_run.specs.OneHistory.{IsUnrevoked, OneHistory};
 ghost use Rattle.osc_run.specs.OwnNonces.{HasOwnNonces};
 
@@ -52,10 +53,16 @@ pub fn one_history()
 pub fn none_revoked()
     ensures { (w : WorldState) → IsReached w → Premise w.minted w.notes → (before after : List AnyEntry) (entry : AnyEntry)
         → history w.notes ≡ before ++ entry ∷ after
-        → IsUnrevoked (grants_of w.minted) w.server.revoked (effect read_request (grants_of w.minted) w.first before) entry }
+        → IsUnrevoked (grants_of w.minted) w.server.rules.revoked (effect read_request (grants_of w.minted) w.first before) entry }
 {
     one_history();
 }
+
+/// In every run a request is served under a context that a post of this run made. At a server with a greatest age of contexts it comes less than
+/// so many seconds after that post. So what was held back on its way for longer is worth nothing.
+pub fn contexts_are_young()
+    ensures { (w : WorldState) → AreYoung w }
+{}
 
 /// In each of these runs in which no two grants name a common path, each client's entries are answered as if they alone followed
 /// the first tree, up to the first that is for want of memory or of room; what other holders meet doesn't matter.

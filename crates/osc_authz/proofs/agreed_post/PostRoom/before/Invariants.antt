@@ -1,4 +1,4 @@
-use Rattle.std.proofs.Common.{◌≡◌, ◌≤◌, ◌++◌, take}
+use Rattle.std.proofs.Common.{◌≡◌, ◌++◌, take}
 use Rattle.std.specs.Vec.{vec_capacity}
 use Rattle.osc_authz.proofs.agreed_post.PostRoom.before.Given as goal
 

@@ -1,5 +1,4 @@
-use Rattle.std.proofs.Common.{rules, ◌≡◌, true, false, refl, sym, ap, subst, ◌∙◌}
-use Rattle.osc_model.specs.{is_revoked}
+use Rattle.std.proofs.Common.{rules, true, false, refl, sym, ap, ◌∙◌}
 use Rattle.osc_authz.specs.{Answers, IsFull, alive, known}
 use Rattle.osc_authz.proofs.PostLemmas.{judged_revoked, known_answers}
 use Rattle.osc_authz.proofs.desk.ServerDesk.agree_unless_refused.Goals as goal

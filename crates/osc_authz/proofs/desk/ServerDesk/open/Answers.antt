@@ -1,4 +1,4 @@
-use Rattle.std.proofs.Common.{◌≡◌, ap, inl, subst}
+use Rattle.std.proofs.Common.{ap, inl, subst}
 use Rattle.osc_authz.specs.{IsKeyFor, Opens}
 use Rattle.osc_authz.proofs.OpenLemmas.{noted_by, none_opens, old_noted, unopened}
 use Rattle.osc_authz.proofs.desk.ServerDesk.open.Goals as goal
