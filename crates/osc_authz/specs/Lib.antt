@@ -29,7 +29,7 @@ pub use Exchange.{IsAnswer, IsPost, answer_item, post_item}
 pub use Granted.{IsSecret, IsShort}
 pub use Known.{AreFew, IsStillHeld, known, offers, remembering}
 pub use Members.{In}
-pub use Post.{IsKeyFor, IsKeyOf, IsOpened, Opens, Posts, code_of, no_post, not_genuine, opened}
+pub use Post.{IsKeyFor, IsKeyOf, IsOpened, Opens, Posts, answer_of, code_of, no_post, not_genuine, opened}
 pub use Posting.{Offer, OpenedToken, offered}
 pub use Table.{IsFull, IsLawfulContext, IsLeastFree, IsTable, accepted, accepted_in, alive, confirmed_at, contexts, has_id, has_token, holds_id, holds_live, ids, if_meant, is_live, is_named, listed, meant, taking, with_id, with_pending, without_pending, without_pending_in}
 pub use Welcome.{IsWelcome}

@@ -12,7 +12,9 @@ use Rattle.osc_authz.specs.Posting.{OpenedToken, Posting, offered}
 use Rattle.osc_authz.specs.declared.error.PostError.{PostError}
 use Rattle.osc_authz.specs.declared.error.PostError.TheVariants.{Fields, Token, Revoked, Full, Replayed}
 use Rattle.osc_authz.specs.declared.post.Post.{Post}
+use Rattle.osc_authz.specs.declared.post.PostAnswer.{PostAnswer}
 use Rattle.osc_authz.specs.declared.post.PostReply.{PostReply}
+use Rattle.osc_authz.specs.declared.post.PostReply.TheVariants.{New, Known}
 
 -- these bytes are a token that opens under this key
 abbrev pub Opens : (List ℕ → List ℕ → List ℕ → List ℕ → List ℕ → Type 0) → List ℕ → List ℕ → Type 0
@@ -45,6 +47,11 @@ pub data Posts (IsSealing : List ℕ → List ℕ → List ℕ → List ℕ → 
       → Answers before (offered posting nonce1 client_id) its.text answer after
       → post ≡ record { opened = Some (token_note key its.protected its.iv its.text); answer = answer }
       → Posts IsSealing before posting post after
+
+-- the nonce and the recipient ID of the server that a post is answered
+abbrev pub answer_of : PostReply → PostAnswer
+answer_of (New answer) = answer
+answer_of (Known answer) = answer
 
 -- the code of the answer to a refused post (RFC 9200 section 5.10.1)
 abbrev pub code_of : PostError → Code

@@ -2,6 +2,7 @@
 
 ghost use Rattle.std.specs.Prelude.{◌≡◌, [], ◌∷◌, None, Err};
 ghost use Rattle.osc_authz.specs.Exchange.{answer_item};
+ghost use Rattle.osc_authz.specs.Post.{answer_of};
 ghost use Rattle.osc_cbor.specs.{spelling};
 
 use crate::error::PostError;
@@ -35,6 +36,17 @@ pub enum PostReply {
     New(PostAnswer),
     /// It is known, and the context that it made is held: it is answered as before.
     Known(PostAnswer),
+}
+
+impl PostReply {
+    /// The nonce and the recipient ID of the server that are answered.
+    pub fn answer(self) -> PostAnswer
+        ensures { result ≡ answer_of self }
+    {
+        match self {
+            PostReply::New(answer) | PostReply::Known(answer) => answer,
+        }
+    }
 }
 
 /// What the server answers to a post that makes a context (RFC 9203 section 4.2).

@@ -1,3 +1,4 @@
+pub mod Meant
 pub mod Cases
 pub mod Gets
 pub mod Notes

@@ -23,9 +23,9 @@ use Rattle.osc_message.specs.{EndpointState}
 use Rattle.osc_protect.specs.{longest_message, plain_bytes, response_length, response_value, response_with, value_spelling}
 use Rattle.osc_authz.specs.{code_of}
 use Rattle.osc_authz.specs.declared.error.PostError.{PostError}
-use Rattle.osc_authz.specs.declared.error.PostError.TheVariants.{Fields, Token, Revoked, Full}
+use Rattle.osc_authz.specs.declared.error.PostError.TheVariants.{Fields, Token, Revoked, Full, Replayed}
 use Rattle.osc_token.specs.declared.error.TokenError.TheVariants as token
-use Rattle.osc_authz.specs.declared.post.PostAnswer.{PostAnswer}
+use Rattle.osc_authz.specs.declared.post.PostReply.{PostReply}
 use Rattle.osc_server.specs.Inner.Parts.{IsReplyOf, FitsAResource, read_length, request_reply_length}
 use Rattle.osc_server.specs.{post_reply, reply_to}
 use Rattle.osc_server.proofs.Gets.{bare_reply, content_reply}
@@ -105,6 +105,7 @@ read_reply_short tree scope request limits = is_short (request_reply_length tree
 post_code : (error : PostError) → 0 < (code_of error).0
 post_code Fields = omega arith
 post_code Revoked = omega arith
+post_code Replayed = omega arith
 post_code Full = omega arith
 post_code (Token token.NotGenuine) = omega arith
 post_code (Token token.NotYet) = omega arith
@@ -113,7 +114,7 @@ post_code (Token token.Audience) = omega arith
 post_code (Token token.BadClaims) = omega arith
 post_code (Token token.BadScope) = omega arith
 
-pub posted_reply : (answer : Result PostAnswer PostError) → length (post_reply answer).payload ≤ 16 → IsReplyOf 16 (post_reply answer)
+pub posted_reply : (answer : Result PostReply PostError) → length (post_reply answer).payload ≤ 16 → IsReplyOf 16 (post_reply answer)
 posted_reply (Ok answer) short = record { code = omega arith; etag = λ tag e. absurd (cc); payload = short }
 posted_reply (Err error) short = bare_reply 16 (code_of error) (post_code error)
 
@@ -167,11 +168,11 @@ sealed_short endpoint came reply sealed token =
 
 -- ---- a message with the answer to a post
 
-post_options : (answer : Result PostAnswer PostError) → options_length 0 (reply_options (post_reply answer)) ≤ 2
+post_options : (answer : Result PostReply PostError) → options_length 0 (reply_options (post_reply answer)) ≤ 2
 post_options (Ok answer) = omega arith
 post_options (Err error) = omega arith
 
-pub post_message_short : (endpoint : EndpointState) (came : Arrival Message) (answer : Result PostAnswer PostError) → length came.what.token ≤ 8 → length (post_reply answer).payload ≤ 16 → spelled_length (reply_to endpoint came (post_reply answer)) ≤ 31
+pub post_message_short : (endpoint : EndpointState) (came : Arrival Message) (answer : Result PostReply PostError) → length came.what.token ≤ 8 → length (post_reply answer).payload ≤ 16 → spelled_length (reply_to endpoint came (post_reply answer)) ≤ 31
 post_message_short endpoint came answer token short =
     omega (arith, token, post_options answer, payload_short (post_reply answer).payload, short)
 

@@ -22,6 +22,9 @@ use Rattle.osc_authz.specs.declared.error.PostError.{PostError}
 use Rattle.osc_authz.specs.declared.token_entry.TokenEntry.{TokenEntry}
 use Rattle.osc_authz.specs.declared.post.Post.{Post}
 use Rattle.osc_authz.specs.declared.post.PostAnswer.{PostAnswer}
+use Rattle.osc_authz.specs.declared.post.PostReply.{PostReply}
+use Rattle.osc_authz.specs.declared.post.PostReply.TheVariants.{New, Known}
+use Rattle.osc_authz.specs.declared.rules.ContextRules.{ContextRules}
 use Rattle.osc_run.specs.{opening_note, reply_note, Replies as AppliesTo, IsServerIdle, IsPosted, IsServed, ServerStep, ServerIdle, Posted, Served, ServerRestarted}
 use Rattle.osc_options.specs.{read_request, IsWithinRanges}
 use Rattle.osc_server.specs.{case_of, core, again, Answers, AnswersNew, AnswersPost, AnswersProtected, Sends, Serves, nonce_of_post, notes_of_post, posting, notes_of_request, refusal_of_post, refused, served}
@@ -33,26 +36,31 @@ use Rattle.osc_server.specs.declared.case.Case.TheVariants as case
 
 pub record Laws (is_sealing : Sealings) : Type 0 where
   pub agrees : (before after : DeskState) (posting : Posting) (post : Post) (answer : PostAnswer)
-      → length posting.draw.0 ≡ 32 → Posts (is_sealing EightByteTag) before posting post after → post.answer ≡ Ok answer → IsTable after.table
-      → IsPosted (record { contexts = of_tokens before.table; tree = posting.on.tree; revoked = before.revoked }) posting.on.at
+      → length posting.draw.0 ≡ 32 → Posts (is_sealing EightByteTag) before posting post after → post.answer ≡ Ok (New answer) → IsTable after.table
+      → IsPosted (record { contexts = of_tokens before.table; tree = posting.on.tree; rules = before.rules }) posting.on.at
       (record quiet { opens = post.opened; drawn = Some answer.nonce2 })
-      (record { contexts = of_tokens after.table; tree = posting.on.tree; revoked = after.revoked })
+      (record { contexts = of_tokens after.table; tree = posting.on.tree; rules = after.rules })
   pub refuses : (before after : DeskState) (posting : Posting) (post : Post) (error : PostError) (why : Option RefusedRequest)
       → Posts (is_sealing EightByteTag) before posting post after → post.answer ≡ Err error
-      → IsServerIdle (record { contexts = of_tokens before.table; tree = posting.on.tree; revoked = before.revoked }) posting.on.at
+      → IsServerIdle (record { contexts = of_tokens before.table; tree = posting.on.tree; rules = before.rules }) posting.on.at
       (record quiet { opens = post.opened; refused = why })
-      (record { contexts = of_tokens after.table; tree = posting.on.tree; revoked = after.revoked })
-  pub opens : (now : Moment) (kid : List ℕ) (kid_context : Option (List ℕ)) (table : List TokenEntry) (held : SecurityContext) (number : ℕ) (text : List ℕ) (reply : Reply) (tree after : Tree) (revoked : Option (List ℕ))
+      (record { contexts = of_tokens after.table; tree = posting.on.tree; rules = after.rules })
+  pub knows : (before after : DeskState) (posting : Posting) (post : Post) (answer : PostAnswer)
+      → Posts (is_sealing EightByteTag) before posting post after → post.answer ≡ Ok (Known answer)
+      → IsServerIdle (record { contexts = of_tokens before.table; tree = posting.on.tree; rules = before.rules }) posting.on.at
+      (record quiet { opens = post.opened })
+      (record { contexts = of_tokens after.table; tree = posting.on.tree; rules = after.rules })
+  pub opens : (now : Moment) (kid : List ℕ) (kid_context : Option (List ℕ)) (table : List TokenEntry) (held : SecurityContext) (number : ℕ) (text : List ℕ) (reply : Reply) (tree after : Tree) (rules : ContextRules)
       → IsTable table → meant (record { at = now; tree = tree }) kid kid_context table ≡ Some held
       → number ≤ greatest_number → IsFresh held.window number
       → IsWithinRanges reply → AppliesTo tree (apply_read tree held.scope (read_request text)) reply after
-      → IsServed (record { contexts = of_tokens table; tree = tree; revoked = revoked }) now
+      → IsServed (record { contexts = of_tokens table; tree = tree; rules = rules }) now
       (record quiet {
         seals = Some (reply_note held.name number reply);
         opens = Some (opening_note held.name number text);
         served = Some (record { context = held.name; number = number; plaintext = text; moment = now; reply = reply });
       })
-      (record { contexts = of_tokens (accepted kid number table); tree = after; revoked = revoked })
+      (record { contexts = of_tokens (accepted kid number table); tree = after; rules = rules })
 
 -- ---- a step that does nothing for a run
 
@@ -63,13 +71,13 @@ nothing old now why notes e = ServerIdle (record {
   noted = e;
   contexts = record { only = λ c here. here; live = λ c here live. here };
   tree = refl;
-  revoked = refl;
+  rules = refl;
 })
 
 refusing : (old : State) (now : Moment) (why : Option RefusedRequest) (step : Step) (new : State) → step.notes ≡ record quiet { refused = why } → new.tree ≡ old.tree → new.desk ≡ old.desk → ServerStep (core old) now step.notes (core new)
 refusing old now why step new noted tree desk =
-    subst (λ t. ServerStep (core old) now step.notes (record { contexts = of_tokens new.desk.table; tree = t; revoked = new.desk.revoked })) (sym tree)
-    (subst (λ d. ServerStep (core old) now step.notes (record { contexts = of_tokens d.table; tree = old.tree; revoked = d.revoked })) (sym desk)
+    subst (λ t. ServerStep (core old) now step.notes (record { contexts = of_tokens new.desk.table; tree = t; rules = new.desk.rules })) (sym tree)
+    (subst (λ d. ServerStep (core old) now step.notes (record { contexts = of_tokens d.table; tree = old.tree; rules = d.rules })) (sym desk)
     (nothing old now why step.notes noted))
 
 pub quietly : (old : State) (now : Moment) (step : Step) (new : State) → step.notes ≡ quiet → new.tree ≡ old.tree → new.desk ≡ old.desk → ServerStep (core old) now step.notes (core new)
@@ -86,23 +94,24 @@ sends_idly old came answer why step new it =
 -- ---- the kinds
 
 module _ (is_sealing : Sealings) (laws : Laws is_sealing) (old : State) (step : Step) (new : State) (before : IsTable old.desk.table) (after : IsTable new.desk.table) where
-  post_kind : (came : Arrival Message) (post : Post) (answer : Result PostAnswer PostError) → length came.draw.0 ≡ 32 → post.answer ≡ answer
+  post_kind : (came : Arrival Message) (post : Post) (answer : Result PostReply PostError) → length came.draw.0 ≡ 32 → post.answer ≡ answer
       → Posts (is_sealing EightByteTag) old.desk (posting old.tree came) post new.desk
-      → ServerStep (core old) came.at (record quiet { opens = post.opened; drawn = nonce_of_post answer; refused = refusal_of_post answer }) (record { contexts = of_tokens new.desk.table; tree = old.tree; revoked = new.desk.revoked })
-  post_kind came post (Ok answer) drawn e posts = Posted (laws.agrees old.desk new.desk (posting old.tree came) post answer drawn posts e after)
+      → ServerStep (core old) came.at (record quiet { opens = post.opened; drawn = nonce_of_post answer; refused = refusal_of_post answer }) (record { contexts = of_tokens new.desk.table; tree = old.tree; rules = new.desk.rules })
+  post_kind came post (Ok (Known answer)) drawn e posts = ServerIdle (laws.knows old.desk new.desk (posting old.tree came) post answer posts e)
+  post_kind came post (Ok (New answer)) drawn e posts = Posted (laws.agrees old.desk new.desk (posting old.tree came) post answer drawn posts e after)
   post_kind came post (Err error) drawn e posts = ServerIdle (laws.refuses old.desk new.desk (posting old.tree came) post error (refusal_of_post (Err error)) posts e)
 
   posted_kind : (came : Arrival Message) → length came.draw.0 ≡ 32 → AnswersPost is_sealing old came step new → ServerStep (core old) came.at step.notes (core new)
   posted_kind came drawn it =
       subst (λ notes. ServerStep (core old) came.at notes (core new)) (sym (ap (λ s. s.notes) it.sent.sent))
-      (subst (λ t. ServerStep (core old) came.at (notes_of_post it.post) (record { contexts = of_tokens new.desk.table; tree = t; revoked = new.desk.revoked })) (sym (ap (λ s. s.tree) it.sent.kept))
+      (subst (λ t. ServerStep (core old) came.at (notes_of_post it.post) (record { contexts = of_tokens new.desk.table; tree = t; rules = new.desk.rules })) (sym (ap (λ s. s.tree) it.sent.kept))
       (post_kind came it.post it.post.answer drawn refl it.posts))
 
   served_kind : (came : Arrival Message) → Serves is_sealing old came step new → ServerStep (core old) came.at step.notes (core new)
   served_kind came it =
       subst (λ notes. ServerStep (core old) came.at notes (core new)) (sym (ap (λ s. s.notes) it.sent.sent))
-      (subst (λ d. ServerStep (core old) came.at (notes_of_request came.at it.held it.request.number it.text it.reply) (record { contexts = of_tokens d.table; tree = new.tree; revoked = d.revoked })) (sym (ap (λ s. s.desk) it.sent.kept))
-      (Served (laws.opens came.at it.request.kid it.request.kid_context old.desk.table it.held it.request.number it.text it.reply old.tree new.tree old.desk.revoked
+      (subst (λ d. ServerStep (core old) came.at (notes_of_request came.at it.held it.request.number it.text it.reply) (record { contexts = of_tokens d.table; tree = new.tree; rules = d.rules })) (sym (ap (λ s. s.desk) it.sent.kept))
+      (Served (laws.opens came.at it.request.kid it.request.kid_context old.desk.table it.held it.request.number it.text it.reply old.tree new.tree old.desk.rules
       before it.opened.meant.is_meant it.opened.meant.is_request.spelled.lawful.number it.opened.fresh it.within it.applied)))
 
   protected_kind : (came : Arrival Message) → AnswersProtected is_sealing old came step new → ServerStep (core old) came.at step.notes (core new)

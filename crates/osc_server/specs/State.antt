@@ -20,4 +20,4 @@ standing_of state now = record { at = now; tree = state.tree }
 
 -- what a run knows of it
 abbrev pub core : State → ServerState
-core state = record { contexts = of_tokens state.desk.table; tree = state.tree; revoked = state.desk.revoked }
+core state = record { contexts = of_tokens state.desk.table; tree = state.tree; rules = state.desk.rules }

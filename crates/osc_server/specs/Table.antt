@@ -25,13 +25,14 @@ use Rattle.osc_context.specs.{algorithm_of, key_of}
 use Rattle.osc_window.specs.{IsFresh}
 use Rattle.osc_protect.specs.{aad_of, SealedRequest, IsRequest, IsProtectedResponse, request_nonce}
 use Rattle.osc_ccm.specs.{Sealings}
-use Rattle.osc_authz.specs.{post_number, answer_item, Posts, code_of, meant, accepted}
+use Rattle.osc_authz.specs.{answer_of, post_number, answer_item, Posts, code_of, meant, accepted}
 use Rattle.osc_authz.specs.SecurityContext.{SecurityContext}
 use Rattle.osc_authz.specs.Posting.{Posting}
 use Rattle.osc_authz.specs.declared.error.PostError.{PostError}
 use Rattle.osc_authz.specs.declared.post.Post.{Post}
 use Rattle.osc_authz.specs.declared.token_entry.TokenEntry.{TokenEntry}
-use Rattle.osc_authz.specs.declared.post.PostAnswer.{PostAnswer}
+use Rattle.osc_authz.specs.declared.post.PostReply.{PostReply}
+use Rattle.osc_authz.specs.declared.post.PostReply.TheVariants.{New, Known}
 use Rattle.osc_run.specs.{opening_note, reply_note, Replies as AppliesTo}
 use Rattle.osc_server.specs.Case.{case_of}
 use Rattle.osc_server.specs.State.{State}
@@ -91,23 +92,24 @@ ace_cbor = 19
 
 -- 2.01 with the nonce and the recipient ID of the server as application/ace+cbor (RFC 9203 section 4.2), or the code of the
 -- refusal (RFC 9200 section 5.10.1)
-abbrev pub post_reply : Result PostAnswer PostError → Reply
-post_reply (Ok answer) = record {
+abbrev pub post_reply : Result PostReply PostError → Reply
+post_reply (Ok reply) = record {
   code = code 2 1;
   etag = None;
   format = Some ace_cbor;
-  payload = item_spelling (answer_item answer.nonce2 (answer.recipient_id ∷ []));
+  payload = item_spelling (answer_item (answer_of reply).nonce2 ((answer_of reply).recipient_id ∷ []));
 }
 post_reply (Err error) = bare (code_of error)
 
 -- the nonce that a post drew: where it made a context
-abbrev pub nonce_of_post : Result PostAnswer PostError → Option (List ℕ)
-nonce_of_post (Ok answer) = Some answer.nonce2
+abbrev pub nonce_of_post : Result PostReply PostError → Option (List ℕ)
+nonce_of_post (Ok (New answer)) = Some answer.nonce2
+nonce_of_post (Ok (Known answer)) = None
 nonce_of_post (Err error) = None
 
 -- why a post was refused, if it was
-abbrev pub refusal_of_post : Result PostAnswer PostError → Option RefusedRequest
-refusal_of_post (Ok answer) = None
+abbrev pub refusal_of_post : Result PostReply PostError → Option RefusedRequest
+refusal_of_post (Ok reply) = None
 refusal_of_post (Err error) = Some (record { code = code_of error; reason = Some (post_number error) })
 
 abbrev pub notes_of_post : Post → StepNotes

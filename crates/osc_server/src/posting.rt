@@ -6,14 +6,14 @@ ghost use Rattle.osc_server.specs.Table.{nonce_of_post, post_reply as post_reply
 
 use crate::Endpoint;
 use crate::answer::reply_to;
-use osc_authz::{PostAnswer, PostError};
+use osc_authz::{PostError, PostReply};
 use osc_coap::MessageBuilder;
 use osc_coap::laws::length_of_spelling;
 use osc_message::{Arrival, Buffer};
 use osc_model::{Code, Note, RefusedRequest, Reply, StepNotes};
 use std::alloc::Global;
 
-/// The bytes of the payload that answers a post which made a context.
+/// The bytes of the payload that answers a post which isn't refused.
 pub const POST_PAYLOAD: usize = 16;
 
 /// The most bytes of the message that answers a post: header, token, Content-Format, payload marker and payload.
@@ -23,17 +23,17 @@ pub const POST_ANSWER: usize = 31;
 const ACE_CBOR: u16 = 19;
 
 /// The reply to a post, in room for its payload; takes no memory.
-fn post_reply(alloc: Global, payload: Buffer, answer: Result<PostAnswer, PostError>) -> Reply
+fn post_reply(alloc: Global, payload: Buffer, answer: Result<PostReply, PostError>) -> Reply
     requires { payload ≡ 16 }
     ensures reply { result ≡ post_reply_of answer }
     ensures short { length result.payload ≤ 16 }
 {
     match answer {
-        Ok(answer) => Reply {
+        Ok(reply) => Reply {
             code: Code::CREATED,
             etag: None,
             format: Some(ACE_CBOR),
-            payload: payload.fill(&answer.payload()),
+            payload: payload.fill(&reply.answer().payload()),
         },
         Err(error) => Reply::bare(alloc, error.code()),
     }
@@ -45,7 +45,7 @@ pub fn post_answer(
     payload: Buffer,
     endpoint: &Endpoint,
     came: &Arrival<'_>,
-    answer: Result<PostAnswer, PostError>,
+    answer: Result<PostReply, PostError>,
 ) -> MessageBuilder
     requires { payload ≡ 16 }
     ensures answer { result ≡ reply_to_of endpoint.now came.now (post_reply_of answer) }
@@ -58,8 +58,8 @@ pub fn post_answer(
     reply_to(endpoint, came, &reply)
 }
 
-/// What is noted of a post: its token's opening, and the nonce that it drew, or why it was refused.
-pub fn notes_of(opened: Option<Note>, answer: Result<PostAnswer, PostError>) -> StepNotes
+/// What is noted of a post: its token's opening, the nonce that it drew, where it made a context, and why it was refused, where it was.
+pub fn notes_of(opened: Option<Note>, answer: Result<PostReply, PostError>) -> StepNotes
     ensures { result ≡ record quiet { opens = opened; drawn = nonce_of_post answer; refused = refusal_of_post answer } }
 {
     let notes = match opened {
@@ -67,7 +67,8 @@ pub fn notes_of(opened: Option<Note>, answer: Result<PostAnswer, PostError>) -> 
         None => StepNotes::quiet(),
     };
     match answer {
-        Ok(answer) => notes.with_drawn(answer.nonce2),
+        Ok(PostReply::New(answer)) => notes.with_drawn(answer.nonce2),
+        Ok(PostReply::Known(_)) => notes,
         Err(error) => notes.with_refused(RefusedRequest {
             code: error.code(),
             reason: Some(error.number()),

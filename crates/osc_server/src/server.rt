@@ -136,6 +136,7 @@ impl Server {
         what_is_heard();
         kinds::posts_that_agree::<TokenCipher<A>>();
         kinds::posts_that_are_refused::<TokenCipher<A>>();
+        kinds::posts_that_are_known::<TokenCipher<A>>();
         kinds::requests_that_open();
         kinds::what_is_sealed();
         drawn(draw);

@@ -25,7 +25,7 @@ returns-in_err-step-clause-needs_memory g c =
 pub returns-clause-kind : goal.returns-clause-kind
 returns-clause-kind g c =
     kind_of g.A.Ciphers.is_sealing
-    (record { agrees = c.posts_that_agree.ensures; refuses = c.posts_that_are_refused.ensures; opens = c.requests_that_open.ensures })
+    (record { agrees = c.posts_that_agree.ensures; refuses = c.posts_that_are_refused.ensures; knows = c.posts_that_are_known.ensures; opens = c.requests_that_open.ensures })
     c.args.self.now c.in_ok-step.step c.answer.new.self
     (subst (λ s. IsTable s.desk.table) c.self.view_is c.has_a_table.ensures)
     (subst (λ s. IsTable s.desk.table) c.self-2.view_is c.has_a_table-2.ensures)
