@@ -106,7 +106,7 @@ module _ (is_sealing : Sealings) (tag : Tags)
 
 module _ (is_sealing : Sealings)
     (law : (client begun : Client) (server : Server) (asked_at now : Moment) (draw : Draw) (at server_at : Peer) (claims : Claims) (entries : List Entry) (first : Step)
-    → IsLawfulClient begun → IsStraight client server now draw at server_at → MayExchange is_sealing client server now claims entries
+    → IsLawfulClient begun → IsStraight client server now draw at server_at → MayExchange is_sealing client server now draw claims entries
     → first.notes.result ≢ Some (result.Refused 14)
     → Exchanges client asked_at draw first begun
     → IsBegunAndMade is_sealing (record { begun = begun; server = server; at = at; server_at = server_at; now = now; entries = entries }) client draw first)

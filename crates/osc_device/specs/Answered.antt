@@ -66,7 +66,7 @@ module _ (is_sealing : Sealings) where
   -- The device may post its token, which has these claims and this scope: it waits for nothing, the token is welcome at the server, and
   -- that heard no message of the ID that the device takes.
   pub record MayOpen (device : State) (now : Moment) (draw : Draw) (claims : Claims) (entries : List Entry) : Type 0 where
-    pub may_exchange : MayExchange is_sealing device.own device.server now claims entries
+    pub may_exchange : MayExchange is_sealing device.own device.server now draw claims entries
     pub unheard : looked now own_address (own_id draw device.own.endpoint.next_id) device.server.endpoint.seen ≡ None
 
 -- The server has a live context with the token's scope, and the device one of the same name, and waits for nothing.

@@ -1,5 +1,5 @@
 -- A post to authz-info is agreed to, and the answer makes a context at the client, whatever way both go.
-use Rattle.std.proofs.Common.{◌≡◌, ◌∙◌, sym, ap, subst, refl, ℕ, zero, suc, ◌^◌, ◌<◌, ◌≤◌, Bool, true, false, List, [], ◌∷◌, ◌++◌, length, Option, Some, None, Result, Ok, unwrap_or, codes, arith}
+use Rattle.std.proofs.Common.{◌≡◌, ◌∙◌, sym, ap, subst, refl, ℕ, zero, suc, ◌^◌, ◌<◌, ◌≤◌, Bool, true, false, List, [], ◌∷◌, ◌++◌, length, Option, Some, None, Result, Ok, unwrap_or, codes, arith, ◌+◌, ◌/◌}
 use Rattle.std.specs.Prelude.{IfSome}
 use Rattle.std.specs.Str.{IsAscii, is_utf8}
 use Rattle.std.proofs.lemmas.Bool.{le-leb}
@@ -33,7 +33,7 @@ use Rattle.osc_protect.specs.{HasShortContext}
 use Rattle.osc_scope.specs.{Entry, scope_of}
 use Rattle.osc_token.specs.{HasLawfulParts}
 use Rattle.osc_token.specs.declared.claims.Claims.{Claims}
-use Rattle.osc_authz.specs.{ClientContextState, Finishes, DeskState, answer_item, post_item, In, Posts, IsLawfulContext, contexts, IsWelcome}
+use Rattle.osc_authz.specs.{ClientContextState, Finishes, end_of, known, DeskState, answer_item, post_item, In, Posts, IsLawfulContext, contexts, IsWelcome}
 use Rattle.osc_authz.specs.Begun.{Begun}
 use Rattle.osc_authz.specs.SecurityContext.{SecurityContext}
 use Rattle.osc_authz.specs.Standing.{Standing}
@@ -43,6 +43,8 @@ use Rattle.osc_authz.specs.declared.error.PostError.{PostError}
 use Rattle.osc_authz.specs.declared.granted.ClientDesk.{ClientDesk}
 use Rattle.osc_authz.specs.declared.post.Post.{Post}
 use Rattle.osc_authz.specs.declared.post.PostAnswer.{PostAnswer}
+use Rattle.osc_authz.specs.declared.post.PostReply.{PostReply}
+use Rattle.osc_authz.specs.declared.post.PostReply.TheVariants.{New}
 use Rattle.osc_server.specs.{standing_of, case_of as server_case, Hears as ServerHears, Answers as ServerAnswers, AnswersNew as ServerAnswersNew, AnswersPost, post_reply, reply_to}
 use Rattle.osc_server.specs.State.{State as Server}
 use Rattle.osc_server.specs.declared.case.Case.{Case as ServerCase}
@@ -185,17 +187,19 @@ module _ (is_sealing : Sealings) where
     pub answer_length : (nonce2 : List ℕ) (id : ℕ) → length nonce2 ≡ 8 → length (item_spelling (answer_item nonce2 (id ∷ []))) ≡ 16
     pub welcome : (before after : DeskState) (on : Standing) (draw : Draw) (post : Post) (claims : Claims) (entries : List Entry) (holder : ClientDesk) (nonce1 : List ℕ) (id : ℕ)
         → IsWelcome (is_sealing EightByteTag) before on claims entries holder → length nonce1 ≡ 8
+        → known claims.material.id nonce1 (id ∷ []) before.table ≡ None
         → Posts (is_sealing EightByteTag) before (record { on = on; body = item_spelling (post_item holder.token nonce1 (id ∷ [])); draw = draw }) post after
-        → (answer : PostAnswer) × (post.answer ≡ Ok answer) × (answer.nonce2 ≡ nonce_drawn draw)
+        → (answer : PostAnswer) × (post.answer ≡ Ok (New answer)) × (answer.nonce2 ≡ nonce_drawn draw)
     pub one_name : (before after : DeskState) (on : Standing) (draw : Draw) (post : Post) (answer : PostAnswer)
         (claims : Claims) (entries : List Entry) (client : ClientDesk) (begun : Begun) (finished : Result ClientContextState FinishError)
         → length draw.0 ≡ 32 → length begun.nonce1 ≡ 8 → HoldsToken (is_sealing EightByteTag) before.key claims entries client
         → Posts (is_sealing EightByteTag) before (record { on = on; body = item_spelling (post_item client.token begun.nonce1 (begun.recipient_id ∷ [])); draw = draw }) post after
-        → post.answer ≡ Ok answer
+        → post.answer ≡ Ok (New answer)
         → Finishes client begun (code 2 1) (item_spelling (answer_item answer.nonce2 (answer.recipient_id ∷ []))) finished
         → (held : SecurityContext) × In held (contexts after.table) × (held.scope ≡ scope_of entries)
         × (held.not_before ≡ claims.not_before) × (held.expires ≡ claims.expires)
-        × (held.revocation ≡ revocation_of before.revoked claims.material.id)
+        × (held.revocation ≡ revocation_of before.rules.revoked claims.material.id)
+        × (held.ends ≡ end_of before.rules.seconds on.at)
         × (finished ≡ Ok (record { name = held.name; next = 0 }))
         × (held.window ≡ []) × IsLawfulContext held × (HasLawfulParts claims → HasShortContext held.name)
 
@@ -218,9 +222,9 @@ module _ (is_sealing : Sealings) (laws : ExchangeLaws is_sealing)
   agreed_to it =
       let posts : Posts (is_sealing EightByteTag) server.desk (posted server.tree exchange came) it.post new.desk =
       subst (λ (bytes : List ℕ). Posts (is_sealing EightByteTag) server.desk (record { on = standing_of server came.at; body = bytes; draw = came.draw }) it.post new.desk) (payload_again body) it.posts in
-      let answered = laws.welcome server.desk new.desk (standing_of server came.at) came.draw it.post exchange.claims exchange.entries exchange.holder exchange.begun.nonce1 exchange.begun.recipient_id awaits.welcome awaits.nonce posts in
+      let answered = laws.welcome server.desk new.desk (standing_of server came.at) came.draw it.post exchange.claims exchange.entries exchange.holder exchange.begun.nonce1 exchange.begun.recipient_id awaits.welcome awaits.nonce awaits.makes.unknown posts in
       let reply_is : reply_to server.endpoint (read_as came (post_to host id token body)) (post_reply it.post.answer) ≡ agreement Acknowledgement id token answered.0 =
-      ap (λ (a : Result PostAnswer PostError). reply_to server.endpoint (read_as came (post_to host id token body)) (post_reply a)) answered.1 in
+      ap (λ (a : Result PostReply PostError). reply_to server.endpoint (read_as came (post_to host id token body)) (post_reply a)) answered.1 in
       record {
         answer = answered.0;
         post = it.post;
@@ -245,6 +249,11 @@ module _ (is_sealing : Sealings) (laws : ExchangeLaws is_sealing)
       agreed_to (subst (λ (k : ServerCase). ServerAnswersNew is_sealing server (read_as came message) k step new) (case_post server.open_scope host id token body lawful) so)
 
 -- ---- the client has a context
+
+-- a context that counts for a while counts at first
+lasts : (now : Moment) (age : Option ℕ) → IfSome age (λ seconds. 0 < seconds) → IsNotOver (end_of age now) now
+lasts now None some = λ end is. absurd (cc)
+lasts now (Some seconds) some = λ end is. let same : now.ms / 1000 + seconds ≡ end = cc in omega (arith, same, some)
 
 module _ (is_sealing : Sealings) (laws : ExchangeLaws is_sealing)
     (server : Server) (came : Arrival Message) (exchange : BegunExchange) (awaits : AwaitsPost is_sealing server came exchange)
@@ -297,12 +306,13 @@ module _ (is_sealing : Sealings) (laws : ExchangeLaws is_sealing)
             begun = subst (λ (bound : Option ℕ). HasBegun bound now) (sym one.3) awaits.welcome.begun;
             not_over = subst (λ (bound : Option ℕ). IsNotOver bound now) (sym one.4) awaits.welcome.not_over;
             unrevoked = (λ i. stands (is.tree i) (one.5 i)) ∙ awaits.welcome.unrevoked;
+            young = subst (λ (bound : Option ℕ). IsNotOver bound now) (sym one.6) (lasts now server.desk.rules.seconds awaits.makes.lasting);
           };
           scope = one.2;
-          window = one.7;
-          short = one.9 awaits.welcome.lawful;
+          window = one.8;
+          short = one.10 awaits.welcome.lawful;
         },
-        one.6,
+        one.7,
       )
 
   module _ (kind : Kind) (to : ℕ) (under : List ℕ) where

@@ -28,13 +28,15 @@ use Rattle.osc_protect.specs.{longest_message}
 use Rattle.osc_scope.specs.{Entry}
 use Rattle.osc_token.specs.{IsToken, algorithm_header, claims_item, token_note, token_object}
 use Rattle.osc_token.specs.declared.claims.Claims.{Claims}
-use Rattle.osc_authz.specs.{IsAgreed, IsKeyFor, DeskState, IsPost, post_item, Posts, IsWelcome}
+use Rattle.osc_authz.specs.{IsAgreed, IsKeyFor, known, DeskState, IsPost, post_item, Posts, IsWelcome}
 use Rattle.osc_authz.specs.Posting.{Posting}
 use Rattle.osc_authz.specs.Standing.{Standing}
 use Rattle.osc_authz.specs.declared.error.PostError.{PostError}
 use Rattle.osc_authz.specs.declared.granted.ClientDesk.{ClientDesk}
 use Rattle.osc_authz.specs.declared.post.Post.{Post}
 use Rattle.osc_authz.specs.declared.post.PostAnswer.{PostAnswer}
+use Rattle.osc_authz.specs.declared.post.PostReply.{PostReply}
+use Rattle.osc_authz.specs.declared.post.PostReply.TheVariants.{New}
 use Rattle.osc_server.specs.{standing_of, case_of as server_case, Hears as ServerHears, Answers as ServerAnswers, AnswersNew as ServerAnswersNew, AnswersPost, nonce_of_post, notes_of_post, refusal_of_post}
 use Rattle.osc_server.specs.State.{State as Server}
 use Rattle.osc_server.specs.declared.case.Case.{Case as ServerCase}
@@ -53,10 +55,11 @@ module _ (is_sealing : Sealings) where
   pub record TokenLaws : Type 0 where
     pub welcome : (before after : DeskState) (on : Standing) (draw : Draw) (post : Post) (claims : Claims) (entries : List Entry) (holder : ClientDesk) (nonce1 : List ℕ) (id : ℕ)
         → IsWelcome (is_sealing EightByteTag) before on claims entries holder → length nonce1 ≡ 8
+        → known claims.material.id nonce1 (id ∷ []) before.table ≡ None
         → Posts (is_sealing EightByteTag) before (record { on = on; body = item_spelling (post_item holder.token nonce1 (id ∷ [])); draw = draw }) post after
-        → (answer : PostAnswer) × (post.answer ≡ Ok answer) × (answer.nonce2 ≡ nonce_drawn draw)
+        → (answer : PostAnswer) × (post.answer ≡ Ok (New answer)) × (answer.nonce2 ≡ nonce_drawn draw)
     pub agreed : (before after : DeskState) (posting : Posting) (post : Post) (answer : PostAnswer)
-        → Posts (is_sealing EightByteTag) before posting post after → post.answer ≡ Ok answer → IsAgreed (is_sealing EightByteTag) before posting post answer after
+        → Posts (is_sealing EightByteTag) before posting post after → post.answer ≡ Ok (New answer) → IsAgreed (is_sealing EightByteTag) before posting post answer after
     pub written : (token nonce1 client_id : List ℕ) → length token < 2 ^ 64 → 1 ≤ length nonce1 → length nonce1 ≤ 64 → length client_id ≤ 7
         → IsPost (item_spelling (post_item token nonce1 client_id)) token nonce1 client_id
     pub one_post : (body token nonce1 client_id others nonces ids : List ℕ) → IsPost body token nonce1 client_id → IsPost body others nonces ids
@@ -73,6 +76,7 @@ module _ (is_sealing : Sealings) where
 module _ (is_sealing : Sealings) (laws : TokenLaws is_sealing)
     (before after : DeskState) (on : Standing) (draw : Draw) (post : Post) (claims : Claims) (entries : List Entry) (holder : ClientDesk) (nonce1 : List ℕ) (client_id : ℕ)
     (welcome : IsWelcome (is_sealing EightByteTag) before on claims entries holder) (size : length nonce1 ≡ 8)
+    (unknown : known claims.material.id nonce1 (client_id ∷ []) before.table ≡ None)
     (posts : Posts (is_sealing EightByteTag) before (record { on = on; body = item_spelling (post_item holder.token nonce1 (client_id ∷ [])); draw = draw }) post after) where
   abbrev offering : Posting
   offering = record { on = on; body = item_spelling (post_item holder.token nonce1 (client_id ∷ [])); draw = draw }
@@ -80,8 +84,8 @@ module _ (is_sealing : Sealings) (laws : TokenLaws is_sealing)
   abbrev text : List ℕ
   text = item_spelling (claims_item claims)
 
-  answer : (answer : PostAnswer) × (post.answer ≡ Ok answer) × (answer.nonce2 ≡ nonce_drawn draw)
-  answer = laws.welcome before after on draw post claims entries holder nonce1 client_id welcome size posts
+  answer : (answer : PostAnswer) × (post.answer ≡ Ok (New answer)) × (answer.nonce2 ≡ nonce_drawn draw)
+  answer = laws.welcome before after on draw post claims entries holder nonce1 client_id welcome size unknown posts
 
   is_agreed : IsAgreed (is_sealing EightByteTag) before offering post answer.0 after
   is_agreed = laws.agreed before after offering post answer.0 posts answer.1
@@ -125,7 +129,7 @@ module _ (is_sealing : Sealings) (laws : TokenLaws is_sealing)
     is =
         ap (λ (o : Option Note). let n : StepNotes = record quiet { opens = o; drawn = nonce_of_post post.answer; refused = refusal_of_post post.answer } in n)
         (is_agreed.noted ∙ ap (λ (k : List ℕ). Some (token_note k is_agreed.its.protected is_agreed.its.iv is_agreed.its.text)) its_key)
-        ∙ ap (λ (a : Result PostAnswer PostError). let n : StepNotes = record quiet { opens = Some (token_note before.key is_agreed.its.protected is_agreed.its.iv is_agreed.its.text); drawn = nonce_of_post a; refused = refusal_of_post a } in n) answer.1
+        ∙ ap (λ (a : Result PostReply PostError). let n : StepNotes = record quiet { opens = Some (token_note before.key is_agreed.its.protected is_agreed.its.iv is_agreed.its.text); drawn = nonce_of_post a; refused = refusal_of_post a } in n) answer.1
         ∙ ap (λ (d : List ℕ). let n : StepNotes = record quiet { opens = Some (token_note before.key is_agreed.its.protected is_agreed.its.iv is_agreed.its.text); drawn = Some d } in n) answer.2
         ∙ ap (λ (t : List ℕ). let n : StepNotes = record quiet { opens = Some (token_note before.key is_agreed.its.protected is_agreed.its.iv t); drawn = Some (nonce_drawn draw) } in n) its_text;
   }
@@ -134,15 +138,16 @@ module _ (is_sealing : Sealings) (laws : TokenLaws is_sealing)
 pub answer_notes : (is_sealing : Sealings) (laws : TokenLaws is_sealing)
     (server agreed : Server) (came : Arrival Message) (step : Step) (claims : Claims) (entries : List Entry) (holder : ClientDesk) (nonce1 : List ℕ) (client_id : ℕ)
     → IsWelcome (is_sealing EightByteTag) server.desk (standing_of server came.at) claims entries holder → length nonce1 ≡ 8
+    → known claims.material.id nonce1 (client_id ∷ []) server.desk.table ≡ None
     → came.what.payload ≡ payload_of (item_spelling (post_item holder.token nonce1 (client_id ∷ [])))
     → AnswersPost is_sealing server came step agreed
     → AreNotesOfAgreement server.desk.key (claims_text claims) came.draw step.notes
-answer_notes is_sealing laws server agreed came step claims entries holder nonce1 client_id welcome size payload it =
+answer_notes is_sealing laws server agreed came step claims entries holder nonce1 client_id welcome size unknown payload it =
     let body : List ℕ = item_spelling (post_item holder.token nonce1 (client_id ∷ [])) in
     let bytes : unwrap_or came.what.payload [] ≡ body = ap (λ (p : Option (List ℕ)). unwrap_or p []) payload ∙ payload_again body in
     let posts : Posts (is_sealing EightByteTag) server.desk (record { on = standing_of server came.at; body = body; draw = came.draw }) it.post agreed.desk =
     subst (λ (b : List ℕ). Posts (is_sealing EightByteTag) server.desk (record { on = standing_of server came.at; body = b; draw = came.draw }) it.post agreed.desk) bytes it.posts in
-    let notes = post_notes is_sealing laws server.desk agreed.desk (standing_of server came.at) came.draw it.post claims entries holder nonce1 client_id welcome size posts in
+    let notes = post_notes is_sealing laws server.desk agreed.desk (standing_of server came.at) came.draw it.post claims entries holder nonce1 client_id welcome size unknown posts in
     record { protected = notes.protected; iv = notes.iv; is = ap (λ (s : Step). s.notes) it.sent.sent ∙ notes.is }
 
 -- ---- what went out
@@ -219,7 +224,7 @@ module _ (is_sealing : Sealings)
   exchange_heard later other isnt unheard =
       ap (λ (s : Server). looked later at other s.endpoint.seen) answers.sent.kept ∙ still_unheard now later at at id other _ server.endpoint.seen isnt unheard
 
-  module _ (laws : TokenLaws is_sealing) (claims : Claims) (entries : List Entry) (may : MayExchange is_sealing client server now claims entries) where
+  module _ (laws : TokenLaws is_sealing) (claims : Claims) (entries : List Entry) (may : MayExchange is_sealing client server now draw claims entries) where
     pub exchange_notes : (made : StepNotes) → made ≡ record quiet { result = Some result.Made }
         → AreNotesOfExchange server.desk.key (claims_text claims) (record { client = draw; server = server_draw }) first.notes second.notes made
     exchange_notes made is =
@@ -228,6 +233,6 @@ module _ (is_sealing : Sealings)
           begun_is = posting.notes;
           agreed_is =
               answer_notes is_sealing laws server agreed came second claims entries client.desk (nonce_drawn draw) (begun_by client draw).recipient_id may.welcome
-              nonce_size refl answers;
+              nonce_size may.makes.unknown refl answers;
           made_is = is;
         }

@@ -58,7 +58,7 @@ are_drawn client begun asked_at draw lawful direct spelled kept =
 
 module _ (is_sealing : Sealings) (laws : ExchangeLaws is_sealing)
     (client : Client) (server : Server) (asked_at now : Moment) (draw : Draw) (at server_at : Peer) (claims : Claims) (entries : List Entry) (first : Step) (begun : Client)
-    (straight : IsStraight client server now draw at server_at) (may : MayExchange is_sealing client server now claims entries) (drawn : AreDrawn client draw) where
+    (straight : IsStraight client server now draw at server_at) (may : MayExchange is_sealing client server now draw claims entries) (drawn : AreDrawn client draw) where
   abbrev its : Begun
   its = begun_by client draw
 
@@ -91,7 +91,7 @@ module _ (is_sealing : Sealings) (laws : ExchangeLaws is_sealing)
   heard_as server_draw = record { at = now; from = at; draw = server_draw; what = message }
 
   awaits_post : (server_draw : Draw) → AwaitsPost is_sealing server (heard_as server_draw) exchange
-  awaits_post server_draw = record { welcome = may.welcome; nonce = nonce_size; unheard = straight.unheard }
+  awaits_post server_draw = record { welcome = may.welcome; makes = may.makes; nonce = nonce_size; unheard = straight.unheard }
 
   abbrev waiting : Waiting
   waiting = waits client.endpoint asked_at draw (Exchange its)
@@ -155,7 +155,7 @@ module _ (is_sealing : Sealings) (laws : ExchangeLaws is_sealing)
 
 module _ (is_sealing : Sealings) (laws : ExchangeLaws is_sealing)
     (client begun : Client) (server : Server) (asked_at now : Moment) (draw : Draw) (at server_at : Peer) (claims : Claims) (entries : List Entry) (first : Step)
-    (lawful : IsLawfulClient begun) (straight : IsStraight client server now draw at server_at) (may : MayExchange is_sealing client server now claims entries) where
+    (lawful : IsLawfulClient begun) (straight : IsStraight client server now draw at server_at) (may : MayExchange is_sealing client server now draw claims entries) where
   pub is_begun : first.notes.result ≢ Some (result.Refused 14) → Exchanges client asked_at draw first begun
       → IsBegunAndMade is_sealing (record { begun = begun; server = server; at = at; server_at = server_at; now = now; entries = entries }) client draw first
   is_begun fits (busy waits refused) = absurd (waits may.idle)

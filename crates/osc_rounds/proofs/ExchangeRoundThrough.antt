@@ -51,13 +51,14 @@ module _ (is_sealing : Sealings)
 
   -- ---- before
 
-  module _ (begun_at : Moment) (lawful : IsLawfulClient begun) (may : MayExchange is_sealing client server now claims entries) where
+  module _ (begun_at : Moment) (lawful : IsLawfulClient begun) (may : MayExchange is_sealing client server now draw claims entries) where
     begun_so : begun ≡ opened client begun_at draw (post_by client draw) (Exchange (begun_by client draw)) → MayExchangeThrough is_sealing client exchange
     begun_so kept = record {
       through = through.named;
       next_hop = through.next_hop;
       idle = may.idle;
       welcome = may.welcome;
+      makes = may.makes;
       origin_lawful = subst (λ (o : Option HostAndPort). IfSome o IsLawfulOrigin) (ap (λ (c : Client). c.origin) kept ∙ through.named) lawful.origin;
       draw_size = drawn_size client begun begun_at draw (post_by client draw) (Exchange (begun_by client draw)) lawful kept;
     }

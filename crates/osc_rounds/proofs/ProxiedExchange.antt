@@ -215,7 +215,7 @@ module _ (is_sealing : Sealings) (laws : ExchangeLaws is_sealing) (tokens : Toke
       came = at_server exchange server_draw (forwarded id token message)
 
       awaits_post : AwaitsPost is_sealing server came known
-      awaits_post = record { welcome = may.welcome; nonce = nonce_size draw may.draw_size; unheard = unheard }
+      awaits_post = record { welcome = may.welcome; makes = may.makes; nonce = nonce_size draw may.draw_size; unheard = unheard }
 
       module _ (is : IsAgreedTo is_sealing server came known second agreed) where
         abbrev response : Message
@@ -240,7 +240,7 @@ module _ (is_sealing : Sealings) (laws : ExchangeLaws is_sealing) (tokens : Toke
         post_noted : AreNotesOfAgreement server.desk.key (claims_text exchange.claims) server_draw (notes_of_post is.post)
         post_noted =
             post_notes is_sealing tokens server.desk agreed.desk (standing_of server now) server_draw is.post exchange.claims exchange.entries client.desk its.nonce1 its.recipient_id may.welcome
-            (nonce_size draw may.draw_size) is.posts
+            (nonce_size draw may.draw_size) may.makes.unknown is.posts
 
         made : IsAgreedAndMadeThrough is_sealing exchange sent came second agreed
         made = record {

@@ -1,6 +1,6 @@
 -- The two ends of an exchange (RFC 9203 section 4), whatever way its post and the answer go: the server agrees to a post, and the client
 -- waits for that.
-use Rattle.std.specs.Prelude.{◌≡◌, ℕ, true, List, [], ◌∷◌, length, Some, None, Ok}
+use Rattle.std.specs.Prelude.{◌≡◌, ℕ, ◌<◌, true, List, [], ◌∷◌, length, IfSome, Some, None, Ok}
 use Rattle.osc_model.specs.Tree.{Tree}
 use Rattle.osc_model.specs.Arrival.{Arrival}
 use Rattle.osc_model.specs.{code, nonce_drawn}
@@ -19,11 +19,12 @@ use Rattle.osc_scope.specs.{Entry}
 use Rattle.osc_token.specs.declared.claims.Claims.{Claims}
 use Rattle.osc_ccm.specs.{Sealings}
 use Rattle.osc_authz.specs.Begun.{Begun}
-use Rattle.osc_authz.specs.{post_item, Posts, IsWelcome}
+use Rattle.osc_authz.specs.{known, post_item, DeskState, Posts, IsWelcome}
 use Rattle.osc_authz.specs.Posting.{Posting}
 use Rattle.osc_authz.specs.declared.granted.ClientDesk.{ClientDesk}
 use Rattle.osc_authz.specs.declared.post.Post.{Post}
 use Rattle.osc_authz.specs.declared.post.PostAnswer.{PostAnswer}
+use Rattle.osc_authz.specs.declared.post.PostReply.TheVariants.{New}
 use Rattle.osc_server.specs.State.{State as Server}
 use Rattle.osc_server.specs.{standing_of, notes_of_post, post_reply}
 use Rattle.osc_client.specs.State.{State as Client}
@@ -48,14 +49,20 @@ posted tree exchange came = record { on = record { at = came.at; tree = tree }; 
 
 -- 2.01 with the nonce and the recipient ID of the server, in a message of this kind, message ID and token (section 4.2)
 abbrev pub agreement : Kind → ℕ → List ℕ → PostAnswer → Message
-agreement kind id token answer = with_reply (bare kind (code 2 1).0 id token) (post_reply (Ok answer))
+agreement kind id token answer = with_reply (bare kind (code 2 1).0 id token) (post_reply (Ok (New answer)))
+
+-- The desk makes contexts that count for a while, and knows no post with a token of these claims and with what was begun.
+pub record MakesContexts (desk : DeskState) (claims : Claims) (begun : Begun) : Type 0 where
+  pub lasting : IfSome desk.rules.seconds (λ seconds. 0 < seconds)
+  pub unknown : known claims.material.id begun.nonce1 (begun.recipient_id ∷ []) desk.table ≡ None
 
 -- `is_sealing algorithm` is the relation of the algorithm's cipher
 module _ (is_sealing : Sealings) where
-  -- The token of this client is welcome at the server, the client's nonce is one of 8 bytes, and no message of the post's ID was heard
-  -- from there.
+  -- The token of this client is welcome at the server, which doesn't know the post, the client's nonce is one of 8 bytes, and no message of
+  -- the post's ID was heard from there.
   pub record AwaitsPost (server : Server) (came : Arrival Message) (exchange : BegunExchange) : Type 0 where
     pub welcome : IsWelcome (is_sealing EightByteTag) server.desk (standing_of server came.at) exchange.claims exchange.entries exchange.holder
+    pub makes : MakesContexts server.desk exchange.claims exchange.begun
     pub nonce : length exchange.begun.nonce1 ≡ 8
     pub unheard : looked came.at came.from came.what.id server.endpoint.seen ≡ None
 
@@ -65,7 +72,7 @@ module _ (is_sealing : Sealings) where
     pub answer : PostAnswer
     pub post : Post
     pub posts : Posts (is_sealing EightByteTag) old.desk (posted old.tree exchange came) post new.desk
-    pub agrees : post.answer ≡ Ok answer
+    pub agrees : post.answer ≡ Ok (New answer)
     pub nonce : answer.nonce2 ≡ nonce_drawn came.draw
     pub out : step.out ≡ datagram came.from (agreement Acknowledgement came.what.id came.what.token answer) ∷ []
     pub notes : step.notes ≡ notes_of_post post

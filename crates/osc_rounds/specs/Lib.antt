@@ -10,7 +10,7 @@ pub mod Agreement
 pub mod ProxiedExchange
 pub mod RoundNotes
 pub mod ExchangeRoundThrough
-pub use Agreement.{AwaitsAgreement, AwaitsPost, BegunExchange, IsAgreedTo, agreement, body_of, posted}
+pub use Agreement.{AwaitsAgreement, AwaitsPost, BegunExchange, IsAgreedTo, MakesContexts, agreement, body_of, posted}
 pub use AskRound.{IsAskedAndAnswered, IsLawfulServer, IsServedAndAnswered, StraightRequest, asked_text}
 pub use AskRoundThrough.{IsAnsweredAndEnds, IsAskedAndServedThrough, IsBroughtBackAndAnswered, IsPassedOnAndServed, IsServedAndBroughtBack, IsSettledAndServed, OnItsWay, forwarded_on, id_back, passage_of}
 pub use Asked.{AnsweredRequest, AreForServer, AwaitsReply, AwaitsRequest, CarriesReply, ComesBack, IsAnswered, IsAnsweredWith, IsForServer, IsServed, OpenedRequest, a_uri_host, in_acknowledgement, in_confirmable, nothing}

@@ -22,9 +22,10 @@ use Rattle.osc_authz.specs.SecurityContext.{SecurityContext}
 use Rattle.osc_authz.specs.{IsWelcome}
 use Rattle.osc_server.specs.{standing_of, Hears as ServerHears}
 use Rattle.osc_server.specs.State.{State as Server}
-use Rattle.osc_client.specs.{Hears as ClientHears, post_by, HostAndPort, IsLawfulOrigin}
+use Rattle.osc_client.specs.{Hears as ClientHears, begun_by, post_by, HostAndPort, IsLawfulOrigin}
 use Rattle.osc_client.specs.State.{State as Client}
 use Rattle.osc_proxy.specs.{answer as sent_back, forwarded, IsAnswerTo}
+use Rattle.osc_rounds.specs.Agreement.{MakesContexts}
 use Rattle.osc_rounds.specs.Coming.{coming, in_bytes}
 use Rattle.osc_rounds.specs.ExchangeRound.{IsHeld}
 use Rattle.osc_rounds.specs.ForProxy.{IsForProxy}
@@ -68,12 +69,13 @@ pub record IsMadeThrough (old : Client) (from : Peer) (id : ℕ) (held : Securit
 -- `is_sealing algorithm` is the relation of the algorithm's cipher
 module _ (is_sealing : Sealings) where
   -- The client waits for nothing, sends through the proxy, which has this address, to the server, which that one knows by this host and
-  -- port, and holds a token that is welcome there.
+  -- port, and holds a token that is welcome there. The server doesn't know the post.
   pub record MayExchangeThrough (client : Client) (exchange : ProxiedExchange) : Type 0 where
     pub through : client.origin ≡ Some exchange.origin
     pub next_hop : client.next_hop ≡ exchange.proxy_at
     pub idle : client.waiting ≡ None
     pub welcome : IsWelcome (is_sealing EightByteTag) exchange.server.desk (standing_of exchange.server exchange.now) exchange.claims exchange.entries client.desk
+    pub makes : MakesContexts exchange.server.desk exchange.claims (begun_by client exchange.draw)
     -- what the type of an origin says; and a draw has a nonce and a token, of 8 bytes each
     pub origin_lawful : IsLawfulOrigin exchange.origin
     pub draw_size : 16 ≤ length exchange.draw.0

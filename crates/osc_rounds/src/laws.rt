@@ -145,7 +145,7 @@ pub fn a_request_is_answered<A: Ciphers>()
 pub fn an_exchange_is_made<A: Ciphers>()
     ensures { (client begun : Client) (server : Server) (asked_at now : AnyMoment) (draw : AnyDraw) (at server_at : AnyPeer)
         (claims : AnyClaims) (entries : List Entry) (first : AnyStep)
-        → IsLawfulClient begun → IsStraight client server now draw at server_at → MayExchange A.is_sealing client server now claims entries
+        → IsLawfulClient begun → IsStraight client server now draw at server_at → MayExchange A.is_sealing client server now draw claims entries
         → first.notes.result ≢ Some (result_as.Refused refusal.datagram_too_long)
         → Exchanges client asked_at draw first begun
         → IsBegunAndMade A.is_sealing (record { begun = begun; server = server; at = at; server_at = server_at; now = now; entries = entries }) client draw first }
@@ -315,7 +315,7 @@ pub fn an_exchange_goes_through_a_proxy<A: Ciphers>()
     ensures { (client begun : Client) (proxy : Proxy) (server : Server) (begun_at : AnyMoment) (draw : AnyDraw) (hops : Hops)
         (claims : AnyClaims) (entries : List Entry) (posts : AnyStep)
         → IsLawfulProxy proxy → IsLawfulClient begun → length hops.proxy_draw.0 ≡ 32
-        → (way : IsThrough client proxy server draw hops) → MayExchange A.is_sealing client server hops.now claims entries
+        → (way : IsThrough client proxy server draw hops) → MayExchange A.is_sealing client server hops.now draw claims entries
         → posts.notes.result ≢ Some (result_as.Refused refusal.datagram_too_long)
         → Exchanges client begun_at draw posts begun
         → (message : Message)
@@ -364,14 +364,14 @@ pub fn an_exchange_keeps_the_premise()
 pub fn what_an_exchange_notes<A: Ciphers>()
     ensures notes { (client begun : Client) (server agreed : Server) (asked_at now : AnyMoment) (draw server_draw : AnyDraw) (at server_at : AnyPeer)
         (claims : AnyClaims) (entries : List Entry) (message : Message) (first second : AnyStep) (made : StepNotes)
-        → IsLawfulClient begun → IsStraight client server now draw at server_at → MayExchange A.is_sealing client server now claims entries
+        → IsLawfulClient begun → IsStraight client server now draw at server_at → MayExchange A.is_sealing client server now draw claims entries
         → Exchanges client asked_at draw first begun → first.out ≡ datagram client.next_hop message ∷ []
         → ServerHears A.is_sealing server (coming now at server_draw message) second agreed
         → made ≡ record quiet { result = Some result_as.Made }
         → AreNotesOfExchange server.desk.key (claims_text claims) (record { client = draw; server = server_draw }) first.notes second.notes made }
     ensures heard { (client begun : Client) (server agreed : Server) (asked_at now later : AnyMoment) (draw server_draw : AnyDraw) (at server_at : AnyPeer)
         (claims : AnyClaims) (entries : List Entry) (message : Message) (first second : AnyStep) (id : ℕ)
-        → IsLawfulClient begun → IsStraight client server now draw at server_at → MayExchange A.is_sealing client server now claims entries
+        → IsLawfulClient begun → IsStraight client server now draw at server_at → MayExchange A.is_sealing client server now draw claims entries
         → Exchanges client asked_at draw first begun → first.out ≡ datagram client.next_hop message ∷ []
         → ServerHears A.is_sealing server (coming now at server_draw message) second agreed
         → id ≢ own_id draw client.endpoint.next_id → looked later at id server.endpoint.seen ≡ None

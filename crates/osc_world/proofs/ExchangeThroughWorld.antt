@@ -85,7 +85,7 @@ module _ (is_sealing : Sealings) (tag : Tags) where
   MakesThrough = (client begun : Client) (proxy : Proxy) (server : Server) (begun_at : Moment) (draw : Draw) (hops : Hops)
       (claims : Claims) (entries : List Entry) (posts : Step)
       → IsLawfulProxy proxy → IsLawfulClient begun → length hops.proxy_draw.0 ≡ 32
-      → (way : IsThrough client proxy server draw hops) → MayExchange is_sealing client server hops.now claims entries
+      → (way : IsThrough client proxy server draw hops) → MayExchange is_sealing client server hops.now draw claims entries
       → posts.notes.result ≢ Some (result.Refused 14)
       → Exchanges client begun_at draw posts begun
       → (message : Message)

@@ -54,7 +54,7 @@ module _ (is_sealing : Sealings) (tag : Tags) where
   -- an exchange that goes straight to the server is made
   abbrev pub MakesStraight : Type 0
   MakesStraight = (client begun : Client) (server : Server) (begun_at now : Moment) (draw : Draw) (at server_at : Peer) (claims : Claims) (entries : List Entry) (first : Step)
-      → IsLawfulClient begun → IsStraight client server now draw at server_at → MayExchange is_sealing client server now claims entries
+      → IsLawfulClient begun → IsStraight client server now draw at server_at → MayExchange is_sealing client server now draw claims entries
       → first.notes.result ≢ Some (result.Refused 14)
       → Exchanges client begun_at draw first begun
       → IsBegunAndMade is_sealing (record { begun = begun; server = server; at = at; server_at = server_at; now = now; entries = entries }) client draw first
@@ -62,7 +62,7 @@ module _ (is_sealing : Sealings) (tag : Tags) where
   -- what its steps note
   abbrev pub NotesExchange : Type 0
   NotesExchange = (client begun : Client) (server agreed : Server) (begun_at now : Moment) (draw server_draw : Draw) (at server_at : Peer) (claims : Claims) (entries : List Entry) (message : Message) (first second : Step) (made : StepNotes)
-      → IsLawfulClient begun → IsStraight client server now draw at server_at → MayExchange is_sealing client server now claims entries
+      → IsLawfulClient begun → IsStraight client server now draw at server_at → MayExchange is_sealing client server now draw claims entries
       → Exchanges client begun_at draw first begun → first.out ≡ datagram client.next_hop message ∷ []
       → ServerHears is_sealing server (coming_from now at server_draw (spelling message)) second agreed
       → made ≡ record quiet { result = Some result.Made }
@@ -71,7 +71,7 @@ module _ (is_sealing : Sealings) (tag : Tags) where
   -- what the server has heard of the client behind it
   abbrev pub HearsNoOther : Type 0
   HearsNoOther = (client begun : Client) (server agreed : Server) (begun_at now later : Moment) (draw server_draw : Draw) (at server_at : Peer) (claims : Claims) (entries : List Entry) (message : Message) (first second : Step) (id : ℕ)
-      → IsLawfulClient begun → IsStraight client server now draw at server_at → MayExchange is_sealing client server now claims entries
+      → IsLawfulClient begun → IsStraight client server now draw at server_at → MayExchange is_sealing client server now draw claims entries
       → Exchanges client begun_at draw first begun → first.out ≡ datagram client.next_hop message ∷ []
       → ServerHears is_sealing server (coming_from now at server_draw (spelling message)) second agreed
       → id ≢ own_id draw client.endpoint.next_id → looked later at id server.endpoint.seen ≡ None → looked later at id agreed.endpoint.seen ≡ None

@@ -185,7 +185,7 @@ module _ (is_sealing : Sealings) (tag : Tags) where
     pub claims : Claims
     pub entries : List Entry
     pub ready : IsReady before client placed (round_of deliveries draw begun) count
-    pub may : MayExchange is_sealing placed.node before.nodes.server deliveries.at claims entries
+    pub may : MayExchange is_sealing placed.node before.nodes.server deliveries.at draw claims entries
     pub happens : Happens is_sealing tag before (beginning at draw client) begun
     pub fits : IsNotRefused refusal.datagram_too_long before begun
 
