@@ -11,6 +11,7 @@ mod ClientSteps
 mod Seals
 mod FreshRuns
 mod Separate
+mod Ages
 mod Grants
 mod Replied
 mod GenuineRuns
@@ -19,4 +20,3 @@ mod OneRound
 mod ServerDoes
 mod ClientDoes
 mod Read
-mod Ages

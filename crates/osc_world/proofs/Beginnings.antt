@@ -1,9 +1,10 @@
 -- Where a world begins, a client that was enrolled may exchange, straight or through a proxy that was added.
 use Rattle.std.proofs.Common.{◌≡◌, ◌∙◌, sym, ap, subst, refl, ℕ, ◌+◌, ◌^◌, ◌<◌, ◌≤◌, List, [], false, length, None, Some, arith}
-use Rattle.std.specs.Prelude.{slice_get}
+use Rattle.std.specs.Prelude.{slice_get, IfSome}
 use Rattle.osc_model.specs.{HasBegun, IsNotOver, is_revoked}
 use Rattle.osc_server.specs.{standing_of}
 use Rattle.osc_model.specs.declared.algorithm.Algorithm.TheVariants.{EightByteTag}
+use Rattle.osc_model.specs.declared.node.Draw.{Draw}
 use Rattle.osc_model.specs.declared.node.Moment.{Moment}
 use Rattle.osc_model.specs.declared.node.Peer.{Peer}
 use Rattle.osc_ccm.specs.{most_tag, Sealings, IsLongerBy}
@@ -68,7 +69,8 @@ module _ (is_sealing : Sealings) (tag : ℕ)
 
   module _ (audience : holder.claims.audience ≡ start.audience) (now : Moment)
       (begins : HasBegun holder.claims.not_before now) (ends : IsNotOver holder.claims.expires now)
-      (unrevoked : is_revoked start.revoked start.first holder.claims.material.id ≡ false) where
+      (unrevoked : is_revoked start.rules.revoked start.first holder.claims.material.id ≡ false)
+      (lasting : IfSome start.rules.seconds (λ seconds. 0 < seconds)) (draw : Draw) where
     welcome : IsWelcome (is_sealing EightByteTag) (begun start).nodes.server.desk (standing_of (begun start).nodes.server now) holder.claims enrols.enrolled.entries enrols.placed.node.desk
     welcome = record {
       holds = holds;
@@ -80,8 +82,8 @@ module _ (is_sealing : Sealings) (tag : ℕ)
       room = λ full. absurd (omega (arith, full.many));
     }
 
-    pub may_exchange : MayExchange is_sealing enrols.placed.node (begun start).nodes.server now holder.claims enrols.enrolled.entries
-    may_exchange = record { idle = enrols.enrolled.client.waiting; welcome = welcome }
+    pub may_exchange : MayExchange is_sealing enrols.placed.node (begun start).nodes.server now draw holder.claims enrols.enrolled.entries
+    may_exchange = record { idle = enrols.enrolled.client.waiting; welcome = welcome; makes = record { lasting = lasting; unknown = refl } }
 
 module _ (is_sealing : Sealings)
     (before after start : Beginning) (holder : Holder) (round : ClientRound) (enrols : Enrols is_sealing before holder after) where

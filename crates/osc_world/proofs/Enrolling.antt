@@ -11,6 +11,7 @@ use Rattle.osc_run.specs.{Holds, IsNewClient, IsStart, IsTextOf, ClientState, Mi
 use Rattle.osc_client.specs.{core, outstanding}
 use Rattle.osc_client.specs.State.{State as Client}
 use Rattle.osc_proxy.specs.State.{State as Proxy}
+use Rattle.osc_authz.specs.declared.rules.ContextRules.{ContextRules}
 use Rattle.osc_world.specs.{NodeStates, AreEnrolled, Beginning, Enrols, IsEnrolled, run_with}
 use Rattle.osc_world.specs.declared.nodes.Placed.{Placed}
 use Rattle.osc_world.specs.declared.start.Holder.{Holder}
@@ -81,23 +82,23 @@ enrolled_more is_sealing key holder minted clients one placed old is text = reco
         (subst (λ q. IsNewClient (minted ++ one ∷ []) (length clients) (core q.node)) (sym h.1) new))
         (at_end clients placed p number there)
 
-pub enrols : (is_sealing : Sealings) (self : Beginning) (first : Tree) (open_scope : Scope) (key : List ℕ) (old_key : Option (List ℕ)) (audience : List ℕ) (revoked : Option (List ℕ)) (server_at : Peer)
+pub enrols : (is_sealing : Sealings) (self : Beginning) (first : Tree) (open_scope : Scope) (key : List ℕ) (old_key : Option (List ℕ)) (audience : List ℕ) (rules : ContextRules) (server_at : Peer)
     (minted minted' : List Minted) (clients clients' : List (Placed Client)) (proxies : List (Placed Proxy)) (holder : Holder) (one : Minted) (placed : Placed Client)
-    → record { first = first; open_scope = open_scope; key = key; old_key = old_key; audience = audience; revoked = revoked; server_at = server_at; minted = minted; clients = clients; proxies = proxies } ≡ self
+    → record { first = first; open_scope = open_scope; key = key; old_key = old_key; audience = audience; rules = rules; server_at = server_at; minted = minted; clients = clients; proxies = proxies } ≡ self
     → IsEnrolled is_sealing key (length clients) holder one placed
     → minted' ≡ minted ++ one ∷ [] → clients' ≡ clients ++ placed ∷ []
     → Enrols is_sealing self holder
-    (record { first = first; open_scope = open_scope; key = key; old_key = old_key; audience = audience; revoked = revoked; server_at = server_at; minted = minted'; clients = clients'; proxies = proxies })
-enrols is_sealing self first open_scope key old_key audience revoked server_at minted minted' clients clients' proxies holder one placed is enrolled more_minted more_clients =
+    (record { first = first; open_scope = open_scope; key = key; old_key = old_key; audience = audience; rules = rules; server_at = server_at; minted = minted'; clients = clients'; proxies = proxies })
+enrols is_sealing self first open_scope key old_key audience rules server_at minted minted' clients clients' proxies holder one placed is enrolled more_minted more_clients =
     subst
     (λ s. Enrols is_sealing s holder
-    (record { first = first; open_scope = open_scope; key = key; old_key = old_key; audience = audience; revoked = revoked; server_at = server_at; minted = minted'; clients = clients'; proxies = proxies }))
+    (record { first = first; open_scope = open_scope; key = key; old_key = old_key; audience = audience; rules = rules; server_at = server_at; minted = minted'; clients = clients'; proxies = proxies }))
     is
     (record {
       minted = one;
       placed = placed;
       enrolled = enrolled;
-      is = λ j. record { first = first; open_scope = open_scope; key = key; old_key = old_key; audience = audience; revoked = revoked; server_at = server_at; minted = more_minted j; clients = more_clients j; proxies = proxies };
+      is = λ j. record { first = first; open_scope = open_scope; key = key; old_key = old_key; audience = audience; rules = rules; server_at = server_at; minted = more_minted j; clients = more_clients j; proxies = proxies };
     })
 
 -- ---- the start

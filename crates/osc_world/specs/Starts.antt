@@ -20,13 +20,14 @@ use Rattle.osc_client.specs.State.{State as Client}
 use Rattle.osc_proxy.specs.{none_open}
 use Rattle.osc_proxy.specs.declared.targets.Target.{Target}
 use Rattle.osc_proxy.specs.State.{State as Proxy}
+use Rattle.osc_authz.specs.declared.rules.ContextRules.{ContextRules}
 use Rattle.osc_world.specs.Nodes.{NodeStates, places}
 use Rattle.osc_world.specs.Worlds.{State}
 use Rattle.osc_world.specs.declared.nodes.Placed.{Placed}
 use Rattle.osc_world.specs.declared.start.Holder.{Holder}
 
--- the resources; what needs no protection; the key of tokens, the former key, if tokens under that are taken, and for whom they are; the
--- path below which resources revoke them, if there is one; where the server stands; the grants with the texts of their tokens; and the
+-- the resources; what needs no protection; the key of tokens, the former key, if tokens under that are taken, and for whom they are; what
+-- the server rules for its contexts, and where it stands; the grants with the texts of their tokens; and the
 -- clients and the proxies, each with where it stands
 pub record Beginning : Type 0 where
   pub first : Tree
@@ -34,7 +35,7 @@ pub record Beginning : Type 0 where
   pub key : List ℕ
   pub old_key : Option (List ℕ)
   pub audience : List ℕ
-  pub revoked : Option (List ℕ)
+  pub rules : ContextRules
   pub server_at : Peer
   pub minted : List Minted
   pub clients : List (Placed Client)
@@ -117,7 +118,7 @@ first_nodes start = record {
   server_at = start.server_at;
   server = record {
     tree = start.first;
-    desk = record { key = start.key; old_key = start.old_key; audience = start.audience; revoked = start.revoked; table = [] };
+    desk = record { key = start.key; old_key = start.old_key; audience = start.audience; rules = start.rules; table = [] };
     open_scope = start.open_scope;
     endpoint = fresh;
   };

@@ -1,5 +1,5 @@
 //! Laws of the definitions. These functions do nothing: whoever calls one has its clauses for a proof.
-ghost use Rattle.std.specs.Prelude.{◌≡◌, ◌≤◌, ◌∷◌, ◌++◌, ℕ, suc, Bool, List, [], None, Some, true, false, length, slice_get, ◌<◌, ◌+◌, ◌%◌, ◌^◌};
+ghost use Rattle.std.specs.Prelude.{◌≡◌, ◌≤◌, ◌∷◌, ◌++◌, ℕ, suc, Bool, List, [], None, Some, IfSome, true, false, length, slice_get, ◌<◌, ◌+◌, ◌%◌, ◌^◌};
 ghost use Rattle.osc_model.specs.{is_revoked, HasBegun, IsNotOver};
 ghost use Rattle.osc_server.specs.{standing_of};
 ghost use Rattle.osc_model.specs.declared.node.Draw.{Draw as AnyDraw};
@@ -182,7 +182,7 @@ pub fn what_is_minted<A: Ciphers>()
 
 /// Where a world begins, what is assumed of a run holds if no two grants share a secret. A client that was enrolled holds a token of the
 /// key, and may exchange: at any moment in the time of its token, if that is for the server's audience, isn't revoked by the first
-/// resources and has parts of lawful lengths. The world is ready for it where the client reaches the server straight, or through a proxy
+/// resources and has parts of lawful lengths, and the server's contexts count for a while. The world is ready for it where the client reaches the server straight, or through a proxy
 /// that was added and has the server among its targets, by the host and port that the client writes.
 pub fn where_a_world_begins<A: Ciphers>()
     ensures premise { (start : Beginning) → HasOwnSecrets start.minted → Premise (begun start).minted (begun start).steps }
@@ -190,12 +190,13 @@ pub fn where_a_world_begins<A: Ciphers>()
         → start.key ≡ before.key → HasLawfulParts holder.claims → FitAToken holder.claims
         → length holder.iv ≡ 13 → length enrols.placed.node.desk.token < 2 ^ 64
         → HoldsToken (A.is_sealing EightByteTag) start.key holder.claims enrols.enrolled.entries enrols.placed.node.desk }
-    ensures may_exchange { (before after start : Beginning) (holder : AnyHolder) (now : AnyMoment) (enrols : Enrols A.is_sealing before holder after)
+    ensures may_exchange { (before after start : Beginning) (holder : AnyHolder) (now : AnyMoment) (draw : AnyDraw) (enrols : Enrols A.is_sealing before holder after)
         → start.key ≡ before.key → HasLawfulParts holder.claims → FitAToken holder.claims → holder.claims.audience ≡ start.audience
         → HasBegun holder.claims.not_before now → IsNotOver holder.claims.expires now
-        → is_revoked start.revoked start.first holder.claims.material.id ≡ false
+        → is_revoked start.rules.revoked start.first holder.claims.material.id ≡ false
+        → IfSome start.rules.seconds (λ seconds. 0 < seconds)
         → length holder.iv ≡ 13 → length enrols.placed.node.desk.token < 2 ^ 64
-        → MayExchange A.is_sealing enrols.placed.node (begun start).nodes.server now holder.claims enrols.enrolled.entries }
+        → MayExchange A.is_sealing enrols.placed.node (begun start).nodes.server now draw holder.claims enrols.enrolled.entries }
     ensures straight { (before after start : Beginning) (holder : AnyHolder) (round : ClientRound) (enrols : Enrols A.is_sealing before holder after)
         → slice_get start.clients (length before.clients) ≡ Some enrols.placed
         → holder.way.origin ≡ None → holder.way.next_hop ≡ start.server_at

@@ -18,11 +18,11 @@ ghost use Rattle.osc_world.specs.Worlds.{run_of};
 use crate::error::{EnrollError, PlaceError};
 use crate::nodes::{Nodes, Placed};
 use crate::world::World;
-use osc_authz::{ClientDesk, DeskParts, ServerDesk};
+use osc_authz::{ClientDesk, ContextRules, DeskParts, ServerDesk};
 use osc_ccm::Ciphers;
 use osc_client::{Client, Route};
 use osc_message::laws::one_peer;
-use osc_model::{Bytes, Path, Peer};
+use osc_model::{Bytes, Peer};
 use osc_protect::TokenCipher;
 use osc_proxy::{Proxy, Targets};
 use osc_run::{Grant, Minted, kinds};
@@ -48,7 +48,7 @@ pub struct Holder {
 }
 
 /// A world before its first event: the resources, what needs no protection, the key that the issuer of tokens and the server share, for
-/// whom tokens are, the former key, the path below which resources revoke tokens, where the server stands, the clients that were enrolled,
+/// whom tokens are, the former key, what the server rules for its contexts, where it stands, the clients that were enrolled,
 /// and the proxies that were added. No two nodes stand at one address.
 #[derive(Drop)]
 pub struct Start {
@@ -57,7 +57,7 @@ pub struct Start {
     key: [u8; 16],
     old_key: Option<[u8; 16]>,
     audience: Audience,
-    revoked: Option<Path>,
+    rules: ContextRules,
     server_at: Peer,
     minted: Vec<Minted>,
     clients: Vec<Placed<Client>>,
@@ -96,7 +96,7 @@ impl Model for Start {
       key = s.key;
       old_key = s.old_key;
       audience = s.audience;
-      revoked = s.revoked;
+      rules = s.rules;
       server_at = s.server_at;
       minted = s.minted.items;
       clients = s.clients.items;
@@ -107,7 +107,7 @@ impl Model for Start {
 }
 
 impl Start {
-    /// A world with these resources, and with no old key, no revocation path, no client and no proxy yet; takes no memory.
+    /// A world with these resources, and with no old key, no rules for contexts, no client and no proxy yet; takes no memory.
     pub fn new(
         alloc: Global,
         first: Tree,
@@ -116,7 +116,7 @@ impl Start {
         audience: Audience,
         server_at: Peer,
     ) -> Start
-        ensures { result ≡ record { first = first; open_scope = open_scope; key = key; old_key = None; audience = audience; revoked = None; server_at = server_at; minted = []; clients = []; proxies = [] } }
+        ensures { result ≡ record { first = first; open_scope = open_scope; key = key; old_key = None; audience = audience; rules = record { revoked = None; seconds = None; remembered = 0 }; server_at = server_at; minted = []; clients = []; proxies = [] } }
     {
         Start {
             first,
@@ -124,7 +124,7 @@ impl Start {
             key,
             old_key: None,
             audience,
-            revoked: None,
+            rules: ContextRules::none(),
             server_at,
             minted: Vec::new(alloc),
             clients: Vec::new(alloc),
@@ -139,11 +139,11 @@ impl Start {
         self.old_key = Some(key);
     }
 
-    /// From now on resources below this path revoke tokens, by the tokens' ids.
-    pub fn revoke_below(&mut self, path: Path)
-        ensures { self.new ≡ record self.old { revoked = Some path } }
+    /// From now on the server rules this for its contexts.
+    pub fn rule_contexts(&mut self, rules: ContextRules)
+        ensures { self.new ≡ record self.old { rules = rules } }
     {
-        self.revoked = Some(path);
+        self.rules = rules;
     }
 
     /// Whether a node stands there.
@@ -234,7 +234,7 @@ impl Start {
             key,
             old_key,
             audience,
-            revoked,
+            rules,
             server_at,
             minted,
             clients,
@@ -246,7 +246,7 @@ impl Start {
                 key,
                 old_key,
                 audience,
-                revoked,
+                rules,
             },
         );
         let server = Server::new(alloc, first.copy(alloc)?, desk, open_scope)?;
@@ -264,7 +264,7 @@ impl Start {
             key,
             old_key,
             audience,
-            revoked,
+            rules,
             server_at,
             minted,
             clients,
@@ -276,7 +276,7 @@ impl Start {
                 key,
                 old_key,
                 audience,
-                revoked,
+                rules,
             },
         );
         let server = Server::new(alloc, first, desk, open_scope)?;

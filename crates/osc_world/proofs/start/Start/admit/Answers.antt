@@ -33,7 +33,7 @@ returns-clause-enrolled g c =
     let number : c.len-number.result ≡ length s.clients.items = search rules in
     let is : IsEnrolled g.A.Ciphers.is_sealing s.key (length s.clients.items) c.args.holder minted placed =
     subst (λ n. IsEnrolled g.A.Ciphers.is_sealing s.key n c.args.holder minted placed) number c.in_ok-minted.ensures.enrolled in
-    enrols g.A.Ciphers.is_sealing c.args.self.now s.first s.open_scope s.key s.old_key s.audience s.revoked s.server_at s.minted.items c.push_reserved.new.self.items s.clients.items c.push_reserved-2.new.self.items
+    enrols g.A.Ciphers.is_sealing c.args.self.now s.first s.open_scope s.key s.old_key s.audience s.rules s.server_at s.minted.items c.push_reserved.new.self.items s.clients.items c.push_reserved-2.new.self.items
     s.proxies.items c.args.holder minted placed c.self.view_is is
     (c.push_reserved.ensures.items ∙ ap (λ xs. xs ++ minted ∷ []) c.reserve.ensures.items)
     (c.push_reserved-2.ensures.items ∙ ap (λ xs. xs ++ placed ∷ []) c.reserve-2.ensures.items)
