@@ -1,5 +1,6 @@
 -- A device whose token counts may post it.
-use Rattle.std.proofs.Common.{◌≡◌, ◌≢◌, ◌∙◌, ap, sym, subst, ℕ, List, [], length, drop, false, Option, Some, None, arith}
+use Rattle.std.proofs.Common.{◌≡◌, ◌≢◌, ◌∙◌, ap, sym, subst, ℕ, ◌<◌, List, [], ◌∷◌, length, drop, false, Option, Some, None, arith}
+use Rattle.std.specs.Prelude.{IfSome}
 use Rattle.std.proofs.lemmas.List.{length-drop, length-take}
 use Rattle.osc_client.specs.{Exchanges, PostFits, begun_by}
 use Rattle.osc_client.specs.State.{State as Client}
@@ -13,7 +14,7 @@ use Rattle.osc_message.specs.{own_id}
 use Rattle.osc_model.specs.declared.node.Draw.{Draw}
 use Rattle.osc_model.specs.declared.node.Moment.{Moment}
 use Rattle.osc_ccm.specs.{Sealings}
-use Rattle.osc_authz.specs.{IsFull, alive}
+use Rattle.osc_authz.specs.{IsFull, alive, known}
 use Rattle.osc_authz.specs.declared.token_entry.TokenEntry.{TokenEntry}
 use Rattle.osc_scope.specs.{Entry}
 use Rattle.osc_token.specs.declared.claims.Claims.{Claims}
@@ -21,10 +22,11 @@ use Rattle.osc_device.specs.{MayOpen, IsGranted, own_address}
 use Rattle.osc_device.specs.State.{State}
 
 pub may_open : (is_sealing : Sealings) (device : State) (now : Moment) (draw : Draw) (claims : Claims) (entries : List Entry)
-    → IsGranted is_sealing device claims entries → is_revoked device.server.desk.revoked device.server.tree claims.material.id ≡ false
+    → IsGranted is_sealing device claims entries → is_revoked device.server.desk.rules.revoked device.server.tree claims.material.id ≡ false
+    → IfSome device.server.desk.rules.seconds (λ seconds. 0 < seconds)
     → device.own.waiting ≡ None → device.server.desk.table ≡ [] → device.server.endpoint.seen ≡ []
     → MayOpen is_sealing device now draw claims entries
-may_open is_sealing device now draw claims entries granted unrevoked idle empty unheard = record {
+may_open is_sealing device now draw claims entries granted unrevoked lasting idle empty unheard = record {
   may_exchange = record {
     idle = idle;
     welcome = record {
@@ -35,6 +37,10 @@ may_open is_sealing device now draw claims entries granted unrevoked idle empty 
       not_over = λ seconds is. let none = sym granted.expires ∙ is in absurd cc;
       unrevoked = unrevoked;
       room = λ full. let none : IsFull claims.material.id (alive (standing_of device.server now) []) = subst (λ (table : List TokenEntry). IsFull claims.material.id (alive (standing_of device.server now) table)) empty full in absurd (omega (arith, none.many));
+    };
+    makes = record {
+      lasting = lasting;
+      unknown = ap (known claims.material.id (nonce_drawn draw) ((begun_by device.own draw).recipient_id ∷ [])) empty;
     };
   };
   unheard = ap (looked now own_address (own_id draw device.own.endpoint.next_id)) unheard;

@@ -38,6 +38,10 @@ own_holder parts own = record {
   iv = own.iv;
 }
 
+-- how many posts of each token id its server knows again
+abbrev pub remembered_posts : ℕ
+remembered_posts = 8
+
 -- the server alone
 abbrev pub server_alone : ServerParts → Beginning
 server_alone parts = record {
@@ -46,7 +50,7 @@ server_alone parts = record {
   key = parts.key;
   old_key = parts.old_key;
   audience = parts.audience;
-  revoked = parts.revoked;
+  rules = record { revoked = parts.revoked; seconds = parts.context_seconds; remembered = remembered_posts };
   server_at = server_address;
   minted = [];
   clients = [];

@@ -8,6 +8,7 @@ ghost use Rattle.osc_device.specs.Begun.{own_claims, own_holder as own_holder_of
 ghost use Rattle.osc_device.specs.declared.own_token.ServerParts.{ServerParts as AnyParts};
 
 use crate::own_token::{OwnToken, ServerParts};
+use osc_authz::ContextRules;
 use osc_ccm::Ciphers;
 use osc_client::{Client, Route};
 use osc_model::{Algorithm, Bytes, Peer};
@@ -28,6 +29,9 @@ pub(crate) const SERVER: Peer = Peer {
     port: 1,
 };
 
+/// How many posts of each token id the server knows again.
+const REMEMBERED: u8 = 8;
+
 /// The server alone, before the device is a client of it.
 pub(crate) fn server_alone(alloc: Global, parts: ServerParts) -> Start
     ensures { result ≡ server_alone_of parts }
@@ -39,14 +43,17 @@ pub(crate) fn server_alone(alloc: Global, parts: ServerParts) -> Start
         old_key,
         audience,
         revoked,
+        context_seconds,
     } = parts;
     let mut start = Start::new(alloc, tree, open_scope, key, audience, SERVER);
     if let Some(key) = old_key {
         start.keep_old_key(key);
     }
-    if let Some(path) = revoked {
-        start.revoke_below(path);
-    }
+    start.rule_contexts(ContextRules {
+        revoked,
+        seconds: context_seconds,
+        remembered: REMEMBERED,
+    });
     start
 }
 

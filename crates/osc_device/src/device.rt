@@ -353,16 +353,16 @@ impl Device {
         draw: &Draw,
         server_draw: &Draw,
     ) -> Result<Option<Round>, AllocError>
-        ensures asked { IfOk result (λ found. IfSome found (λ round. (path : List ℕ) × (revocation_of self.old.server.desk.revoked id.now ≡ Some path)
+        ensures asked { IfOk result (λ found. IfSome found (λ round. (path : List ℕ) × (revocation_of self.old.server.desk.rules.revoked id.now ≡ Some path)
             × AsksItsServer A.is_sealing A.TAG self.old
             (record { at = now; draw = draw.now; server_draw = server_draw.now; request = own_request_of Put path None [] }) round self.new
             × IsAnsweredWhereReady self.old (record { at = now; draw = draw.now; request = own_request_of Put path None [] }) round self.new)) }
-        ensures none { IfOk result (λ found. IfNone found ((revocation_of self.old.server.desk.revoked id.now ≡ None) × (self.new ≡ self.old))) }
+        ensures none { IfOk result (λ found. IfNone found ((revocation_of self.old.server.desk.rules.revoked id.now ≡ None) × (self.new ≡ self.old))) }
         ensures run { IfOk result (λ found. IfSome found (λ round. AllGoOn self.old (λ number. noted number round) self.new)) }
         ensures entry { IfOk result (λ found. IfSome found (λ round. IsOfAnEntry self.old round)) }
         ensures err { OnErr result (self.new ≡ self.old) }
         // Without a revocation path nothing takes memory.
-        ensures needs_memory { OnErr result (IsSome self.old.server.desk.revoked) }
+        ensures needs_memory { OnErr result (IsSome self.old.server.desk.rules.revoked) }
     {
         match self.server.desk().revocation_of(alloc, id)? {
             Some(path) => {
@@ -392,16 +392,16 @@ impl Device {
         draw: &Draw,
         server_draw: &Draw,
     ) -> Result<Option<Round>, AllocError>
-        ensures asked { IfOk result (λ found. IfSome found (λ round. (path : List ℕ) × (revocation_of self.old.server.desk.revoked id.now ≡ Some path)
+        ensures asked { IfOk result (λ found. IfSome found (λ round. (path : List ℕ) × (revocation_of self.old.server.desk.rules.revoked id.now ≡ Some path)
             × AsksItsServer A.is_sealing A.TAG self.old
             (record { at = now; draw = draw.now; server_draw = server_draw.now; request = own_request_of Delete path None [] }) round self.new
             × IsAnsweredWhereReady self.old (record { at = now; draw = draw.now; request = own_request_of Delete path None [] }) round self.new)) }
-        ensures none { IfOk result (λ found. IfNone found ((revocation_of self.old.server.desk.revoked id.now ≡ None) × (self.new ≡ self.old))) }
+        ensures none { IfOk result (λ found. IfNone found ((revocation_of self.old.server.desk.rules.revoked id.now ≡ None) × (self.new ≡ self.old))) }
         ensures run { IfOk result (λ found. IfSome found (λ round. AllGoOn self.old (λ number. noted number round) self.new)) }
         ensures entry { IfOk result (λ found. IfSome found (λ round. IsOfAnEntry self.old round)) }
         ensures err { OnErr result (self.new ≡ self.old) }
         // Without a revocation path nothing takes memory.
-        ensures needs_memory { OnErr result (IsSome self.old.server.desk.revoked) }
+        ensures needs_memory { OnErr result (IsSome self.old.server.desk.rules.revoked) }
     {
         match self.server.desk().revocation_of(alloc, id)? {
             Some(path) => {

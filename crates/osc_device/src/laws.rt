@@ -1,6 +1,6 @@
 //! Laws of the definitions. These functions do nothing: whoever calls one has its clauses for a proof.
 
-ghost use Rattle.std.specs.Prelude.{◌≡◌, ◌∷◌, ◌<◌, ◌^◌, [], false, List, None, length};
+ghost use Rattle.std.specs.Prelude.{◌≡◌, ◌∷◌, ◌<◌, ◌^◌, [], false, List, None, IfSome, length};
 ghost use Rattle.osc_model.specs.declared.node.Draw.{Draw as AnyDraw};
 ghost use Rattle.osc_model.specs.declared.node.Moment.{Moment as AnyMoment};
 ghost use Rattle.osc_model.specs.{is_revoked, quiet};
@@ -54,11 +54,12 @@ pub fn a_context_is_made<A: Ciphers>()
 }
 
 /// A device whose token counts, and isn't revoked, may post it once it waits for nothing, as where it begins and where it starts again: the
-/// server has no context there, and heard nothing.
+/// server has no context there, and heard nothing. Its contexts count for a while.
 pub fn a_granted_device_may_open<A: Ciphers>()
     ensures { (device : State) (now : AnyMoment) (draw : AnyDraw) (claims : AnyClaims) (entries : List Entry)
         → IsGranted A.is_sealing device claims entries
-        → is_revoked device.server.desk.revoked device.server.tree claims.material.id ≡ false
+        → is_revoked device.server.desk.rules.revoked device.server.tree claims.material.id ≡ false
+        → IfSome device.server.desk.rules.seconds (λ seconds. 0 < seconds)
         → device.own.waiting ≡ None → device.server.desk.table ≡ [] → device.server.endpoint.seen ≡ []
         → MayOpen A.is_sealing device now draw claims entries }
 {}

@@ -24,6 +24,9 @@ pub struct ServerParts {
     ///
     /// [`Device::revoke`]: crate::Device::revoke
     pub revoked: Option<Path>,
+    /// How many seconds after the post that made it a context counts no more: what was held back on its way for longer is refused. Without a
+    /// number a context counts as long as its token.
+    pub context_seconds: Option<u32>,
 }
 
 /// The device's own token, which no other has: it is minted under the server's key, for its audience, and counts at all times.
