@@ -1,7 +1,7 @@
 -- A document that is at fault stands for no settings.
 use Rattle.std.proofs.Common.{◌≡◌, ◌≢◌, ℕ, zero, suc, List, [], ◌∷◌, Option, Some, None, refl, inl, inr, sym, ◌∙◌, subst}
 use Rattle.toml.specs.Data.{Data, Items, Members, no_items, item, array, get_member}
-use Rattle.osc_settings.specs.{IsPortAt, ListedAt, MaySpellAt, SpelledAt, StandForEach, other_key, IsArrayAt, IsClientFault, IsFaultAt, IsFaultOfProxy, IsFirstFault, IsItemFault, IsKeyFault, IsOriginFault, IsOther, IsServerFault, IsTargetFault, IsTextAt, IsWrongAt, name_of, AreClientSettings, AreProxySettings, AreServerSettings, IsOrigin, IsPathText, IsTarget, IsTargetTable, client_keys, proxy_keys, server_keys, target_keys, IsAddress, IsHost, IsOpenAddress, IsRevocationPath, SpellsBytes, SpellsHex}
+use Rattle.osc_settings.specs.{IsPortAt, IsSecondsAt, ListedAt, MayBeSecondsAt, MaySpellAt, SpelledAt, StandForEach, other_key, IsArrayAt, IsClientFault, IsFaultAt, IsFaultOfProxy, IsFirstFault, IsItemFault, IsKeyFault, IsOriginFault, IsOther, IsServerFault, IsTargetFault, IsTextAt, IsWrongAt, name_of, AreClientSettings, AreProxySettings, AreServerSettings, IsOrigin, IsPathText, IsTarget, IsTargetTable, client_keys, proxy_keys, server_keys, target_keys, IsAddress, IsHost, IsOpenAddress, IsRevocationPath, SpellsBytes, SpellsHex}
 use Rattle.osc_settings.specs.declared.client.ClientSettings.{ClientSettings}
 use Rattle.osc_settings.specs.declared.error.KeyFault.{KeyFault}
 use Rattle.osc_settings.specs.declared.error.SettingsError.{SettingsError}
@@ -49,6 +49,10 @@ no_may : {X : Type 0} (key : SettingsKey) (Spells : List ℕ → X → Type 0) (
 no_may key Spells document fault None h a = some_there (get_member (name_of key) document) h.0 a
 no_may key Spells document fault (Some x) h a = h.1 x a
 
+no_seconds : (key : SettingsKey) (document : Members) (fault : KeyFault) (o : Option ℕ) → IsWrongAt key IsSecondsAt document fault → MayBeSecondsAt (name_of key) document o → ⊥
+no_seconds key document fault None h a = some_there (get_member (name_of key) document) h.0 a
+no_seconds key document fault (Some seconds) h a = h.1 seconds a
+
 server_fault : (document : Members) (fault : KeyFault) (s : ServerSettings) → IsServerFault document fault → AreServerSettings document s → ⊥
 server_fault document fault s h a = elim h [
   | inl other ↦ no_other server_keys document fault other a.keys
@@ -64,9 +68,12 @@ server_fault document fault s h a = elim h [
             | inl paths ↦ no_list key.Open IsPathText document fault s.open.items paths a.open_paths
             | inr listed ↦ elim listed.1 [
               | inl revoked ↦ no_may key.Revoked IsRevocationPath document fault s.revoked revoked a.revoked
-              | inr kept ↦ elim a.resources [
-                | inl there ↦ kept.1.1 s.resources.items there
-                | inr out ↦ some_there (get_member (name_of key.Resource) document) kept.1.0 out.0
+              | inr taken ↦ elim taken.1 [
+                | inl seconds ↦ no_seconds key.ContextSeconds document fault s.context_seconds seconds a.context_seconds
+                | inr kept ↦ elim a.resources [
+                  | inl there ↦ kept.1.1 s.resources.items there
+                  | inr out ↦ some_there (get_member (name_of key.Resource) document) kept.1.0 out.0
+                ]
               ]
             ]
           ]

@@ -4,7 +4,7 @@ use Rattle.std.specs.Option.{IsSomeAnd, is_some}
 use Rattle.toml.specs.Data.{Members, get_member}
 use Rattle.toml.specs.Parse.{parse_document}
 use Rattle.osc_model.specs.declared.node.Peer.{Peer}
-use Rattle.osc_settings.specs.{IsLeftOut, IsPortAt, MaySpellAt, SpelledAt, StandsFor, other_key, IsFaultAt, IsFaultOfProxy, IsKeyFault, IsOriginFault, IsProxyFault, IsWrongAt, Lacks, name_of, IsOriginPort, IsSalt, proxy_keys, IsAddress, IsHost, SpellsBytes}
+use Rattle.osc_settings.specs.{IsLeftOut, IsPortAt, IsSecondsAt, MayBeSecondsAt, MaySpellAt, SpelledAt, StandsFor, other_key, IsFaultAt, IsFaultOfProxy, IsKeyFault, IsOriginFault, IsProxyFault, IsWrongAt, Lacks, name_of, IsOriginPort, IsSalt, proxy_keys, IsAddress, IsHost, SpellsBytes}
 use Rattle.osc_settings.specs.Inner.Reading.{AreTargetsRefused, IsNoDocument}
 use Rattle.osc_settings.specs.declared.error.KeyFault.{KeyFault}
 use Rattle.osc_settings.specs.declared.error.SettingsError.{SettingsError}
@@ -49,6 +49,11 @@ pub may_found : {X : Type 0} (key : SettingsKey) (Spells : List ℕ → X → Ty
     → ((x : X) × SpelledAt (name_of key) Spells document x) ⊎ IsLeftOut (name_of key) document
 may_found key Spells document None h = inr h
 may_found key Spells document (Some x) h = inl (x, h)
+
+pub seconds_found : (key : SettingsKey) (document : Members) (o : Option ℕ) → MayBeSecondsAt (name_of key) document o
+    → ((seconds : ℕ) × IsSecondsAt (name_of key) document seconds) ⊎ IsLeftOut (name_of key) document
+seconds_found key document None h = inr h
+seconds_found key document (Some seconds) h = inl (seconds, h)
 
 -- ---- an origin
 

@@ -6,7 +6,7 @@ use Rattle.toml.specs.Data.{Data, Items, Members, no_members, member, no_items, 
 use Rattle.toml.specs.Parse.{parse_document}
 use Rattle.osc_model.specs.declared.algorithm.Algorithm.{Algorithm}
 use Rattle.osc_settings.specs.Keys.{name_of}
-use Rattle.osc_settings.specs.Values.{IsAlgorithm, IsPort}
+use Rattle.osc_settings.specs.Values.{IsAlgorithm, IsPort, IsSeconds}
 use Rattle.osc_settings.specs.declared.key.SettingsKey.{SettingsKey}
 
 -- the text is a document that stands for these settings
@@ -38,6 +38,15 @@ IsPortAt key document port = (number : ℤ) × (get_member key document ≡ Some
 -- an integer stands at the key, and is the number of an algorithm
 abbrev pub IsAlgorithmAt : List ℕ → Members → Algorithm → Type 0
 IsAlgorithmAt key document algorithm = (number : ℤ) × (get_member key document ≡ Some (integer number)) × IsAlgorithm number algorithm
+
+-- an integer stands at the key, and is a number of seconds
+abbrev pub IsSecondsAt : List ℕ → Members → ℕ → Type 0
+IsSecondsAt key document seconds = (number : ℤ) × (get_member key document ≡ Some (integer number)) × IsSeconds number seconds
+
+-- the same, where it may be left out
+abbrev pub MayBeSecondsAt : List ℕ → Members → Option ℕ → Type 0
+MayBeSecondsAt key document None = IsLeftOut key document
+MayBeSecondsAt key document (Some seconds) = IsSecondsAt key document seconds
 
 -- each item stands for one of these, in this order
 abbrev pub StandForEach : {X : Type 0} → (Data → X → Type 0) → Items → List X → Type 0

@@ -4,7 +4,7 @@ use Rattle.std.specs.Prelude.{◌≡◌, ◌⊎◌, ℕ, zero, suc, true, List, 
 use Rattle.toml.specs.Data.{Data, Items, Members, no_items, item, array, table, string, get_member}
 use Rattle.toml.specs.Parse.{parse_document}
 use Rattle.osc_model.specs.declared.node.Peer.{Peer}
-use Rattle.osc_settings.specs.Document.{other_key, IsLeftOut, SpelledAt, IsAlgorithmAt, IsPortAt, ListedAt}
+use Rattle.osc_settings.specs.Document.{other_key, IsLeftOut, SpelledAt, IsAlgorithmAt, IsPortAt, IsSecondsAt, ListedAt}
 use Rattle.osc_settings.specs.Keys.{name_of}
 use Rattle.osc_settings.specs.Settings.{server_keys, proxy_keys, target_keys, client_keys, AreResourcesAt, IsOrigin, IsPathText, IsTargetTable}
 use Rattle.osc_settings.specs.Values.{IsAddress, IsHost, IsOpenAddress, IsRevocationPath, SpellsHex, SpellsBytes}
@@ -60,7 +60,8 @@ IsServerFault document =
     (KeyThen key.Audience IsTextAt document
     (KeyThen key.Open (λ key. ListedAt key IsPathText) document
     (MayThen key.Revoked (λ key. SpelledAt key IsRevocationPath) document
-    (IsWrongAt key.Resource AreResourcesAt document)))))))
+    (MayThen key.ContextSeconds IsSecondsAt document
+    (IsWrongAt key.Resource AreResourcesAt document))))))))
 
 -- ---- of a proxy
 

@@ -1,13 +1,14 @@
 -- The keys of settings: their names, and what should stand at each, in words.
 use Rattle.std.specs.Prelude.{ℕ, List, codes}
 use Rattle.osc_settings.specs.declared.key.SettingsKey.{SettingsKey}
-use Rattle.osc_settings.specs.declared.key.SettingsKey.TheVariants.{Alg, Audience, Bind, Context, Format, Hex, Host, Key, OldKey, Open, Path, Peer, Port, Resource, Revoked, Salt, Secret, Target, Text, To, Token}
+use Rattle.osc_settings.specs.declared.key.SettingsKey.TheVariants.{Alg, Audience, Bind, Context, ContextSeconds, Format, Hex, Host, Key, OldKey, Open, Path, Peer, Port, Resource, Revoked, Salt, Secret, Target, Text, To, Token}
 
 abbrev pub name_of : SettingsKey → List ℕ
 name_of Alg = codes "alg"
 name_of Audience = codes "audience"
 name_of Bind = codes "bind"
 name_of Context = codes "context"
+name_of ContextSeconds = codes "context_seconds"
 name_of Format = codes "format"
 name_of Hex = codes "hex"
 name_of Host = codes "host"
@@ -31,6 +32,7 @@ form_of Alg = codes "the number 10 or 30"
 form_of Audience = codes "a text"
 form_of Bind = codes "a text of an address and a port, as 127.0.0.1:5683"
 form_of Context = codes "a text of at most 64 bytes in hexadecimal"
+form_of ContextSeconds = codes "a whole number of seconds, 1 to 4294967295"
 form_of Format = codes "a number from 0 to 65535"
 form_of Hex = codes "a text of bytes in hexadecimal"
 form_of Host = codes "a text of 1 to 255 bytes"

@@ -4,7 +4,7 @@ use Rattle.toml.specs.Data.{Data, Members, string, integer, table, get_member}
 use Rattle.osc_model.specs.{IsPath, longest_payload, most_resources}
 use Rattle.osc_model.specs.declared.algorithm.Algorithm.{Algorithm}
 use Rattle.osc_model.specs.declared.algorithm.Algorithm.TheVariants.{EightByteTag}
-use Rattle.osc_settings.specs.Document.{other_key, IsLeftOut, SpelledAt, MaySpellAt, IsAlgorithmAt, IsPortAt, ListedAt}
+use Rattle.osc_settings.specs.Document.{other_key, IsLeftOut, SpelledAt, MaySpellAt, IsAlgorithmAt, IsPortAt, MayBeSecondsAt, ListedAt}
 use Rattle.osc_settings.specs.Values.{IsAddress, IsHost, IsOpenAddress, IsRevocationPath, SpellsHex, SpellsBytes}
 use Rattle.osc_settings.specs.declared.client.ClientSettings.{ClientSettings}
 use Rattle.osc_settings.specs.declared.key.SettingsKey.{SettingsKey}
@@ -17,7 +17,7 @@ use Rattle.osc_settings.specs.declared.server.ServerSettings.{ServerSettings}
 -- ---- of a server
 
 abbrev pub server_keys : List SettingsKey
-server_keys = key.Audience ∷ key.Bind ∷ key.Key ∷ key.OldKey ∷ key.Open ∷ key.Resource ∷ key.Revoked ∷ []
+server_keys = key.Audience ∷ key.Bind ∷ key.ContextSeconds ∷ key.Key ∷ key.OldKey ∷ key.Open ∷ key.Resource ∷ key.Revoked ∷ []
 
 abbrev pub resource_keys : List SettingsKey
 resource_keys = key.Format ∷ key.Hex ∷ key.Path ∷ key.Text ∷ []
@@ -69,6 +69,7 @@ pub record AreServerSettings (document : Members) (settings : ServerSettings) : 
   pub audience : get_member (codes "audience") document ≡ Some (string settings.audience)
   pub open_paths : ListedAt (codes "open") IsPathText document settings.open.items
   pub revoked : MaySpellAt (codes "revoked") IsRevocationPath document settings.revoked
+  pub context_seconds : MayBeSecondsAt (codes "context_seconds") document settings.context_seconds
   pub resources : AreResources document settings.resources.items
 
 -- ---- of a proxy

@@ -49,6 +49,10 @@ IsRevocationPath text path = (path ≡ text) × IsPath path × (length (segments
 abbrev pub IsPort : ℤ → ℕ → Type 0
 IsPort number port = (number ≡ pos port) × IsPortNumber port
 
+-- an integer that is a number of seconds: 1 to 4294967295
+abbrev pub IsSeconds : ℤ → ℕ → Type 0
+IsSeconds number seconds = (number ≡ pos seconds) × (1 ≤ seconds) × (seconds ≤ 4294967295)
+
 -- an integer that is the number of an algorithm (RFC 9053 section 4.2)
 abbrev pub IsAlgorithm : ℤ → Algorithm → Type 0
 IsAlgorithm number algorithm = number ≡ pos (algorithm_number algorithm)

@@ -7,7 +7,7 @@ ghost use Rattle.toml.specs.Data.{as_array, as_integer, get_member};
 ghost use Rattle.toml.specs.Parse.{parse_document};
 ghost use Rattle.toml.specs.View.{items_view, table_view, view};
 ghost use Rattle.osc_settings.specs.Document as spec;
-ghost use Rattle.osc_settings.specs.Document.{IsAlgorithmAt, IsPortAt, SpelledAt};
+ghost use Rattle.osc_settings.specs.Document.{IsAlgorithmAt, IsPortAt, IsSecondsAt, SpelledAt};
 ghost use Rattle.osc_settings.specs.Faults.{IsFaultAt, IsKeyFault, IsOther};
 ghost use Rattle.osc_settings.specs.Keys.{name_of};
 ghost use Rattle.osc_settings.specs.Inner.Reading as reading;
@@ -228,6 +228,16 @@ pub(crate) fn port_at(key: SettingsKey, table: &Table) -> Result<u16, SettingsEr
 {
     match integer_at(key, table) {
         Some(number) => read_at(key, values::port(number)),
+        None => Err(untyped_at(key, table)),
+    }
+}
+
+/// The seconds at a key.
+pub(crate) fn seconds_at(key: SettingsKey, table: &Table) -> Result<u32, SettingsError>
+    ensures { MatchResult result (IsSecondsAt (name_of key) (table_view table.now)) (IsKeyFault (IsFaultAt key IsSecondsAt (table_view table.now))) }
+{
+    match integer_at(key, table) {
+        Some(number) => read_at(key, values::seconds(number)),
         None => Err(untyped_at(key, table)),
     }
 }

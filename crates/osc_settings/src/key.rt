@@ -9,6 +9,7 @@ pub enum SettingsKey {
     Audience,
     Bind,
     Context,
+    ContextSeconds,
     Format,
     Hex,
     Host,
@@ -38,6 +39,7 @@ impl SettingsKey {
             SettingsKey::Audience => "audience",
             SettingsKey::Bind => "bind",
             SettingsKey::Context => "context",
+            SettingsKey::ContextSeconds => "context_seconds",
             SettingsKey::Format => "format",
             SettingsKey::Hex => "hex",
             SettingsKey::Host => "host",
@@ -71,6 +73,7 @@ impl SettingsKey {
             SettingsKey::Context | SettingsKey::Salt => {
                 "a text of at most 64 bytes in hexadecimal"
             }
+            SettingsKey::ContextSeconds => "a whole number of seconds, 1 to 4294967295",
             SettingsKey::Format => "a number from 0 to 65535",
             SettingsKey::Host => "a text of 1 to 255 bytes",
             SettingsKey::Key | SettingsKey::OldKey => "a text of 16 bytes in hexadecimal",

@@ -1,7 +1,7 @@
 //! Settings of a server.
 ghost use Rattle.std.specs.Prelude.{◌≢◌, IfErr, IfOk, MatchResult, codes};
 ghost use Rattle.toml.specs.View.{items_view, table_view, view};
-ghost use Rattle.osc_settings.specs.Document.{ListedAt, MaySpellAt, SpelledAt, StandForEach, StandsFor};
+ghost use Rattle.osc_settings.specs.Document.{IsSecondsAt, ListedAt, MayBeSecondsAt, MaySpellAt, SpelledAt, StandForEach, StandsFor};
 ghost use Rattle.osc_settings.specs.Faults.{IsFaultAt, IsKeyFault, IsServerFault, IsTextAt, IsWrongAt, Lacks};
 ghost use Rattle.osc_settings.specs.Inner.Reading.{AllListedAt, IsRefusal, StandForAll};
 ghost use Rattle.osc_settings.specs.Settings.{AreServerSettings, IsPathText};
@@ -10,8 +10,8 @@ ghost use Rattle.osc_settings.specs.declared.key.SettingsKey.TheVariants as AnyK
 ghost use Rattle.osc_settings.specs.declared.server.ServerSettings.{ServerSettings as AnySettings};
 
 use crate::document::{
-    address_at, array_at, document, has, items_at, only, read_at, revocation_path_at, text_at,
-    untyped_at,
+    address_at, array_at, document, has, items_at, only, read_at, revocation_path_at, seconds_at,
+    text_at, untyped_at,
 };
 use crate::error::{SettingsError, ValueError};
 use crate::key::SettingsKey;
@@ -24,9 +24,10 @@ use std::fmt;
 use toml::{Table, Value};
 
 /// The keys of its settings.
-const KEYS: [SettingsKey; 7] = [
+const KEYS: [SettingsKey; 8] = [
     SettingsKey::Audience,
     SettingsKey::Bind,
+    SettingsKey::ContextSeconds,
     SettingsKey::Key,
     SettingsKey::OldKey,
     SettingsKey::Open,
@@ -51,6 +52,9 @@ pub struct ServerSettings {
     pub resources: Vec<ResourceSetting>,
     /// The path below which resources revoke tokens, by the tokens' ids: `revoked`, a text of at most 4 segments. It may be left out.
     pub revoked: Option<Path>,
+    /// How many seconds after the post that made it a security context counts no more: `context_seconds`, from 1 to 4294967295. Left out: as
+    /// long as its token does.
+    pub context_seconds: Option<u32>,
 }
 
 // The key isn't printed.
@@ -61,12 +65,12 @@ impl fmt::Debug for ServerSettings {
 }
 
 /// Reads the settings of a server: a document with the keys `bind`, `key`, `audience` and `open`, if need be with `old_key`,
-/// `revoked` and `resource`, and with no other. A resource has the keys `path`, and `text` or `hex`, if need be `format`, and no other.
+/// `revoked`, `context_seconds` and `resource`, and with no other. A resource has the keys `path`, and `text` or `hex`, if need be `format`, and no other.
 ///
 /// # Errors
 ///
-/// The first fault where the text is no such document, `bind` before `key`, `old_key`, `audience`, `open`, `revoked` and
-/// `resource`, and `Memory` for want of memory.
+/// The first fault where the text is no such document, `bind` before `key`, `old_key`, `audience`, `open`, `revoked`,
+/// `context_seconds` and `resource`, and `Memory` for want of memory.
 pub fn read_server_settings(alloc: Global, text: &str) -> Result<ServerSettings, SettingsError>
     ensures read { IfOk result (StandsFor AreServerSettings text.now) }
     ensures lacks { IfErr result (Lacks (λ document. IsKeyFault (IsServerFault document)) text.now) }
@@ -87,6 +91,7 @@ fn settings_in(alloc: Global, table: &Table) -> Result<ServerSettings, SettingsE
         audience: audience(alloc, table)?,
         open: open_paths(alloc, table)?,
         revoked: revoked(alloc, table)?,
+        context_seconds: context_seconds(table)?,
         resources: resources(alloc, table)?,
     })
 }
@@ -132,6 +137,18 @@ fn revoked(alloc: Global, table: &Table) -> Result<Option<Path>, SettingsError>
 {
     if has(SettingsKey::Revoked, table) {
         Ok(Some(revocation_path_at(alloc, SettingsKey::Revoked, table)?))
+    } else {
+        Ok(None)
+    }
+}
+
+fn context_seconds(table: &Table) -> Result<Option<u32>, SettingsError>
+    ensures { MatchResult result
+        (MayBeSecondsAt (codes "context_seconds") (table_view table.now))
+        (IsKeyFault (IsWrongAt AnyKey.ContextSeconds IsSecondsAt (table_view table.now))) }
+{
+    if has(SettingsKey::ContextSeconds, table) {
+        Ok(Some(seconds_at(SettingsKey::ContextSeconds, table)?))
     } else {
         Ok(None)
     }

@@ -3,7 +3,7 @@ ghost use Rattle.std.specs.Prelude.{◌≡◌, ◌==◌, ◌↔◌, length, IfOk
 ghost use Rattle.std.specs.Net.Grammar.{IsSocketV4Text};
 ghost use Rattle.std.specs.Net.Text.{socket_v4_text};
 ghost use Rattle.osc_settings.specs.Inner.Reading.{IsRefusal, SpellsPath};
-ghost use Rattle.osc_settings.specs.Values.{IsAddressFrom, IsAlgorithm, IsHost, IsPort, IsRevocationPath, SpellsBytes, SpellsHex};
+ghost use Rattle.osc_settings.specs.Values.{IsAddressFrom, IsAlgorithm, IsHost, IsPort, IsRevocationPath, IsSeconds, SpellsBytes, SpellsHex};
 
 use crate::error::ValueError;
 use hex::{FromHex, FromHexError};
@@ -132,6 +132,17 @@ pub(crate) fn port(number: i64) -> Result<u16, ValueError>
 {
     if 1 <= number && number <= 65535 {
         Ok(number as u16)
+    } else {
+        Err(ValueError::Bad)
+    }
+}
+
+/// The seconds of a number.
+pub(crate) fn seconds(number: i64) -> Result<u32, ValueError>
+    ensures { MatchResult result (IsSeconds number) (IsRefusal (IsSeconds number)) }
+{
+    if 1 <= number && number <= 4294967295 {
+        Ok(number as u32)
     } else {
         Err(ValueError::Bad)
     }

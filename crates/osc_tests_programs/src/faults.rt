@@ -28,7 +28,7 @@ fn is_told(rt: &HostRuntime, run: &(Ended, Vec<u8>), why: &str) -> Result<bool, 
 }
 
 /// Settings of a server, before which `key` stands, and the first fault.
-const SERVERS: [(&str, &str); 9] = [
+const SERVERS: [(&str, &str); 11] = [
     (
         "",
         "key bind is missing, and should be a text of an address and a port, as 127.0.0.1:5683",
@@ -55,6 +55,14 @@ const SERVERS: [(&str, &str); 9] = [
     (
         "bind = '127.0.0.1:1'\naudience = 's'\nopen = ['e']",
         "key open should be an array of paths, as ['/e', '/log']",
+    ),
+    (
+        "bind = '127.0.0.1:1'\naudience = 's'\nopen = []\ncontext_seconds = 0\nrevoked = 'r'\nresource = 1",
+        "key revoked should be a path of at most 4 segments, as '/revoked'",
+    ),
+    (
+        "bind = '127.0.0.1:1'\naudience = 's'\nopen = []\ncontext_seconds = '60'\nresource = 1",
+        "key context_seconds should be a whole number of seconds, 1 to 4294967295",
     ),
     ("bind = ", "the text is no TOML"),
 ];

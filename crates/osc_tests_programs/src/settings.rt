@@ -178,6 +178,37 @@ fn bad_keys(rt: HostRuntime) -> Result<(), Fail> {
     Ok(())
 }
 
+const SECONDS: [(&str, Option<u32>); 3] = [
+    ("", None),
+    ("context_seconds = 1", Some(1)),
+    ("context_seconds = 4294967295", Some(4294967295)),
+];
+
+const NO_SECONDS: [&str; 9] = [
+    "context_seconds = 0",
+    "context_seconds = -1",
+    "context_seconds = 4294967296",
+    "context_seconds = '60'",
+    "context_seconds = 60.0",
+    "context_seconds = true",
+    "context_seconds = [60]",
+    "context_seconds = 60\ncontext_seconds = 60",
+    "contextseconds = 60",
+];
+
+#[test]
+fn the_seconds_of_contexts(rt: HostRuntime) -> Result<(), Fail> {
+    for &(line, seconds) in &SECONDS {
+        let text = format!(in rt.alloc(); "{SERVER}{line}")?;
+        let settings = read_server_settings(rt.alloc(), text.as_str())?;
+        assert!(rt; settings.context_seconds == seconds, "{line}");
+    }
+    for &line in &NO_SECONDS {
+        assert!(rt; is_bad_for_a_server(rt.alloc(), SERVER, line)?, "{line}");
+    }
+    Ok(())
+}
+
 const BIND_AND_KEY: &str = "bind = '127.0.0.1:1'\nkey = '000102030405060708090a0b0c0d0e0f'\n";
 
 const OTHER_LINES: [&str; 12] = [
