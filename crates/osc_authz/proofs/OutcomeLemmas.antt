@@ -44,12 +44,11 @@ module _ (before : DeskState) (offer : Offer) where
   agrees_once claims scope one other after afters p q =
       let id = least_once _ one.recipient_id other.recipient_id p.free q.free in
       let nonce : one.nonce2 ≡ other.nonce2 = p.drawn ∙ sym q.drawn in
-      let same : one ≡ other = ap₂ made_of nonce id in
-      (
+      let same : one ≡ other = ap₂ made_of nonce id in (
         same,
         p.added
-        ∙ ap (λ m. let d : DeskState = record before { table = with_pending claims.material.id (new_context before.rules offer.on.at claims scope (agreed_post offer m)) (remembering before.rules.remembered (agreed_post offer m)) (alive offer.on before.table) } in d) same
-        ∙ sym q.added,
+            ∙ ap (λ m. let d : DeskState = record before { table = with_pending claims.material.id (new_context before.rules offer.on.at claims scope (agreed_post offer m)) (remembering before.rules.remembered (agreed_post offer m)) (alive offer.on before.table) } in d) same
+            ∙ sym q.added,
       )
 
   -- ---- what is answered to claims

@@ -64,7 +64,7 @@ pub record Agrees (before : DeskState) (offer : Offer) (claims : Claims) (scope 
   pub drawn : answer.nonce2 ≡ nonce_drawn offer.draw
   pub added : after ≡ record before {
     table = with_pending claims.material.id (new_context before.rules offer.on.at claims scope (agreed_post offer answer))
-        (remembering before.rules.remembered (agreed_post offer answer)) (alive offer.on before.table)
+        (remembering before.rules.remembered (agreed_post offer answer)) (alive offer.on before.table);
   }
 
 -- what is known of the post

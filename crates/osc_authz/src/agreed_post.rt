@@ -23,7 +23,11 @@ pub struct AgreedPost {
 
 impl AgreedPost {
     /// The post with these fields, and its answer.
-    fn new(alloc: Global, fields: &PostFields<'_>, answer: PostAnswer) -> Result<AgreedPost, AllocError>
+    fn new(
+        alloc: Global,
+        fields: &PostFields<'_>,
+        answer: PostAnswer,
+    ) -> Result<AgreedPost, AllocError>
         ensures { IfOk result (λ post. post ≡ record { nonce1 = fields.now.nonce1.now; client_id = fields.now.client_id.now; answer = answer }) }
     {
         Ok(AgreedPost {
@@ -73,7 +77,10 @@ impl AgreedPosts {
     pub fn answer(&self, nonce1: &[u8], client_id: &[u8]) -> Option<PostAnswer>
         ensures { result ≡ option_map (λ post. post.answer) (find (offers nonce1.now client_id.now) self.now) }
     {
-        let post = self.posts.iter().find(|post| post.offers(nonce1, client_id))?;
+        let post = self
+            .posts
+            .iter()
+            .find(|post| post.offers(nonce1, client_id))?;
         Some(post.answer)
     }
 }
@@ -87,7 +94,12 @@ pub(crate) struct PostRoom {
 
 impl PostRoom {
     /// The post with these fields and this answer, in room for so many; takes no memory where that is 0.
-    pub fn new(alloc: Global, most: u8, fields: &PostFields<'_>, answer: PostAnswer) -> Result<PostRoom, AllocError>
+    pub fn new(
+        alloc: Global,
+        most: u8,
+        fields: &PostFields<'_>,
+        answer: PostAnswer,
+    ) -> Result<PostRoom, AllocError>
         ensures most { IfOk result (λ room. room.most ≡ most) }
         ensures post { IfOk result (λ room. room.posts.items ≡ take most (record { nonce1 = fields.now.nonce1.now; client_id = fields.now.client_id.now; answer = answer } ∷ [])) }
         ensures room { IfOk result IsRoom }

@@ -127,10 +127,16 @@ pub(crate) fn free_id(table: &[TokenEntry], on: &Standing<'_>, token: &[u8], cli
 }
 
 /// What the post of this token id with these fields was answered, if it is known.
-pub(crate) fn known(table: &[TokenEntry], token: &[u8], fields: &PostFields<'_>) -> Option<PostAnswer>
+pub(crate) fn known(
+    table: &[TokenEntry],
+    token: &[u8],
+    fields: &PostFields<'_>,
+) -> Option<PostAnswer>
     ensures { result ≡ known_of token.now fields.now.nonce1.now fields.now.client_id.now table.now }
 {
-    entry_of(table, token)?.posts.answer(fields.nonce1, fields.client_id)
+    entry_of(table, token)?
+        .posts
+        .answer(fields.nonce1, fields.client_id)
 }
 
 /// The contexts and posts of a token id.

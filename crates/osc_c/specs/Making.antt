@@ -31,7 +31,7 @@ IsOpenScope text scope =
 abbrev pub AreParts : List ℕ → List ℕ → List ℕ → ServerParts → Type 0
 AreParts key audience free parts =
     (parts.tree ≡ map.empty) × IsOpenScope free parts.open_scope × (parts.key ≡ key) × (parts.old_key ≡ None) × (parts.audience ≡ audience)
-    × (parts.revoked ≡ None)
+    × (parts.revoked ≡ None) × (parts.context_seconds ≡ None)
 
 -- the device's own token: its secret are the first 16 bytes of the draw, and its IV the 13 behind them
 abbrev pub IsOwnToken : List ℕ → List ℕ → OwnToken → Type 0

@@ -35,6 +35,7 @@ fn parts(alloc: Global) -> Result<ServerParts, Fault> {
         old_key: None,
         audience: Audience::new(alloc, AUDIENCE)?,
         revoked: None,
+        context_seconds: None,
     })
 }
 

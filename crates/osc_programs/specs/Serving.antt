@@ -28,12 +28,16 @@ with_resource tree resource = map.insert tree resource.path (record { format = r
 abbrev pub tree_of : List ResourceSetting → Tree
 tree_of resources = fold with_resource map.empty resources
 
+-- how many posts of each token id it knows again
+abbrev pub remembered_posts : ℕ
+remembered_posts = 8
+
 -- the server of these settings, which did nothing yet: it has their resources and no contexts, and a GET of the open paths needs no protection
 pub record IsServerOf (settings : ServerSettings) (server : Server) : Type 0 where
   pub key : server.desk.key ≡ settings.key
   pub old_key : server.desk.old_key ≡ settings.old_key
   pub audience : server.desk.audience ≡ settings.audience
-  pub revoked : server.desk.revoked ≡ settings.revoked
+  pub rules : server.desk.rules ≡ record { revoked = settings.revoked; seconds = settings.context_seconds; remembered = remembered_posts }
   pub contexts : server.desk.table ≡ []
   pub open_paths : server.open_scope ≡ set.from_list (map (λ path. exactly path Get) settings.open.items)
   pub tree : server.tree ≡ tree_of settings.resources.items

@@ -20,7 +20,7 @@ use crate::reading::{proxy_settings, server_settings};
 use crate::supply::supply_of;
 use crate::turns::take_turns;
 use crate::udp::UdpPort;
-use osc_authz::{DeskParts, ServerDesk};
+use osc_authz::{ContextRules, DeskParts, ServerDesk};
 use osc_ccm::Suite;
 use osc_model::laws::permissions_are_ordered;
 use osc_model::{ClientResult, Datagrams, Method, Path, Peer, Resource};
@@ -113,6 +113,9 @@ fn forward_by<R: Clock + Eprint + Net + RandomSource, L: Log>(
     }
 }
 
+// How many posts of each token id a server knows again.
+const REMEMBERED: u8 = 8;
+
 // A server with these resources, and without contexts.
 fn server_of(alloc: Global, settings: ServerSettings) -> Result<Server, Ended>
     ensures server { IfOk result (λ server. spec.IsServerOf settings server) }
@@ -134,6 +137,7 @@ fn server_with(alloc: Global, settings: ServerSettings, tree: Tree) -> Result<Se
         old_key,
         audience,
         revoked,
+        context_seconds,
         open,
         ..
     } = settings;
@@ -143,7 +147,11 @@ fn server_with(alloc: Global, settings: ServerSettings, tree: Tree) -> Result<Se
             key,
             old_key,
             audience,
-            revoked,
+            rules: ContextRules {
+                revoked,
+                seconds: context_seconds,
+                remembered: REMEMBERED,
+            },
         },
     );
     let open_scope = open_scope(alloc, &open)?;

@@ -145,11 +145,11 @@ known_step v w earlier (OfProxy i notes p is) k =
     (stays v earlier v.server v.clients (by_proxy i notes) (ap (λ (r : StepNotes). r.served) p.noted) (λ c m. m) refl k)
 known_step v w earlier (Skipped i old new at p is) k =
     subst (λ (u : WorldState). Known (u ∷ v ∷ earlier) u) (sym is) (
-      let u : WorldState = record v { clients = slice_set v.clients i new } in
-      record {
-        held = λ c m. still_made u v earlier v.server.rules c.held (k.held c m);
-        young = λ seconds entry known m. still_young u v earlier seconds entry (k.young seconds entry known m);
-      })
+    let u : WorldState = record v { clients = slice_set v.clients i new } in
+    record {
+      held = λ c m. still_made u v earlier v.server.rules c.held (k.held c m);
+      young = λ seconds entry known m. still_young u v earlier seconds entry (k.young seconds entry known m);
+    })
 
 known_start : (w : WorldState) → IsStart w → Known (w ∷ []) w
 known_start w p = record {

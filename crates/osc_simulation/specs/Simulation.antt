@@ -124,7 +124,7 @@ first_start lines = record {
   key = token_key;
   old_key = None;
   audience = codes "s";
-  revoked = revocation_in lines;
+  rules = record { revoked = revocation_in lines; seconds = None; remembered = 0 };
   server_at = address_of Server;
   minted = [];
   clients = [];

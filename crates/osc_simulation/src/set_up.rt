@@ -10,6 +10,7 @@ ghost use Rattle.osc_simulation.specs.Simulation as spec;
 ghost use Rattle.osc_simulation.specs.SetUp.{CanPut, CanPutAll};
 
 use crate::names::Names;
+use osc_authz::ContextRules;
 use osc_ccm::Suite;
 use osc_client::{Origin, Route};
 use osc_model::{Bytes, Method, Path};
@@ -131,14 +132,15 @@ fn revocation_path(lines: &[Line]) -> Result<Option<Path>, AllocError>
     Ok(None)
 }
 
-// A start that has no revocation path yet, with this one, if there is one.
+// The start, with this revocation path, if there is one. In scripts a context counts as long as its token, and each post is new.
 fn with_revoked(mut start: Start, revoked: Option<Path>) -> Start
-    requires { start.revoked ≡ None }
-    ensures { result ≡ record start { revoked = revoked } }
+    ensures { result ≡ record start { rules = record { revoked = revoked; seconds = None; remembered = 0 } } }
 {
-    if let Some(path) = revoked {
-        start.revoke_below(path);
-    }
+    start.rule_contexts(ContextRules {
+        revoked,
+        seconds: None,
+        remembered: 0,
+    });
     start
 }
 

@@ -1,6 +1,7 @@
 //! Exchanges, and what the desk refuses.
 use osc_authz::{
-    ClientContext, ClientDesk, GrantError, Post, PostAnswer, PostError, ServerDesk, Standing,
+    ClientContext, ClientDesk, ContextRules, DeskParts, GrantError, Post, PostAnswer, PostError,
+    PostReply, ServerDesk, Standing,
 };
 use osc_cbor::{Item, write};
 use osc_ccm::Ccm;
@@ -100,8 +101,13 @@ fn client_of(rt: &impl Abort, alloc: Global, id: u8, said: Said) -> ClientDesk {
 
 /// A post of the token of this id.
 fn post_of(rt: &impl Abort, alloc: Global, id: u8, said: Said) -> Vec<u8> {
+    post_with(rt, alloc, id, said, 1)
+}
+
+/// The same with a nonce that ends in this byte.
+fn post_with(rt: &impl Abort, alloc: Global, id: u8, said: Said, nonce: u8) -> Vec<u8> {
     let client = client_of(rt, alloc, id, said);
-    let exchange = client.start(None, &drawn(1));
+    let exchange = client.start(None, &drawn(nonce));
     let mut body = Vec::new(alloc);
     client
         .write_post(alloc, &exchange, &mut body)
@@ -121,7 +127,7 @@ type Outcome = (Result<u8, u8>, bool);
 /// What this post came to.
 fn outcome_of(post: &Post) -> Outcome {
     let answer = match post.answer {
-        Ok(answer) => Ok(answer.recipient_id),
+        Ok(reply) => Ok(reply.answer().recipient_id),
         Err(error) => Err(error.number()),
     };
     (answer, post.opened.is_some())
@@ -196,7 +202,7 @@ fn answered(rt: &impl Abort, alloc: Global, desk: &mut ServerDesk) -> PostAnswer
     drop(tree);
     let answer = post.answer;
     drop(post);
-    answer.expect(rt, "an answer")
+    answer.expect(rt, "an answer").answer()
 }
 
 #[test]
@@ -578,4 +584,126 @@ fn a_refused_allocation_leaves_the_desk(rt: HostRuntime) {
         assert!(rt; posted(&mut desk, alloc, 0, POST).ok() == Some((Ok(1), true)));
     }
     assert!(rt; is_found(&desk, rt.alloc(), 0, 1));
+}
+
+/// A desk with these rules.
+fn desk_with(
+    alloc: Global,
+    seconds: Option<u32>,
+    remembered: u8,
+) -> Result<ServerDesk, AllocError> {
+    let rules = ContextRules {
+        revoked: None,
+        seconds,
+        remembered,
+    };
+    let parts = DeskParts {
+        key: KEY,
+        old_key: None,
+        audience: Audience::new(alloc, "s")?,
+        rules,
+    };
+    Ok(ServerDesk::of(alloc, parts))
+}
+
+/// What the posts of token 1 with these nonces come to, one after another, each with a draw of its own.
+fn posted_in_turn<const N: usize>(
+    rt: &impl Abort,
+    alloc: Global,
+    remembered: u8,
+    nonces: &[u8; N],
+) -> [Result<u8, u8>; N] {
+    let mut desk = desk_with(alloc, None, remembered).expect(rt, "memory");
+    let mut came = [Err(0); N];
+    let mut at = 0;
+    while at < N {
+        let body = post_with(rt, alloc, 1, RIGHT, nonces[at]);
+        let (answer, _) = posted_with(&mut desk, alloc, 0, body.as_slice(), 100 + at as u8).expect(
+            rt, "memory",
+        );
+        drop(body);
+        came[at] = answer;
+        at += 1;
+    }
+    drop(desk);
+    came
+}
+
+#[test]
+fn a_known_post_is_answered_as_before(rt: HostRuntime) {
+    let mut desk = desk_with(rt.alloc(), None, 8).expect(&rt, "memory");
+    let first = answered(&rt, rt.alloc(), &mut desk);
+    let tree = Tree::new(rt.alloc());
+    let on = Standing {
+        at: Moment::START,
+        tree: &tree,
+    };
+    let again = desk
+        .post::<Ccm<8>>(rt.alloc(), &on, POST, &drawn(3))
+        .expect(&rt, "memory");
+    drop(on);
+    drop(tree);
+    let reply = again.answer;
+    let is_opened = again.opened.is_some();
+    drop(again);
+    let is_there = is_found(&desk, rt.alloc(), 0, 1);
+    drop(desk);
+    assert!(&rt; reply == Ok(PostReply::Known(first)));
+    assert!(&rt; is_opened);
+    assert!(&rt; is_there);
+}
+
+#[test]
+fn a_post_is_new_where_none_is_remembered(rt: HostRuntime) {
+    let mut desk = desk_with(rt.alloc(), None, 0).expect(&rt, "memory");
+    let first = answered(&rt, rt.alloc(), &mut desk);
+    let tree = Tree::new(rt.alloc());
+    let on = Standing {
+        at: Moment::START,
+        tree: &tree,
+    };
+    let again = desk
+        .post::<Ccm<8>>(rt.alloc(), &on, POST, &drawn(3))
+        .expect(&rt, "memory");
+    drop(on);
+    drop(tree);
+    drop(desk);
+    let reply = again.answer;
+    drop(again);
+    let second = match reply {
+        Ok(PostReply::New(answer)) => answer,
+        _ => panic!(&rt; "it made no context"),
+    };
+    assert!(&rt; second.nonce2 != first.nonce2);
+}
+
+/// A post that is known changes nothing: it is answered as before where its context is held, and refused by 23 where another post took the place. Of
+/// three, two are known.
+#[test]
+fn the_newest_posts_are_known(rt: HostRuntime) {
+    let came = posted_in_turn(&rt, rt.alloc(), 2, &[1, 2, 3, 3, 2, 1, 3, 1]);
+    assert!(&rt; came == [Ok(1), Ok(1), Ok(1), Ok(1), Err(23), Ok(1), Err(23), Ok(1)]);
+    let all_new = posted_in_turn(&rt, rt.alloc(), 0, &[1, 2, 3, 3, 2, 1, 3, 1]);
+    assert!(&rt; all_new == [Ok(1); 8]);
+}
+
+/// A context counts until so many seconds after its post, and a post that is known is refused after that.
+#[test]
+fn contexts_get_too_old(rt: HostRuntime) {
+    let mut desk = desk_with(rt.alloc(), Some(5), 8).expect(&rt, "memory");
+    let made = posted(&mut desk, rt.alloc(), 1999, POST).expect(&rt, "memory");
+    let last = is_found(&desk, rt.alloc(), 5999, 1);
+    let late = is_found(&desk, rt.alloc(), 6000, 1);
+    let known = posted(&mut desk, rt.alloc(), 5999, POST).expect(&rt, "memory");
+    let gone = posted(&mut desk, rt.alloc(), 6000, POST).expect(&rt, "memory");
+    let body = post_with(&rt, rt.alloc(), 1, RIGHT, 2);
+    let anew = posted(&mut desk, rt.alloc(), 6000, body.as_slice()).expect(&rt, "memory");
+    drop(body);
+    drop(desk);
+    assert!(&rt; made == (Ok(1), true));
+    assert!(&rt; last);
+    assert!(&rt; !late);
+    assert!(&rt; known == (Ok(1), true));
+    assert!(&rt; gone == (Err(23), true));
+    assert!(&rt; anew == (Ok(1), true));
 }

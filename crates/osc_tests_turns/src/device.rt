@@ -27,6 +27,7 @@ fn parts(alloc: Global) -> Result<ServerParts, AllocError> {
         old_key: None,
         audience: Audience::new(alloc, "s")?,
         revoked: None,
+        context_seconds: None,
     })
 }
 

@@ -51,6 +51,7 @@ fn parts(alloc: Global, key: &PlainKey, name: &[u8], free: &[u8]) -> Result<Serv
         old_key: None,
         audience: audience(alloc, name)?,
         revoked: None,
+        context_seconds: None,
     })
 }
 

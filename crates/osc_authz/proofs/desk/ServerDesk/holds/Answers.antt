@@ -12,8 +12,7 @@ returns-then-eq c =
     ∙ sym c.get.ensures
     ∙ ap (option_map (λ context. context.now)) c.in-Some.is
     in
-    let named : c.eq.result ≡ same_name c.in-Some.context.now.name c.args.name.now = c.eq.ensures ∙ ap (λ (held : SecurityContext). same_name held.name c.args.name.now) c.context.view_is in
-    (
+    let named : c.eq.result ≡ same_name c.in-Some.context.now.name c.args.name.now = c.eq.ensures ∙ ap (λ (held : SecurityContext). same_name held.name c.args.name.now) c.context.view_is in (
       λ live. still_held c.args.on.now c.args.name.now c.args.self.now.table c.in-Some.context.now c.eq.result c.is_live.result found named c.if-eq.true c.is_live.ensures live,
       λ is. c.is_live.ensures ∙ (held_so c.args.on.now c.args.name.now c.args.self.now.table c.in-Some.context.now found is).1,
     )
