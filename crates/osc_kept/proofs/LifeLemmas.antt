@@ -18,12 +18,12 @@ noted_of old cut = by cut.sent refl cut.either
 pub starts_over : (old : WorldState) (cut : Cut old.server) → (new : WorldState) × (over : StartsOver old new) × (over.cut ≡ cut)
 starts_over old cut = (_, record { cut = cut; noted = (noted_of old.server cut).0; notes = (noted_of old.server cut).1; is = refl }, refl)
 
--- the revocation path stays
-revoked_stays : (old new : ServerState) (now : Moment) (notes : StepNotes) → ServerStep old now notes new → new.revoked ≡ old.revoked
-revoked_stays old new now notes (ServerIdle is) = is.revoked
-revoked_stays old new now notes (Posted is) = is.revoked
-revoked_stays old new now notes (Served is) = is.revoked
-revoked_stays old new now notes (ServerRestarted is) = ap (λ (s : ServerState). s.revoked) is.is
+-- the rules of contexts stay
+rules_stay : (old new : ServerState) (now : Moment) (notes : StepNotes) → ServerStep old now notes new → new.rules ≡ old.rules
+rules_stay old new now notes (ServerIdle is) = is.rules
+rules_stay old new now notes (Posted is) = is.rules
+rules_stay old new now notes (Served is) = is.rules
+rules_stay old new now notes (ServerRestarted is) = ap (λ (s : ServerState). s.rules) is.is
 
 -- from one world of a run to another
 abbrev over_from : (v : WorldState) → Cut v.server → List Noted → WorldState
@@ -39,10 +39,10 @@ reached_over v w cut _ (Notes.unheard none before) is reached = (
 )
 reached_over v w cut _ (Notes.counted after) is reached =
     let between : WorldState = record v { server = cut.new; notes = by_server cut.step.notes ∷ v.notes } in
-    let stays : v.server.revoked ≡ cut.new.revoked = sym (revoked_stays v.server cut.new cut.now cut.step.notes cut.kind) in (
+    let stays : v.server.rules ≡ cut.new.rules = sym (rules_stay v.server cut.new cut.now cut.step.notes cut.kind) in (
       between ∷ (v ∷ reached.0),
       (
-        OfServer cut.now _ quiet (ServerRestarted (record { noted = refl; is = λ i. record { contexts = []; tree = after i; revoked = stays i } })) is,
+        OfServer cut.now _ quiet (ServerRestarted (record { noted = refl; is = λ i. record { contexts = []; tree = after i; rules = stays i } })) is,
         (OfServer cut.now cut.new cut.step.notes cut.kind refl, reached.1),
       ),
     )
