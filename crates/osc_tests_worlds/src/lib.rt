@@ -22,6 +22,8 @@ mod ready;
 #[cfg(test)]
 mod refused;
 #[cfg(test)]
+mod revoked;
+#[cfg(test)]
 mod through;
 #[cfg(test)]
 mod trees;
