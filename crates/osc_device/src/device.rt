@@ -23,6 +23,7 @@ ghost use Rattle.osc_device.specs.Runs.{AllGoOn, IsOfAnEntry, noted, restarts};
 ghost use Rattle.osc_device.specs.State.{server_address};
 
 use crate::beginning::{OWN, SERVER, enrolled, fits, nodes_of, own_holder, server_alone};
+use crate::draws::OwnDraws;
 use crate::error::NewError;
 use crate::laws::{
     a_context_is_made, a_request_is_answered, runs_go_on, runs_go_on_alone,
@@ -32,7 +33,7 @@ use crate::own_token::{OwnToken, ServerParts};
 use crate::round::Round;
 use osc_ccm::Ciphers;
 use osc_client::Client;
-use osc_model::{Bytes, Draw, ETags, Method, Moment, Path, Peer, Request, Step};
+use osc_model::{Bytes, Draw, ETags, Method, Moment, Path, Peer, Request, Resource, Step};
 use osc_server::Server;
 use osc_world::Placed;
 use osc_world::laws::where_a_world_begins;
@@ -70,17 +71,22 @@ impl Model for Device {
     ghost invariant = { λ d. (d.own.node.origin ≡ None) × (d.own.node.next_hop ≡ server_address) × PostFits d.own.node };
 }
 
-/// A request of this method on this path, with a payload, its format, and no other option.
-fn own_request(
-    alloc: Global,
-    method: Method,
-    path: Path,
-    format: Option<u16>,
-    payload: Bytes,
-) -> Request
-    ensures request { result ≡ own_request_of method path format payload }
+/// No bytes, without a format.
+fn nothing(alloc: Global) -> Resource
+    ensures { result ≡ record { format = None; payload = [] } }
+{
+    Resource {
+        format: None,
+        payload: Bytes::new(alloc),
+    }
+}
+
+/// A request of this method on this path, with this payload and its format, and no other option.
+fn own_request(alloc: Global, method: Method, path: Path, resource: Resource) -> Request
+    ensures request { result ≡ own_request_of method path resource.format resource.payload }
     ensures code { 0 < result.code.0 }
 {
+    let Resource { format, payload } = resource;
     Request {
         code: method.code(),
         path: Some(path),
@@ -225,26 +231,25 @@ impl Device {
         alloc: Global,
         now: Moment,
         request: &Request,
-        draw: &Draw,
-        server_draw: &Draw,
+        draws: OwnDraws<'_>,
     ) -> Result<Round, AllocError>
         requires { 0 < request.now.code.0 }
         ensures asked { IfOk result (λ round. AsksItsServer A.is_sealing A.TAG self.old
-            (record { at = now; draw = draw.now; server_draw = server_draw.now; request = request.now }) round self.new) }
-        ensures answered { IfOk result (λ round. IsAnsweredWhereReady self.old (record { at = now; draw = draw.now; request = request.now }) round self.new) }
+            (record { at = now; draw = draws.own.now; server_draw = draws.server.now; request = request.now }) round self.new) }
+        ensures answered { IfOk result (λ round. IsAnsweredWhereReady self.old (record { at = now; draw = draws.own.now; request = request.now }) round self.new) }
         ensures run { IfOk result (λ round. AllGoOn self.old (λ number. noted number round) self.new) }
         ensures entry { IfOk result (λ round. IsOfAnEntry self.old round) }
         ensures err { OnErr result (self.new ≡ self.old) }
         // What hinders a request is told without memory.
-        ensures needs_memory { OnErr result ((context : ClientContextState) × IsFree A.is_sealing A.TAG self.old.own request.now draw.now context) }
+        ensures needs_memory { OnErr result ((context : ClientContextState) × IsFree A.is_sealing A.TAG self.old.own request.now draws.own.now context) }
     {
         a_request_is_answered::<A>();
         runs_go_on::<A>();
         runs_keep_their_promises::<A>();
         is_lawful(&self.server);
-        let begun = self.own.node.ask::<A>(alloc, now, request, draw)?;
+        let begun = self.own.node.ask::<A>(alloc, now, request, draws.own)?;
         self.own.node.has_lawful_parts();
-        Ok(self.carry::<A>(alloc, now, begun, server_draw))
+        Ok(self.carry::<A>(alloc, now, begun, draws.server))
     }
 
     /// Puts this value at the path, as [`Device::ask`] does: 2.01 where nothing was there, 2.04 where something was.
@@ -253,22 +258,20 @@ impl Device {
         alloc: Global,
         now: Moment,
         path: Path,
-        format: Option<u16>,
-        payload: Bytes,
-        draw: &Draw,
-        server_draw: &Draw,
+        resource: Resource,
+        draws: OwnDraws<'_>,
     ) -> Result<Round, AllocError>
         ensures asked { IfOk result (λ round. AsksItsServer A.is_sealing A.TAG self.old
-            (record { at = now; draw = draw.now; server_draw = server_draw.now; request = own_request_of Put path format payload }) round self.new) }
-        ensures answered { IfOk result (λ round. IsAnsweredWhereReady self.old (record { at = now; draw = draw.now; request = own_request_of Put path format payload }) round self.new) }
+            (record { at = now; draw = draws.own.now; server_draw = draws.server.now; request = own_request_of Put path resource.format resource.payload }) round self.new) }
+        ensures answered { IfOk result (λ round. IsAnsweredWhereReady self.old (record { at = now; draw = draws.own.now; request = own_request_of Put path resource.format resource.payload }) round self.new) }
         ensures run { IfOk result (λ round. AllGoOn self.old (λ number. noted number round) self.new) }
         ensures entry { IfOk result (λ round. IsOfAnEntry self.old round) }
         ensures err { OnErr result (self.new ≡ self.old) }
         // What hinders a request is told without memory.
-        ensures needs_memory { OnErr result ((context : ClientContextState) × IsFree A.is_sealing A.TAG self.old.own (own_request_of Put path format payload) draw.now context) }
+        ensures needs_memory { OnErr result ((context : ClientContextState) × IsFree A.is_sealing A.TAG self.old.own (own_request_of Put path resource.format resource.payload) draws.own.now context) }
     {
-        let request = own_request(alloc, Method::Put, path, format, payload);
-        self.ask::<A>(alloc, now, &request, draw, server_draw)
+        let request = own_request(alloc, Method::Put, path, resource);
+        self.ask::<A>(alloc, now, &request, draws)
     }
 
     /// Appends this to the value at the path, or makes it anew.
@@ -277,22 +280,20 @@ impl Device {
         alloc: Global,
         now: Moment,
         path: Path,
-        format: Option<u16>,
-        payload: Bytes,
-        draw: &Draw,
-        server_draw: &Draw,
+        resource: Resource,
+        draws: OwnDraws<'_>,
     ) -> Result<Round, AllocError>
         ensures asked { IfOk result (λ round. AsksItsServer A.is_sealing A.TAG self.old
-            (record { at = now; draw = draw.now; server_draw = server_draw.now; request = own_request_of Post path format payload }) round self.new) }
-        ensures answered { IfOk result (λ round. IsAnsweredWhereReady self.old (record { at = now; draw = draw.now; request = own_request_of Post path format payload }) round self.new) }
+            (record { at = now; draw = draws.own.now; server_draw = draws.server.now; request = own_request_of Post path resource.format resource.payload }) round self.new) }
+        ensures answered { IfOk result (λ round. IsAnsweredWhereReady self.old (record { at = now; draw = draws.own.now; request = own_request_of Post path resource.format resource.payload }) round self.new) }
         ensures run { IfOk result (λ round. AllGoOn self.old (λ number. noted number round) self.new) }
         ensures entry { IfOk result (λ round. IsOfAnEntry self.old round) }
         ensures err { OnErr result (self.new ≡ self.old) }
         // What hinders a request is told without memory.
-        ensures needs_memory { OnErr result ((context : ClientContextState) × IsFree A.is_sealing A.TAG self.old.own (own_request_of Post path format payload) draw.now context) }
+        ensures needs_memory { OnErr result ((context : ClientContextState) × IsFree A.is_sealing A.TAG self.old.own (own_request_of Post path resource.format resource.payload) draws.own.now context) }
     {
-        let request = own_request(alloc, Method::Post, path, format, payload);
-        self.ask::<A>(alloc, now, &request, draw, server_draw)
+        let request = own_request(alloc, Method::Post, path, resource);
+        self.ask::<A>(alloc, now, &request, draws)
     }
 
     /// Removes what is at the path.
@@ -301,20 +302,19 @@ impl Device {
         alloc: Global,
         now: Moment,
         path: Path,
-        draw: &Draw,
-        server_draw: &Draw,
+        draws: OwnDraws<'_>,
     ) -> Result<Round, AllocError>
         ensures asked { IfOk result (λ round. AsksItsServer A.is_sealing A.TAG self.old
-            (record { at = now; draw = draw.now; server_draw = server_draw.now; request = own_request_of Delete path None [] }) round self.new) }
-        ensures answered { IfOk result (λ round. IsAnsweredWhereReady self.old (record { at = now; draw = draw.now; request = own_request_of Delete path None [] }) round self.new) }
+            (record { at = now; draw = draws.own.now; server_draw = draws.server.now; request = own_request_of Delete path None [] }) round self.new) }
+        ensures answered { IfOk result (λ round. IsAnsweredWhereReady self.old (record { at = now; draw = draws.own.now; request = own_request_of Delete path None [] }) round self.new) }
         ensures run { IfOk result (λ round. AllGoOn self.old (λ number. noted number round) self.new) }
         ensures entry { IfOk result (λ round. IsOfAnEntry self.old round) }
         ensures err { OnErr result (self.new ≡ self.old) }
         // What hinders a request is told without memory.
-        ensures needs_memory { OnErr result ((context : ClientContextState) × IsFree A.is_sealing A.TAG self.old.own (own_request_of Delete path None []) draw.now context) }
+        ensures needs_memory { OnErr result ((context : ClientContextState) × IsFree A.is_sealing A.TAG self.old.own (own_request_of Delete path None []) draws.own.now context) }
     {
-        let request = own_request(alloc, Method::Delete, path, None, Bytes::new(alloc));
-        self.ask::<A>(alloc, now, &request, draw, server_draw)
+        let request = own_request(alloc, Method::Delete, path, nothing(alloc));
+        self.ask::<A>(alloc, now, &request, draws)
     }
 
     /// Reads the value at the path.
@@ -323,20 +323,19 @@ impl Device {
         alloc: Global,
         now: Moment,
         path: Path,
-        draw: &Draw,
-        server_draw: &Draw,
+        draws: OwnDraws<'_>,
     ) -> Result<Round, AllocError>
         ensures asked { IfOk result (λ round. AsksItsServer A.is_sealing A.TAG self.old
-            (record { at = now; draw = draw.now; server_draw = server_draw.now; request = own_request_of Get path None [] }) round self.new) }
-        ensures answered { IfOk result (λ round. IsAnsweredWhereReady self.old (record { at = now; draw = draw.now; request = own_request_of Get path None [] }) round self.new) }
+            (record { at = now; draw = draws.own.now; server_draw = draws.server.now; request = own_request_of Get path None [] }) round self.new) }
+        ensures answered { IfOk result (λ round. IsAnsweredWhereReady self.old (record { at = now; draw = draws.own.now; request = own_request_of Get path None [] }) round self.new) }
         ensures run { IfOk result (λ round. AllGoOn self.old (λ number. noted number round) self.new) }
         ensures entry { IfOk result (λ round. IsOfAnEntry self.old round) }
         ensures err { OnErr result (self.new ≡ self.old) }
         // What hinders a request is told without memory.
-        ensures needs_memory { OnErr result ((context : ClientContextState) × IsFree A.is_sealing A.TAG self.old.own (own_request_of Get path None []) draw.now context) }
+        ensures needs_memory { OnErr result ((context : ClientContextState) × IsFree A.is_sealing A.TAG self.old.own (own_request_of Get path None []) draws.own.now context) }
     {
-        let request = own_request(alloc, Method::Get, path, None, Bytes::new(alloc));
-        self.ask::<A>(alloc, now, &request, draw, server_draw)
+        let request = own_request(alloc, Method::Get, path, nothing(alloc));
+        self.ask::<A>(alloc, now, &request, draws)
     }
 
     /// Revokes the tokens of this id: puts an empty value at the path that stands for it, as [`Device::put`] does. From then on no token of
@@ -350,13 +349,12 @@ impl Device {
         alloc: Global,
         now: Moment,
         id: &[u8],
-        draw: &Draw,
-        server_draw: &Draw,
+        draws: OwnDraws<'_>,
     ) -> Result<Option<Round>, AllocError>
         ensures asked { IfOk result (λ found. IfSome found (λ round. (path : List ℕ) × (revocation_of self.old.server.desk.rules.revoked id.now ≡ Some path)
             × AsksItsServer A.is_sealing A.TAG self.old
-            (record { at = now; draw = draw.now; server_draw = server_draw.now; request = own_request_of Put path None [] }) round self.new
-            × IsAnsweredWhereReady self.old (record { at = now; draw = draw.now; request = own_request_of Put path None [] }) round self.new)) }
+            (record { at = now; draw = draws.own.now; server_draw = draws.server.now; request = own_request_of Put path None [] }) round self.new
+            × IsAnsweredWhereReady self.old (record { at = now; draw = draws.own.now; request = own_request_of Put path None [] }) round self.new)) }
         ensures none { IfOk result (λ found. IfNone found ((revocation_of self.old.server.desk.rules.revoked id.now ≡ None) × (self.new ≡ self.old))) }
         ensures run { IfOk result (λ found. IfSome found (λ round. AllGoOn self.old (λ number. noted number round) self.new)) }
         ensures entry { IfOk result (λ found. IfSome found (λ round. IsOfAnEntry self.old round)) }
@@ -366,15 +364,7 @@ impl Device {
     {
         match self.server.desk().revocation_of(alloc, id)? {
             Some(path) => {
-                let round = self.put::<A>(
-                    alloc,
-                    now,
-                    path,
-                    None,
-                    Bytes::new(alloc),
-                    draw,
-                    server_draw,
-                )?;
+                let round = self.put::<A>(alloc, now, path, nothing(alloc), draws)?;
                 Ok(Some(round))
             }
             None => Ok(None),
@@ -389,13 +379,12 @@ impl Device {
         alloc: Global,
         now: Moment,
         id: &[u8],
-        draw: &Draw,
-        server_draw: &Draw,
+        draws: OwnDraws<'_>,
     ) -> Result<Option<Round>, AllocError>
         ensures asked { IfOk result (λ found. IfSome found (λ round. (path : List ℕ) × (revocation_of self.old.server.desk.rules.revoked id.now ≡ Some path)
             × AsksItsServer A.is_sealing A.TAG self.old
-            (record { at = now; draw = draw.now; server_draw = server_draw.now; request = own_request_of Delete path None [] }) round self.new
-            × IsAnsweredWhereReady self.old (record { at = now; draw = draw.now; request = own_request_of Delete path None [] }) round self.new)) }
+            (record { at = now; draw = draws.own.now; server_draw = draws.server.now; request = own_request_of Delete path None [] }) round self.new
+            × IsAnsweredWhereReady self.old (record { at = now; draw = draws.own.now; request = own_request_of Delete path None [] }) round self.new)) }
         ensures none { IfOk result (λ found. IfNone found ((revocation_of self.old.server.desk.rules.revoked id.now ≡ None) × (self.new ≡ self.old))) }
         ensures run { IfOk result (λ found. IfSome found (λ round. AllGoOn self.old (λ number. noted number round) self.new)) }
         ensures entry { IfOk result (λ found. IfSome found (λ round. IsOfAnEntry self.old round)) }
@@ -405,7 +394,7 @@ impl Device {
     {
         match self.server.desk().revocation_of(alloc, id)? {
             Some(path) => {
-                let round = self.remove::<A>(alloc, now, path, draw, server_draw)?;
+                let round = self.remove::<A>(alloc, now, path, draws)?;
                 Ok(Some(round))
             }
             None => Ok(None),
@@ -418,15 +407,14 @@ impl Device {
         &mut self,
         alloc: Global,
         now: Moment,
-        draw: &Draw,
-        server_draw: &Draw,
+        draws: OwnDraws<'_>,
     ) -> Result<Round, AllocError>
-        ensures begun { IfOk result (λ round. (begun : Own) × Begins self.old.own now draw.now round.begun begun
+        ensures begun { IfOk result (λ round. (begun : Own) × Begins self.old.own now draws.own.now round.begun begun
             × ClientStep false (own_core self.old.own) round.begun.notes (own_core begun)
-            × Carries A.is_sealing (record self.old { own = begun }) now server_draw.now round self.new) }
+            × Carries A.is_sealing (record self.old { own = begun }) now draws.server.now round self.new) }
         // Where it may, and no step wants memory.
         ensures made { IfOk result (λ round. (claims : AnyClaims) (entries : List Entry)
-            → MayOpen A.is_sealing self.old now draw.now claims entries → IsWhole round → IsOpen now entries self.new) }
+            → MayOpen A.is_sealing self.old now draws.own.now claims entries → IsWhole round → IsOpen now entries self.new) }
         // Its post is never too long for a datagram.
         ensures fits { IfOk result (λ round. round.begun.notes.result ≢ Some (result_of.Refused refusal.datagram_too_long)) }
         ensures run { IfOk result (λ round. AllGoOn self.old (λ number. noted number round) self.new) }
@@ -436,11 +424,11 @@ impl Device {
     {
         a_context_is_made::<A>();
         runs_go_on::<A>();
-        is_drawn(server_draw);
-        is_drawn(draw);
-        let begun = self.own.node.exchange(alloc, now, draw)?;
+        is_drawn(draws.server);
+        is_drawn(draws.own);
+        let begun = self.own.node.exchange(alloc, now, draws.own)?;
         self.own.node.has_lawful_parts();
-        Ok(self.carry::<A>(alloc, now, begun, server_draw))
+        Ok(self.carry::<A>(alloc, now, begun, draws.server))
     }
 
     /// Hands what was sent to the server, and what that answers to the device.

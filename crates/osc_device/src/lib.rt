@@ -5,6 +5,7 @@
 
 mod beginning;
 mod device;
+mod draws;
 mod error;
 pub mod laws;
 mod own_token;
@@ -12,6 +13,7 @@ mod round;
 mod words;
 
 pub use device::Device;
+pub use draws::OwnDraws;
 pub use error::NewError;
 pub use own_token::{OwnToken, ServerParts};
 pub use round::Round;

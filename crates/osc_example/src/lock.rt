@@ -8,8 +8,8 @@ use crate::wire::sent;
 use crate::wish::{Wish, heard};
 use crate::words::{Dotted, Shown};
 use osc_ccm::Suite;
-use osc_device::{Device, OwnToken, Round, ServerParts};
-use osc_model::{Bytes, ClientResult, Code, Moment, Peer};
+use osc_device::{Device, OwnDraws, OwnToken, Round, ServerParts};
+use osc_model::{Bytes, ClientResult, Code, Moment, Peer, Resource};
 use osc_scope::Scope;
 use osc_token::Audience;
 use osc_tree::Tree;
@@ -115,8 +115,12 @@ impl Lock {
         now: Moment,
         bolt: Bolt,
     ) -> Result<(), Fault> {
-        let (draw, server_draw) = (self.draws.draw(), self.draws.draw());
-        let round = self.device.open::<Suite>(alloc, now, &draw, &server_draw)?;
+        let (own, server) = (self.draws.draw(), self.draws.draw());
+        let draws = OwnDraws {
+            own: &own,
+            server: &server,
+        };
+        let round = self.device.open::<Suite>(alloc, now, draws)?;
         let outcome = if is_made(round) {
             "a context"
         } else {
@@ -208,10 +212,16 @@ impl Lock {
         text: &[u8],
     ) -> Result<(), Fault> {
         let (path, payload) = (place.path(alloc)?, Bytes::from_slice(alloc, text)?);
-        let (draw, server_draw) = (self.draws.draw(), self.draws.draw());
-        let round = self
-            .device
-            .put::<Suite>(alloc, now, path, None, payload, &draw, &server_draw)?;
+        let resource = Resource {
+            format: None,
+            payload,
+        };
+        let (own, server) = (self.draws.draw(), self.draws.draw());
+        let draws = OwnDraws {
+            own: &own,
+            server: &server,
+        };
+        let round = self.device.put::<Suite>(alloc, now, path, resource, draws)?;
         Ok(tell_own(rt, "PUT", place, text, answered(round))?)
     }
 
@@ -224,10 +234,18 @@ impl Lock {
         text: &[u8],
     ) -> Result<(), Fault> {
         let (path, payload) = (Place::Log.path(alloc)?, Bytes::from_slice(alloc, text)?);
-        let (draw, server_draw) = (self.draws.draw(), self.draws.draw());
+        let resource = Resource {
+            format: None,
+            payload,
+        };
+        let (own, server) = (self.draws.draw(), self.draws.draw());
+        let draws = OwnDraws {
+            own: &own,
+            server: &server,
+        };
         let round = self
             .device
-            .append::<Suite>(alloc, now, path, None, payload, &draw, &server_draw)?;
+            .append::<Suite>(alloc, now, path, resource, draws)?;
         let code = answered(round);
         tell_own(rt, "POST", Place::Log, text, code)?;
         if code == Some(Code::REQUEST_ENTITY_TOO_LARGE) {

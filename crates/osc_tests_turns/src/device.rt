@@ -2,9 +2,9 @@
 ghost use Rattle.std.specs.Prelude.{◌<◌};
 
 use osc_ccm::Suite;
-use osc_device::{Device, NewError, OwnToken, Round, ServerParts};
+use osc_device::{Device, NewError, OwnDraws, OwnToken, Round, ServerParts};
 use osc_fixtures::{CLIENT, GET, KEY, POST, PUT, at, drawn, request, sent_in};
-use osc_model::{Bytes, ClientResult, Path};
+use osc_model::{Bytes, ClientResult, Path, Resource};
 use osc_scope::Scope;
 use osc_token::Audience;
 use osc_tree::Tree;
@@ -55,8 +55,12 @@ fn learnt(round: &Round) -> Option<&ClientResult> {
 
 /// Whether the device has posted its token, and has a context.
 fn opens(alloc: Global, device: &mut Device, number: u8) -> bool {
-    let other = drawn(number.wrapping_add(100));
-    match device.open::<Suite>(alloc, at(0), &drawn(number), &other) {
+    let (own, server) = (drawn(number), drawn(number.wrapping_add(100)));
+    let draws = OwnDraws {
+        own: &own,
+        server: &server,
+    };
+    match device.open::<Suite>(alloc, at(0), draws) {
         Ok(round) => {
             let made = learnt(&round) == Some(&ClientResult::Made);
             drop(round);
@@ -80,8 +84,12 @@ fn asks(alloc: Global, device: &mut Device, number: u8, code: u8, payload: &'sta
     let Ok(request) = request(alloc, b"/log", code, payload) else {
         return 0;
     };
-    let other = drawn(number.wrapping_add(100));
-    let round = device.ask::<Suite>(alloc, at(0), &request, &drawn(number), &other);
+    let (own, server) = (drawn(number), drawn(number.wrapping_add(100)));
+    let draws = OwnDraws {
+        own: &own,
+        server: &server,
+    };
+    let round = device.ask::<Suite>(alloc, at(0), &request, draws);
     drop(request);
     match round {
         Ok(round) => {
@@ -191,39 +199,51 @@ fn log(rt: &impl Abort, alloc: Global) -> Path {
 fn puts(rt: &impl Abort, alloc: Global, device: &mut Device, number: u8, bytes: &[u8]) -> u8 {
     let payload = Bytes::from_slice(alloc, bytes).expect(rt, "memory");
     let path = log(rt, alloc);
-    code_of(device.put::<Suite>(
-        alloc,
-        at(0),
-        path,
-        None,
+    let resource = Resource {
+        format: None,
         payload,
-        &drawn(number),
-        &drawn(100),
-    ))
+    };
+    let (own, server) = (drawn(number), drawn(100));
+    let draws = OwnDraws {
+        own: &own,
+        server: &server,
+    };
+    code_of(device.put::<Suite>(alloc, at(0), path, resource, draws))
 }
 
 fn appends(rt: &impl Abort, alloc: Global, device: &mut Device, number: u8, bytes: &[u8]) -> u8 {
     let payload = Bytes::from_slice(alloc, bytes).expect(rt, "memory");
     let path = log(rt, alloc);
-    code_of(device.append::<Suite>(
-        alloc,
-        at(0),
-        path,
-        None,
+    let resource = Resource {
+        format: None,
         payload,
-        &drawn(number),
-        &drawn(100),
-    ))
+    };
+    let (own, server) = (drawn(number), drawn(100));
+    let draws = OwnDraws {
+        own: &own,
+        server: &server,
+    };
+    code_of(device.append::<Suite>(alloc, at(0), path, resource, draws))
 }
 
 fn reads(rt: &impl Abort, alloc: Global, device: &mut Device, number: u8) -> u8 {
     let path = log(rt, alloc);
-    code_of(device.read::<Suite>(alloc, at(0), path, &drawn(number), &drawn(100)))
+    let (own, server) = (drawn(number), drawn(100));
+    let draws = OwnDraws {
+        own: &own,
+        server: &server,
+    };
+    code_of(device.read::<Suite>(alloc, at(0), path, draws))
 }
 
 fn removes(rt: &impl Abort, alloc: Global, device: &mut Device, number: u8) -> u8 {
     let path = log(rt, alloc);
-    code_of(device.remove::<Suite>(alloc, at(0), path, &drawn(number), &drawn(100)))
+    let (own, server) = (drawn(number), drawn(100));
+    let draws = OwnDraws {
+        own: &own,
+        server: &server,
+    };
+    code_of(device.remove::<Suite>(alloc, at(0), path, draws))
 }
 
 fn writes(rt: &impl Abort, alloc: Global, device: &mut Device) {

@@ -1,0 +1,12 @@
+//! What a device draws for a request of its own.
+
+use osc_model::Draw;
+
+/// The draws of a device for a request of its own, which is a step of its client and one of its server.
+#[derive(Clone, Copy, Debug)]
+pub struct OwnDraws<'a> {
+    /// For its client.
+    pub own: &'a Draw,
+    /// For its server.
+    pub server: &'a Draw,
+}
