@@ -606,28 +606,37 @@ fn desk_with(
     Ok(ServerDesk::of(alloc, parts))
 }
 
-/// What the posts of token 1 with these nonces come to, one after another, each with a draw of its own.
-fn posted_in_turn<const N: usize>(
-    rt: &impl Abort,
-    alloc: Global,
-    remembered: u8,
-    nonces: &[u8; N],
-) -> [Result<u8, u8>; N] {
+/// A post of token 1: how its nonce ends, and what it comes to.
+type Turn = (u8, Result<u8, u8>);
+
+/// These posts come to that, one after another at a desk that remembers so many, each with a draw of its own.
+fn are_posted(rt: &impl Abort, alloc: Global, remembered: u8, turns: &[Turn]) {
     let mut desk = desk_with(alloc, None, remembered).expect(rt, "memory");
-    let mut came = [Err(0); N];
-    let mut at = 0;
-    while at < N {
-        let body = post_with(rt, alloc, 1, RIGHT, nonces[at]);
-        let (answer, _) = posted_with(&mut desk, alloc, 0, body.as_slice(), 100 + at as u8).expect(
-            rt, "memory",
-        );
+    let mut draw = 100u8;
+    for &(nonce, wanted) in turns {
+        let body = post_with(rt, alloc, 1, RIGHT, nonce);
+        let came = posted_with(&mut desk, alloc, 0, body.as_slice(), draw).expect(rt, "memory");
         drop(body);
-        came[at] = answer;
-        at += 1;
+        assert!(rt; came == (wanted, true));
+        draw = draw.wrapping_add(1);
     }
     drop(desk);
-    came
 }
+
+/// Three posts, and each of them again, where two are remembered.
+const TWO_REMEMBERED: [Turn; 8] = [
+    (1, Ok(1)),
+    (2, Ok(1)),
+    (3, Ok(1)),
+    (3, Ok(1)),
+    (2, Err(23)),
+    (1, Ok(1)),
+    (3, Err(23)),
+    (1, Ok(1)),
+];
+
+/// The same where none is.
+const NONE_REMEMBERED: [Turn; 4] = [(1, Ok(1)), (2, Ok(1)), (2, Ok(1)), (1, Ok(1))];
 
 #[test]
 fn a_known_post_is_answered_as_before(rt: HostRuntime) {
@@ -681,10 +690,8 @@ fn a_post_is_new_where_none_is_remembered(rt: HostRuntime) {
 /// three, two are known.
 #[test]
 fn the_newest_posts_are_known(rt: HostRuntime) {
-    let came = posted_in_turn(&rt, rt.alloc(), 2, &[1, 2, 3, 3, 2, 1, 3, 1]);
-    assert!(&rt; came == [Ok(1), Ok(1), Ok(1), Ok(1), Err(23), Ok(1), Err(23), Ok(1)]);
-    let all_new = posted_in_turn(&rt, rt.alloc(), 0, &[1, 2, 3, 3, 2, 1, 3, 1]);
-    assert!(&rt; all_new == [Ok(1); 8]);
+    are_posted(&rt, rt.alloc(), 2, &TWO_REMEMBERED);
+    are_posted(&rt, rt.alloc(), 0, &NONE_REMEMBERED);
 }
 
 /// A context counts until so many seconds after its post, and a post that is known is refused after that.
