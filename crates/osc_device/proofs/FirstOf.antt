@@ -9,13 +9,10 @@ use Rattle.osc_cose.specs.{enc_structure, object_item}
 use Rattle.osc_authz.specs.HoldsToken.{HoldsToken}
 use Rattle.osc_client.specs.{PostIsTooLong}
 use Rattle.osc_client.specs.State.{State as Client}
-use Rattle.osc_model.specs.{HasBegun, IsNotOver}
 use Rattle.osc_model.specs.declared.algorithm.Algorithm.TheVariants.{EightByteTag}
-use Rattle.osc_model.specs.declared.node.Moment.{Moment}
-use Rattle.osc_rounds.specs.{MayExchange}
 use Rattle.osc_server.specs.State.{State as Server}
 use Rattle.osc_token.specs.{HasLawfulParts, algorithm_header, claims_item, token_object}
-use Rattle.osc_world.specs.{FitAToken, IsLawful, Beginning, Enrols, begun, first_nodes}
+use Rattle.osc_world.specs.{FitAToken, IsLawful, Beginning, Enrols, first_nodes}
 use Rattle.osc_world.specs.declared.nodes.Placed.{Placed}
 use Rattle.osc_world.specs.declared.start.Holder.{Holder}
 use Rattle.osc_device.specs.{IsBegun, IsGranted, IsTooLongToPost, own_claims, own_holder, server_alone, server_address}

@@ -235,13 +235,13 @@ impl Device {
     ) -> Result<Round, AllocError>
         requires { 0 < request.now.code.0 }
         ensures asked { IfOk result (λ round. AsksItsServer A.is_sealing A.TAG self.old
-            (record { at = now; draw = draws.own.now; server_draw = draws.server.now; request = request.now }) round self.new) }
-        ensures answered { IfOk result (λ round. IsAnsweredWhereReady self.old (record { at = now; draw = draws.own.now; request = request.now }) round self.new) }
+            (record { at = now; draw = draws.entry.own.now; server_draw = draws.entry.server.now; request = request.now }) round self.new) }
+        ensures answered { IfOk result (λ round. IsAnsweredWhereReady self.old (record { at = now; draw = draws.entry.own.now; request = request.now }) round self.new) }
         ensures run { IfOk result (λ round. AllGoOn self.old (λ number. noted number round) self.new) }
         ensures entry { IfOk result (λ round. IsOfAnEntry self.old round) }
         ensures err { OnErr result (self.new ≡ self.old) }
         // What hinders a request is told without memory.
-        ensures needs_memory { OnErr result ((context : ClientContextState) × IsFree A.is_sealing A.TAG self.old.own request.now draws.own.now context) }
+        ensures needs_memory { OnErr result ((context : ClientContextState) × IsFree A.is_sealing A.TAG self.old.own request.now draws.entry.own.now context) }
     {
         a_request_is_answered::<A>();
         runs_go_on::<A>();
@@ -262,13 +262,13 @@ impl Device {
         draws: OwnDraws<'_>,
     ) -> Result<Round, AllocError>
         ensures asked { IfOk result (λ round. AsksItsServer A.is_sealing A.TAG self.old
-            (record { at = now; draw = draws.own.now; server_draw = draws.server.now; request = own_request_of Put path resource.format resource.payload }) round self.new) }
-        ensures answered { IfOk result (λ round. IsAnsweredWhereReady self.old (record { at = now; draw = draws.own.now; request = own_request_of Put path resource.format resource.payload }) round self.new) }
+            (record { at = now; draw = draws.entry.own.now; server_draw = draws.entry.server.now; request = own_request_of Put path resource.format resource.payload }) round self.new) }
+        ensures answered { IfOk result (λ round. IsAnsweredWhereReady self.old (record { at = now; draw = draws.entry.own.now; request = own_request_of Put path resource.format resource.payload }) round self.new) }
         ensures run { IfOk result (λ round. AllGoOn self.old (λ number. noted number round) self.new) }
         ensures entry { IfOk result (λ round. IsOfAnEntry self.old round) }
         ensures err { OnErr result (self.new ≡ self.old) }
         // What hinders a request is told without memory.
-        ensures needs_memory { OnErr result ((context : ClientContextState) × IsFree A.is_sealing A.TAG self.old.own (own_request_of Put path resource.format resource.payload) draws.own.now context) }
+        ensures needs_memory { OnErr result ((context : ClientContextState) × IsFree A.is_sealing A.TAG self.old.own (own_request_of Put path resource.format resource.payload) draws.entry.own.now context) }
     {
         let request = own_request(alloc, Method::Put, path, resource);
         self.ask::<A>(alloc, now, &request, draws)
@@ -284,13 +284,13 @@ impl Device {
         draws: OwnDraws<'_>,
     ) -> Result<Round, AllocError>
         ensures asked { IfOk result (λ round. AsksItsServer A.is_sealing A.TAG self.old
-            (record { at = now; draw = draws.own.now; server_draw = draws.server.now; request = own_request_of Post path resource.format resource.payload }) round self.new) }
-        ensures answered { IfOk result (λ round. IsAnsweredWhereReady self.old (record { at = now; draw = draws.own.now; request = own_request_of Post path resource.format resource.payload }) round self.new) }
+            (record { at = now; draw = draws.entry.own.now; server_draw = draws.entry.server.now; request = own_request_of Post path resource.format resource.payload }) round self.new) }
+        ensures answered { IfOk result (λ round. IsAnsweredWhereReady self.old (record { at = now; draw = draws.entry.own.now; request = own_request_of Post path resource.format resource.payload }) round self.new) }
         ensures run { IfOk result (λ round. AllGoOn self.old (λ number. noted number round) self.new) }
         ensures entry { IfOk result (λ round. IsOfAnEntry self.old round) }
         ensures err { OnErr result (self.new ≡ self.old) }
         // What hinders a request is told without memory.
-        ensures needs_memory { OnErr result ((context : ClientContextState) × IsFree A.is_sealing A.TAG self.old.own (own_request_of Post path resource.format resource.payload) draws.own.now context) }
+        ensures needs_memory { OnErr result ((context : ClientContextState) × IsFree A.is_sealing A.TAG self.old.own (own_request_of Post path resource.format resource.payload) draws.entry.own.now context) }
     {
         let request = own_request(alloc, Method::Post, path, resource);
         self.ask::<A>(alloc, now, &request, draws)
@@ -305,13 +305,13 @@ impl Device {
         draws: OwnDraws<'_>,
     ) -> Result<Round, AllocError>
         ensures asked { IfOk result (λ round. AsksItsServer A.is_sealing A.TAG self.old
-            (record { at = now; draw = draws.own.now; server_draw = draws.server.now; request = own_request_of Delete path None [] }) round self.new) }
-        ensures answered { IfOk result (λ round. IsAnsweredWhereReady self.old (record { at = now; draw = draws.own.now; request = own_request_of Delete path None [] }) round self.new) }
+            (record { at = now; draw = draws.entry.own.now; server_draw = draws.entry.server.now; request = own_request_of Delete path None [] }) round self.new) }
+        ensures answered { IfOk result (λ round. IsAnsweredWhereReady self.old (record { at = now; draw = draws.entry.own.now; request = own_request_of Delete path None [] }) round self.new) }
         ensures run { IfOk result (λ round. AllGoOn self.old (λ number. noted number round) self.new) }
         ensures entry { IfOk result (λ round. IsOfAnEntry self.old round) }
         ensures err { OnErr result (self.new ≡ self.old) }
         // What hinders a request is told without memory.
-        ensures needs_memory { OnErr result ((context : ClientContextState) × IsFree A.is_sealing A.TAG self.old.own (own_request_of Delete path None []) draws.own.now context) }
+        ensures needs_memory { OnErr result ((context : ClientContextState) × IsFree A.is_sealing A.TAG self.old.own (own_request_of Delete path None []) draws.entry.own.now context) }
     {
         let request = own_request(alloc, Method::Delete, path, nothing(alloc));
         self.ask::<A>(alloc, now, &request, draws)
@@ -326,13 +326,13 @@ impl Device {
         draws: OwnDraws<'_>,
     ) -> Result<Round, AllocError>
         ensures asked { IfOk result (λ round. AsksItsServer A.is_sealing A.TAG self.old
-            (record { at = now; draw = draws.own.now; server_draw = draws.server.now; request = own_request_of Get path None [] }) round self.new) }
-        ensures answered { IfOk result (λ round. IsAnsweredWhereReady self.old (record { at = now; draw = draws.own.now; request = own_request_of Get path None [] }) round self.new) }
+            (record { at = now; draw = draws.entry.own.now; server_draw = draws.entry.server.now; request = own_request_of Get path None [] }) round self.new) }
+        ensures answered { IfOk result (λ round. IsAnsweredWhereReady self.old (record { at = now; draw = draws.entry.own.now; request = own_request_of Get path None [] }) round self.new) }
         ensures run { IfOk result (λ round. AllGoOn self.old (λ number. noted number round) self.new) }
         ensures entry { IfOk result (λ round. IsOfAnEntry self.old round) }
         ensures err { OnErr result (self.new ≡ self.old) }
         // What hinders a request is told without memory.
-        ensures needs_memory { OnErr result ((context : ClientContextState) × IsFree A.is_sealing A.TAG self.old.own (own_request_of Get path None []) draws.own.now context) }
+        ensures needs_memory { OnErr result ((context : ClientContextState) × IsFree A.is_sealing A.TAG self.old.own (own_request_of Get path None []) draws.entry.own.now context) }
     {
         let request = own_request(alloc, Method::Get, path, nothing(alloc));
         self.ask::<A>(alloc, now, &request, draws)
@@ -353,8 +353,8 @@ impl Device {
     ) -> Result<Option<Round>, AllocError>
         ensures asked { IfOk result (λ found. IfSome found (λ round. (path : List ℕ) × (revocation_of self.old.server.desk.rules.revoked id.now ≡ Some path)
             × AsksItsServer A.is_sealing A.TAG self.old
-            (record { at = now; draw = draws.own.now; server_draw = draws.server.now; request = own_request_of Put path None [] }) round self.new
-            × IsAnsweredWhereReady self.old (record { at = now; draw = draws.own.now; request = own_request_of Put path None [] }) round self.new)) }
+            (record { at = now; draw = draws.entry.own.now; server_draw = draws.entry.server.now; request = own_request_of Put path None [] }) round self.new
+            × IsAnsweredWhereReady self.old (record { at = now; draw = draws.entry.own.now; request = own_request_of Put path None [] }) round self.new)) }
         ensures none { IfOk result (λ found. IfNone found ((revocation_of self.old.server.desk.rules.revoked id.now ≡ None) × (self.new ≡ self.old))) }
         ensures run { IfOk result (λ found. IfSome found (λ round. AllGoOn self.old (λ number. noted number round) self.new)) }
         ensures entry { IfOk result (λ found. IfSome found (λ round. IsOfAnEntry self.old round)) }
@@ -383,8 +383,8 @@ impl Device {
     ) -> Result<Option<Round>, AllocError>
         ensures asked { IfOk result (λ found. IfSome found (λ round. (path : List ℕ) × (revocation_of self.old.server.desk.rules.revoked id.now ≡ Some path)
             × AsksItsServer A.is_sealing A.TAG self.old
-            (record { at = now; draw = draws.own.now; server_draw = draws.server.now; request = own_request_of Delete path None [] }) round self.new
-            × IsAnsweredWhereReady self.old (record { at = now; draw = draws.own.now; request = own_request_of Delete path None [] }) round self.new)) }
+            (record { at = now; draw = draws.entry.own.now; server_draw = draws.entry.server.now; request = own_request_of Delete path None [] }) round self.new
+            × IsAnsweredWhereReady self.old (record { at = now; draw = draws.entry.own.now; request = own_request_of Delete path None [] }) round self.new)) }
         ensures none { IfOk result (λ found. IfNone found ((revocation_of self.old.server.desk.rules.revoked id.now ≡ None) × (self.new ≡ self.old))) }
         ensures run { IfOk result (λ found. IfSome found (λ round. AllGoOn self.old (λ number. noted number round) self.new)) }
         ensures entry { IfOk result (λ found. IfSome found (λ round. IsOfAnEntry self.old round)) }
@@ -409,12 +409,12 @@ impl Device {
         now: Moment,
         draws: OwnDraws<'_>,
     ) -> Result<Round, AllocError>
-        ensures begun { IfOk result (λ round. (begun : Own) × Begins self.old.own now draws.own.now round.begun begun
+        ensures begun { IfOk result (λ round. (begun : Own) × Begins self.old.own now draws.entry.own.now round.begun begun
             × ClientStep false (own_core self.old.own) round.begun.notes (own_core begun)
-            × Carries A.is_sealing (record self.old { own = begun }) now draws.server.now round self.new) }
+            × Carries A.is_sealing (record self.old { own = begun }) now draws.entry.server.now round self.new) }
         // Where it may, and no step wants memory.
         ensures made { IfOk result (λ round. (claims : AnyClaims) (entries : List Entry)
-            → MayOpen A.is_sealing self.old now draws.own.now claims entries → IsWhole round → IsOpen now entries self.new) }
+            → MayOpen A.is_sealing self.old now draws.entry.own.now claims entries → IsWhole round → IsOpen now entries self.new) }
         // Its post is never too long for a datagram.
         ensures fits { IfOk result (λ round. round.begun.notes.result ≢ Some (result_of.Refused refusal.datagram_too_long)) }
         ensures run { IfOk result (λ round. AllGoOn self.old (λ number. noted number round) self.new) }
