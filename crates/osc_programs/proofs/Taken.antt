@@ -96,6 +96,36 @@ turns_not_bad Failed f e = absurd cc
 turns_not_bad PortFailed f e = absurd cc
 turns_not_bad NotDone f e = absurd cc
 
+pub fault_not_bad : (ended : Ended) → IsFault ended → ended ≢ BadSettings
+fault_not_bad Done f e = absurd cc
+fault_not_bad BadCommandLine f e = absurd cc
+fault_not_bad (BadLine n) f e = absurd cc
+fault_not_bad BadSettings f e = f
+fault_not_bad OutOfMemory f e = absurd cc
+fault_not_bad Failed f e = absurd cc
+fault_not_bad PortFailed f e = absurd cc
+fault_not_bad NotDone f e = absurd cc
+
+pub talk_not_bad : (request : Request) (ended : Ended) → CannotTalk request ended → ended ≢ BadSettings
+talk_not_bad request Done f e = absurd cc
+talk_not_bad request BadCommandLine f e = absurd cc
+talk_not_bad request (BadLine n) f e = absurd cc
+talk_not_bad request BadSettings f e = f
+talk_not_bad request OutOfMemory f e = absurd cc
+talk_not_bad request Failed f e = absurd cc
+talk_not_bad request PortFailed f e = absurd cc
+talk_not_bad request NotDone f e = absurd cc
+
+pub told_not_bad : (ended : Ended) → EndsTold ended → ended ≢ BadSettings
+told_not_bad Done f e = absurd cc
+told_not_bad BadCommandLine f e = absurd cc
+told_not_bad (BadLine n) f e = absurd cc
+told_not_bad BadSettings f e = f
+told_not_bad OutOfMemory f e = absurd cc
+told_not_bad Failed f e = absurd cc
+told_not_bad PortFailed f e = absurd cc
+told_not_bad NotDone f e = absurd cc
+
 pub settings_node : (ended : Ended) → NoSettings ended → EndsNode ended
 settings_node Done f = absurd f
 settings_node BadCommandLine f = absurd f

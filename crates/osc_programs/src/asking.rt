@@ -6,7 +6,8 @@ ghost use Rattle.osc_client.specs.State.{State as AnyClient};
 ghost use Rattle.osc_model.specs.declared.step.Datagram.{Datagram as AnyDatagram};
 ghost use Rattle.osc_model.specs.declared.step.Step.{Step as AnyStep};
 ghost use Rattle.osc_turn.specs.{grown};
-ghost use Rattle.osc_settings.specs.{StandsFor, AreClientSettings};
+ghost use Rattle.osc_programs.specs.Unread.{TellsWhy};
+ghost use Rattle.osc_settings.specs.{StandsFor, AreClientSettings, IsClientFault, IsKeyFault};
 ghost use Rattle.osc_settings.specs.declared.client.ClientSettings.{ClientSettings as AnySettings};
 ghost use Rattle.osc_simulation.specs.{is_sealing};
 ghost use Rattle.osc_programs.specs.Conversation as spec;
@@ -60,6 +61,7 @@ pub fn ask<R: Clock + Eprint + Net + RandomSource, I: Read, L: Log, W: Write>(
         × IfSome (I.remaining reader.old) (λ text. StandsFor AreClientSettings text settings) × spec.IsClientOf settings first
         × spec.Talks words.now.turns words.now.request first outcome last
         × (result ≡ spec.ended_by_outcome outcome) × Appends (W.contents writer.old) (W.contents writer.new) (spec.printed_text words.now.raw outcome) }
+    ensures bad { result ≡ Ended.BadSettings → TellsWhy (λ document. IsKeyFault (IsClientFault document)) (I.remaining reader.old) (L.told log.old) (L.told log.new) }
     ensures ends { ends.EndsClient words.now.request result }
 {
     match outcome_of(alloc, runtime, reader, log, words) {
@@ -150,6 +152,7 @@ fn outcome_of<R: Clock + Eprint + Net + RandomSource, I: Read, L: Log>(
     ensures talks { IfOk result (λ outcome. (first last : AnyClient) × (settings : AnySettings)
         × IfSome (I.remaining reader.old) (λ text. StandsFor AreClientSettings text settings) × spec.IsClientOf settings first
         × spec.Talks words.now.turns words.now.request first outcome last) }
+    ensures bad { IfErr result (λ ended. ended ≡ Ended.BadSettings → TellsWhy (λ document. IsKeyFault (IsClientFault document)) (I.remaining reader.old) (L.told log.old) (L.told log.new)) }
     ensures ends { IfErr result (ends.CannotAsk words.now.request) }
 {
     let settings = client_settings(alloc, reader, log)?;
@@ -162,7 +165,7 @@ fn outcome_of<R: Clock + Eprint + Net + RandomSource, I: Read, L: Log>(
 // A client with this grant. Settings have the lengths that a grant and an origin need.
 fn client_of(alloc: Global, settings: ClientSettings) -> Result<Client, Ended>
     ensures client { IfOk result (λ client. spec.IsClientOf settings client) }
-    ensures ends { IfErr result ends.NoSettings }
+    ensures fault { IfErr result ends.IsFault }
 {
     let ClientSettings {
         peer,
@@ -179,7 +182,7 @@ fn client_of(alloc: Global, settings: ClientSettings) -> Result<Client, Ended>
         origin: origin_of(origin)?,
     };
     let Ok(desk) = ClientDesk::new(token, secret, salt, context, alg) else {
-        return Err(Ended::BadSettings);
+        return Err(Ended::Failed);
     };
     match Client::new(alloc, desk, way) {
         Ok(client) => Ok(client),
@@ -190,14 +193,14 @@ fn client_of(alloc: Global, settings: ClientSettings) -> Result<Client, Ended>
 // The server of this host and port, if one is named.
 fn origin_of(named: Option<(Bytes, u16)>) -> Result<Option<Origin>, Ended>
     ensures origin { IfOk result (λ origin. option_map (λ (o : HostAndPort). (o.host, o.port)) origin ≡ named) }
-    ensures ends { IfErr result ends.NoSettings }
+    ensures fault { IfErr result ends.IsFault }
 {
     let Some((host, port)) = named else {
         return Ok(None);
     };
     match Origin::new(host, port) {
         Some(origin) => Ok(Some(origin)),
-        None => Err(Ended::BadSettings),
+        None => Err(Ended::Failed),
     }
 }
 
