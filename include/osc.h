@@ -80,9 +80,9 @@ typedef struct osc_served {
 } osc_served;
 
 /* A request that was refused. The reasons of a protected one: 3 it opens to no text, 21 its protection cannot be read, 22 it names no live context, 23
- * its number is not fresh. Those of a post to authz-info: 24 and 29 the scope or another claim of its token cannot be read, 25 its token opens to no
- * text under the server's key, 26 it has expired, 27 it is not valid yet, 28 it is for another audience, 30 it is no whole map with the fields of an
- * exchange, 31 64 others have a live context, 38 it is revoked. */
+ * its number is not fresh. Those of a post to authz-info: 23 it came before, and its context is gone, 24 and 29 the scope or another claim of its token
+ * cannot be read, 25 its token opens to no text under the server's key, 26 it has expired, 27 it is not valid yet, 28 it is for another audience, 30 it is
+ * no whole map with the fields of an exchange, 31 64 others have a live context, 38 it is revoked. */
 typedef struct osc_refused {
     osc_peer from;
     uint8_t code;   /* what it was answered */
