@@ -7,7 +7,7 @@ use Rattle.osc_model.specs.declared.reply.Reply.{Reply}
 use Rattle.osc_model.specs.declared.step.Step.{Step}
 use Rattle.osc_authz.specs.{In}
 use Rattle.osc_client.specs.{core as client_core}
-use Rattle.osc_run.specs.{Acceptance, history, Noted, by_client, by_server, IsReplyOfRequest, IsNewClient, IsReached, IsTextOf, ClientState, Minted, WorldState, grants_of}
+use Rattle.osc_run.specs.{AreYoung, Acceptance, history, Noted, by_client, by_server, IsReplyOfRequest, IsNewClient, IsReached, IsTextOf, ClientState, Minted, WorldState, grants_of}
 use Rattle.osc_run.specs.OneHistory.{OneHistory}
 use Rattle.osc_run.specs.Premise.{Premise}
 use Rattle.osc_options.specs.{read_request}
@@ -74,9 +74,11 @@ AllGoOn old steps new = (number : ℕ) (v : WorldState) → IsReached v → IsIn
 -- ---- what is promised of them
 
 -- Where what is assumed holds, there is one history; and where, besides, no two grants name a common path, each holder, the device as well,
--- is answered as if alone, up to the first answer that is for want of memory or of room.
+-- is answered as if alone, up to the first answer that is for want of memory or of room. Where contexts have a greatest age, each entry came
+-- less than that after the post that made its context.
 pub record KeepsItsPromises (w : WorldState) : Type 0 where
   pub one_history : Premise w.minted w.notes → OneHistory w
+  pub young : AreYoung w
   pub own_answers : Premise w.minted w.notes → HaveOwnPaths (grants_of w.minted)
       → IsIsolated read_request (grants_of w.minted) w.first (history w.notes)
 

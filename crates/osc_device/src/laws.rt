@@ -106,5 +106,6 @@ pub fn runs_keep_their_promises<A: Ciphers>()
         → IsOfAnEntry old round }
 {
     osc_run::laws::one_history();
+    osc_run::laws::contexts_are_young();
     osc_run::laws::own_answers();
 }

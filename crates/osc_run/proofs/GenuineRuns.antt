@@ -19,7 +19,6 @@ use Rattle.osc_run.proofs.LawsBelow.{Laws}
 use Rattle.osc_run.proofs.Lists.{collected_more, collected_none, collected_one, collected_same}
 use Rattle.osc_run.proofs.ServerSteps.{none_served, one_served, still_served, added_of, entry_of}
 use Rattle.osc_run.proofs.FreshRuns.{Kept, kept_run}
-use Rattle.osc_run.proofs.Ages.{young}
 use Rattle.osc_run.proofs.Grants.{Granted, posted_granted, still_legal, still_effects, still_unrevoked}
 use Rattle.osc_run.proofs.Replied.{AskedBy, more_asked_by, sealed_question, no_token, same_number, opened_request, opened_reply, one_reply, same_text}
 
@@ -242,7 +241,6 @@ one_history_of laws w earlier run premise =
       legal = k.legal;
       effects = k.effects;
       none_revoked = k.unrevoked;
-      young = young w;
       asked = λ e m. let a = k.asked e m in record { by = a.by; lied = a.lied; holds = a.holds; asked = sealed_question w.notes a.by a.lied (request_note e.context e.number e.plaintext) a.sealed };
       answered = k.answered;
     }

@@ -6,7 +6,6 @@ use Rattle.osc_model.specs.Grant.{Grant}
 use Rattle.osc_model.specs.Tree.{Tree}
 use Rattle.osc_model.specs.declared.step.Entry.{Entry}
 use Rattle.osc_authz.specs.{In}
-use Rattle.osc_run.specs.Ages.{AreYoung}
 use Rattle.osc_run.specs.Notes.{Noted}
 use Rattle.osc_run.specs.States.{Minted, grants_of, WorldState}
 use Rattle.osc_options.specs.{read_request}
@@ -46,12 +45,10 @@ AreUnrevoked grants revoked tree (entry ∷ entries) =
 
 -- The history is legal from the first tree: no two entries share context and number, each came in the time of its grant, and each
 -- is answered as the machine answers under the grant's scope. Its effects give the server's tree. No entry came while its token was
--- revoked. At a server with a greatest age of contexts each entry came less than that after the post which made its context. Each entry was
--- asked by the holder of its grant, and each accepted reply is that of its request.
+-- revoked. Each entry was asked by the holder of its grant, and each accepted reply is that of its request.
 pub record OneHistory (w : WorldState) : Type 0 where
   pub legal : IsLegal read_request (grants_of w.minted) w.first (history w.notes)
   pub effects : effect read_request (grants_of w.minted) w.first (history w.notes) ≡ w.server.tree
   pub none_revoked : AreUnrevoked (grants_of w.minted) w.server.rules.revoked w.first (history w.notes)
-  pub young : AreYoung w
   pub asked : (entry : Entry) → In entry (history w.notes) → IsAskedByHolder w.minted w.notes entry
   pub answered : (a : Acceptance) → In a (acceptances w.notes) → IsReplyOfRequest w.notes a

@@ -30,8 +30,7 @@ use osc_window::laws::fresh_after;
 
 /// In every run in which whatever opens was sealed before by the other end of its context, no drawn nonce comes twice and no two
 /// grants share a secret, there is one history: no two entries share context and number, each was asked by its client and is
-/// answered by its grant and the tree, their effects give the server's tree, each came while its token wasn't revoked and its context was
-/// young, and each accepted reply is that of its request.
+/// answered by its grant and the tree, their effects give the server's tree, and each accepted reply is that of its request.
 pub fn one_history()
     ensures { (w : WorldState) → IsReached w → Premise w.minted w.notes → OneHistory w }
 {

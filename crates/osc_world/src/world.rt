@@ -1,7 +1,7 @@
 //! The world.
 ghost use Rattle.std.specs.Prelude.{◌≡◌, ◌≢◌, ◌<◌, ◌↔◌, ◌++◌, ℕ, [], false, IfOk, IsTrue, List, OnErr, OnOk, length, map, option_map, position, reverse, slice_get};
 ghost use Rattle.osc_model.specs.{Agree, HaveOwnPaths, alone as answers_alone, answered};
-ghost use Rattle.osc_run.specs.{acceptances, history as history_of, questions, grants_of, IsReached, IsStart};
+ghost use Rattle.osc_run.specs.{acceptances, AreYoung, history as history_of, questions, grants_of, IsReached, IsStart};
 ghost use Rattle.osc_options.specs.{read_request};
 ghost use Rattle.osc_run.specs.Premise.{Premise};
 ghost use Rattle.osc_rounds.specs.{IsLawfulServer};
@@ -24,7 +24,7 @@ use osc_ccm::Ciphers;
 use osc_client::Client;
 use osc_model::{Draw, Entry, Moment, Reply};
 use osc_proxy::Proxy;
-use osc_run::laws::{one_history, own_answers, own_nonces};
+use osc_run::laws::{contexts_are_young, one_history, own_answers, own_nonces};
 use osc_run::{Acceptance, Minted, Noted, Question};
 use osc_server::Server;
 use osc_tree::Tree;
@@ -95,11 +95,13 @@ impl World {
         ensures reached { IsReached (run_of self.new) }
         ensures apart { StandApart self.new.nodes }
         ensures one_history { HasOneHistory self.new }
+        ensures young { AreYoung (run_of self.new) }
         ensures own_nonces { KeepsItsNonces self.new }
         ensures own_answers { HasOwnAnswers self.new }
         ensures err { OnErr result (self.new ≡ self.old) }
     {
         one_history();
+        contexts_are_young();
         own_nonces();
         own_answers();
         let done = self.happens::<A>(alloc, event);
@@ -126,6 +128,9 @@ impl World {
     /// number, each was asked by its client and is answered by its token's scope and the tree, their effects give the server's tree,
     /// and each reply that a client accepted is that of its request.
     ///
+    /// Where the server's contexts have a greatest age, each entry came less than that after the post that made its context, whatever else
+    /// holds.
+    ///
     /// Where, besides, no two grants name a common path, each client's entries are answered as if they alone followed the first
     /// resources, up to the first that is for want of memory or of room ([`World::alone`]).
     pub fn run<A: Ciphers>(&mut self, alloc: Global, events: &[Event]) -> Result<(), AllocError>
@@ -134,10 +139,12 @@ impl World {
         ensures reached { IsReached (run_of self.new) }
         ensures apart { StandApart self.new.nodes }
         ensures one_history { HasOneHistory self.new }
+        ensures young { AreYoung (run_of self.new) }
         ensures own_nonces { KeepsItsNonces self.new }
         ensures own_answers { HasOwnAnswers self.new }
     {
         one_history();
+        contexts_are_young();
         own_nonces();
         own_answers();
         let done = self.happen::<A>(alloc, events);
@@ -182,10 +189,12 @@ impl World {
         ensures reached { IsReached (run_of self.new) }
         ensures apart { StandApart self.new.nodes }
         ensures one_history { HasOneHistory self.new }
+        ensures young { AreYoung (run_of self.new) }
         ensures own_nonces { KeepsItsNonces self.new }
         ensures own_answers { HasOwnAnswers self.new }
     {
         one_history();
+        contexts_are_young();
         own_nonces();
         own_answers();
         an_exchanged_round::<A>();
@@ -256,9 +265,11 @@ impl World {
         ensures history { IfOk result (λ all. map (λ entry. entry.now) all.items ≡ history_of self.now.steps) }
         ensures reached { IsReached (run_of self.now) }
         ensures one_history { HasOneHistory self.now }
+        ensures young { AreYoung (run_of self.now) }
         ensures own_answers { HasOwnAnswers self.now }
     {
         one_history();
+        contexts_are_young();
         own_answers();
         self.log.notes().history(alloc)
     }
@@ -425,10 +436,12 @@ impl World {
         ensures reached { IsReached (run_of self.new) }
         ensures apart { StandApart self.new.nodes }
         ensures one_history { HasOneHistory self.new }
+        ensures young { AreYoung (run_of self.new) }
         ensures own_nonces { KeepsItsNonces self.new }
         ensures own_answers { HasOwnAnswers self.new }
     {
         one_history();
+        contexts_are_young();
         own_nonces();
         own_answers();
         self.skips(client, number);

@@ -4,7 +4,7 @@ use Rattle.osc_device.proofs.Entering.{of_an_entry}
 use Rattle.osc_device.proofs.laws.runs_keep_their_promises.Goals as goal
 
 pub returns-clause-promises : goal.returns-clause-promises
-returns-clause-promises g c = λ w reached. record { one_history = c.one_history.ensures w reached; own_answers = c.own_answers.ensures w reached }
+returns-clause-promises g c = λ w reached. record { one_history = c.one_history.ensures w reached; young = c.contexts_are_young.ensures w; own_answers = c.own_answers.ensures w reached }
 
 pub returns-clause-entered : goal.returns-clause-entered
 returns-clause-entered g c = λ old between new now draw round kind same carries number v reply reached is_in told premise.
