@@ -2,9 +2,13 @@
 ghost use Rattle.std.specs.Prelude.{◌<◌};
 
 use osc_ccm::Suite;
+use osc_client::Client;
 use osc_device::{Device, NewError, OwnDraws, OwnToken, Round, ServerParts};
-use osc_fixtures::{CLIENT, GET, KEY, POST, PUT, at, drawn, request, sent_in};
-use osc_model::{Bytes, ClientResult, Path, Resource};
+use osc_fixtures::{
+    CLIENT, GET, GET_AND_POST, KEY, POST, PUT, SERVER, at, client, drawn, own, request, sent_in,
+    straight,
+};
+use osc_model::{Bytes, ClientResult, Path, Resource, Step};
 use osc_scope::Scope;
 use osc_token::Audience;
 use osc_tree::Tree;
@@ -302,5 +306,131 @@ fn a_token_as_long_as_its_post_may_be(rt: HostRuntime) -> Result<(), Fail> {
     assert!(rt; opened);
     let error = with_long_scope(rt.alloc(), 255).err();
     assert!(rt; error == Some(NewError::TooLong));
+    Ok(())
+}
+
+// ---- tokens that the device revokes
+
+/// Every method on `/log`, and PUT and DELETE on the path that revokes the guest's token.
+const OWNER: &[u8] = b"\x82\x82\x64/log\x0f\x82\x6b/revoked/01\x0c";
+
+/// The id of the guest's token.
+const GUEST: &[u8] = b"\x01";
+
+/// A device with this revocation path, which has a context at its own server.
+fn owner(rt: &impl Abort, alloc: Global, revoked: Option<Path>) -> Device {
+    let mut parts = parts(alloc).expect(rt, "memory");
+    parts.revoked = revoked;
+    let own = own_token(alloc, OWNER).expect(rt, "memory");
+    let mut device = Device::new::<Suite>(alloc, parts, own).expect(rt, "a device");
+    let is_open = opens(alloc, &mut device, 1);
+    assert!(rt; is_open);
+    device
+}
+
+/// What the guest learns of what it sends to the device: 1 of a context, else a code, or 0.
+fn comes(
+    alloc: Global,
+    device: &mut Device,
+    guest: &mut Client,
+    sends: Result<Step, AllocError>,
+    number: u8,
+) -> u8 {
+    let bytes = sent_in(alloc, sends);
+    let answers = device.on_datagram::<Suite>(
+        alloc,
+        at(0),
+        CLIENT,
+        bytes.as_slice(),
+        &drawn(number),
+    );
+    drop(bytes);
+    let bytes = sent_in(alloc, answers);
+    let heard = guest.on_datagram::<Suite>(alloc, at(0), SERVER, bytes.as_slice());
+    drop(bytes);
+    let Ok(step) = heard else {
+        return 0;
+    };
+    let code = match step.notes.result() {
+        Some(ClientResult::Made) => 1,
+        Some(ClientResult::Answer(reply)) => reply.code.0,
+        Some(ClientResult::Unverified(code)) => code.0,
+        _ => 0,
+    };
+    drop(step);
+    code
+}
+
+/// What the guest learns of a post of its token.
+fn posts(alloc: Global, device: &mut Device, guest: &mut Client, number: u8) -> u8 {
+    let sends = guest.exchange(alloc, at(0), &drawn(number));
+    comes(alloc, device, guest, sends, number.wrapping_add(100))
+}
+
+/// What it learns of a POST on `/log`.
+fn logs(alloc: Global, device: &mut Device, guest: &mut Client, number: u8) -> u8 {
+    let Ok(request) = request(alloc, b"/log", POST, b"a") else {
+        return 0;
+    };
+    let sends = guest.ask::<Suite>(alloc, at(0), &request, &drawn(number));
+    drop(request);
+    comes(alloc, device, guest, sends, number.wrapping_add(100))
+}
+
+/// The code that the device is answered where it revokes the guest's token, or lets it in again; 0 where it isn't, 1 where it has no path for it.
+fn changes(alloc: Global, device: &mut Device, number: u8, is_out: bool) -> u8 {
+    let (own, server) = (drawn(number), drawn(number.wrapping_add(100)));
+    let draws = OwnDraws {
+        own: &own,
+        server: &server,
+    };
+    let changed = if is_out {
+        device.revoke::<Suite>(alloc, at(0), GUEST, draws)
+    } else {
+        device.allow::<Suite>(alloc, at(0), GUEST, draws)
+    };
+    match changed {
+        Ok(Some(round)) => {
+            let code = answer(&round);
+            drop(round);
+            code
+        }
+        Ok(None) => 1,
+        Err(_) => 0,
+    }
+}
+
+fn is_out_and_back(rt: &impl Abort, alloc: Global, device: &mut Device, guest: &mut Client) {
+    assert!(rt; posts(alloc, device, guest, 2) == 1);
+    assert!(rt; logs(alloc, device, guest, 3) == 0x41);
+    assert!(rt; changes(alloc, device, 4, true) == 0x41);
+    assert!(rt; logs(alloc, device, guest, 5) == 0x81);
+    assert!(rt; posts(alloc, device, guest, 6) == 0x81);
+    assert!(rt; changes(alloc, device, 7, true) == 0x44);
+    assert!(rt; changes(alloc, device, 8, false) == 0x42);
+    assert!(rt; posts(alloc, device, guest, 9) == 1);
+    assert!(rt; logs(alloc, device, guest, 10) == 0x44);
+}
+
+/// The device takes a guest's token back, in use as it is, and lets it in again.
+#[test]
+fn a_device_revokes(rt: HostRuntime) -> Result<(), Fail> {
+    let path = Path::from_text(rt.alloc(), b"/revoked")?;
+    let mut guest = client(rt.alloc(), own(1, GET_AND_POST), straight())?;
+    let mut device = owner(&rt, rt.alloc(), path);
+    is_out_and_back(&rt, rt.alloc(), &mut device, &mut guest);
+    drop(device);
+    drop(guest);
+    Ok(())
+}
+
+#[test]
+fn nothing_is_revoked_without_a_path(rt: HostRuntime) -> Result<(), Fail> {
+    let mut device = owner(&rt, rt.alloc(), None);
+    let revokes = changes(rt.alloc(), &mut device, 2, true);
+    let allows = changes(rt.alloc(), &mut device, 3, false);
+    drop(device);
+    assert!(rt; revokes == 1);
+    assert!(rt; allows == 1);
     Ok(())
 }
