@@ -1,5 +1,5 @@
 -- A request is asked, and a quiet round serves and answers it: through a proxy, in six deliveries.
-use Rattle.std.proofs.Common.{◌≡◌, ◌∙◌, sym, ap, subst, refl, ℕ, suc, ◌+◌, ◌-◌, ◌≤◌, Bool, true, false, List, [], ◌∷◌, ◌++◌, length, map, Option, Some, None, arith, append-nil}
+use Rattle.std.proofs.Common.{◌≡◌, ◌∙◌, sym, ap, subst, refl, ℕ, suc, ◌-◌, ◌≤◌, Bool, true, false, List, [], ◌∷◌, ◌++◌, length, map, Option, Some, None, arith, append-nil}
 use Rattle.std.specs.Prelude.{◌≢◌, slice_get, slice_set, option_to_list}
 use Rattle.std.proofs.lemmas.Option.{same_Some}
 use Rattle.osc_model.specs.{apply_read, quiet}

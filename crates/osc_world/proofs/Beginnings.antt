@@ -1,5 +1,5 @@
 -- Where a world begins, a client that was enrolled may exchange, straight or through a proxy that was added.
-use Rattle.std.proofs.Common.{◌≡◌, ◌∙◌, sym, ap, subst, refl, ℕ, ◌+◌, ◌^◌, ◌<◌, ◌≤◌, List, [], false, length, None, Some, arith}
+use Rattle.std.proofs.Common.{◌≡◌, ◌∙◌, sym, ap, subst, refl, ℕ, ◌^◌, ◌<◌, ◌≤◌, List, [], false, length, None, Some, arith}
 use Rattle.std.specs.Prelude.{slice_get, IfSome}
 use Rattle.osc_model.specs.{HasBegun, IsNotOver, is_revoked}
 use Rattle.osc_server.specs.{standing_of}

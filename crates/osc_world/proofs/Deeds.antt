@@ -6,7 +6,7 @@ use Rattle.osc_model.specs.declared.request.Request.{Request}
 use Rattle.osc_context.specs.{greatest_number}
 use Rattle.osc_run.specs.{Came}
 use Rattle.osc_world.specs.Inner.Tasks.{hearer, whose_step}
-use Rattle.osc_world.specs.{Ask, Deed, NodeStates, Nothing, OfClient, Take, TellLie, deed_by, deed_for, deed_of, delivering}
+use Rattle.osc_world.specs.{Ask, NodeStates, Nothing, OfClient, Take, TellLie, deed_by, deed_for, deed_of, delivering}
 use Rattle.osc_world.specs.declared.event.Event.{Event}
 use Rattle.osc_world.specs.declared.event.What.TheVariants as what
 use Rattle.osc_world.specs.declared.log.SentDatagram.{SentDatagram}

@@ -1,5 +1,5 @@
 -- What is assumed of a run goes on over the three steps of a round.
-use Rattle.std.proofs.Common.{◌≡◌, ◌∙◌, sym, ap, subst, refl, ℕ, List, [], ◌∷◌, Option, Some, None, inr}
+use Rattle.std.proofs.Common.{◌≡◌, ◌∙◌, sym, ap, subst, refl, List, [], ◌∷◌, Option, Some, None, inr}
 use Rattle.osc_model.specs.{quiet}
 use Rattle.osc_model.specs.StepNotes.{StepNotes}
 use Rattle.osc_model.specs.declared.step.Note.{Note}

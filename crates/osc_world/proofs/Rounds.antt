@@ -1,5 +1,5 @@
 -- Quiet rounds, one delivery more at their beginning.
-use Rattle.std.proofs.Common.{◌≡◌, ◌≤◌, ◌+◌, ◌∙◌, ℕ, zero, suc, Bool, true, false, not, List, length, refl, ap, sym, subst, Option, Some, None, Result, Ok, Err, arith}
+use Rattle.std.proofs.Common.{◌≡◌, ◌≤◌, ◌+◌, ◌∙◌, ℕ, zero, suc, Bool, true, false, not, length, refl, ap, sym, subst, Option, Some, None, Result, Ok, Err, arith}
 use Rattle.std.specs.Prelude.{OnErr, is_none, is_some}
 use Rattle.std.proofs.lemmas.List.{length-append}
 use Rattle.osc_ccm.specs.{Sealings, Tags}

@@ -1,5 +1,5 @@
 -- The nodes of a world, and what an event comes to.
-use Rattle.std.specs.Prelude.{ℕ, ◌==◌, nat_le, if◌then◌else◌, Bool, true, false, List, ◌∷◌, ◌++◌, map, Option, Some, None, position, slice_get, slice_set}
+use Rattle.std.specs.Prelude.{ℕ, ◌==◌, nat_le, if◌then◌else◌, Bool, List, ◌∷◌, ◌++◌, map, Option, Some, None, position, slice_get, slice_set}
 use Rattle.std.specs.List.{IsDistinct, list_any}
 use Rattle.osc_model.specs.declared.node.Draw.{Draw}
 use Rattle.osc_model.specs.declared.node.Moment.{Moment}

@@ -1,5 +1,5 @@
 -- Quiet rounds: what waits is delivered, in order of sending.
-use Rattle.std.specs.Prelude.{◌≡◌, ◌≤◌, ◌<◌, ℕ, zero, suc, Bool, true, List, length, Option, Some, None, is_none, position}
+use Rattle.std.specs.Prelude.{◌≡◌, ◌≤◌, ◌<◌, ℕ, zero, suc, Bool, true, length, Option, Some, None, is_none, position}
 use Rattle.osc_model.specs.declared.node.Draw.{Draw}
 use Rattle.osc_model.specs.declared.node.Moment.{Moment}
 use Rattle.osc_world.specs.Worlds.{State}

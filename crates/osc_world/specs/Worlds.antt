@@ -1,5 +1,5 @@
 -- What a world is, and how it goes on.
-use Rattle.std.specs.Prelude.{◌≡◌, ℕ, List, [], ◌∷◌, ◌++◌, map, Option}
+use Rattle.std.specs.Prelude.{◌≡◌, List, [], ◌∷◌, ◌++◌, map, Option}
 use Rattle.osc_model.specs.Tree.{Tree}
 use Rattle.osc_ccm.specs.{Sealings, Tags}
 use Rattle.osc_run.specs.{Noted, Minted, WorldState}

@@ -1,13 +1,9 @@
 -- Whose step an event is, what it is to do then, and how many datagrams it sends at most.
-use Rattle.std.specs.Prelude.{ℕ, ◌+◌, ◌≤◌, ◌<◌, ⊤, List, Option, Some, None, slice_get}
-use Rattle.osc_model.specs.declared.node.Draw.{Draw}
-use Rattle.osc_model.specs.declared.node.Moment.{Moment}
+use Rattle.std.specs.Prelude.{ℕ, ◌≤◌, ◌<◌, ⊤, List, Option, Some, None, slice_get}
 use Rattle.osc_context.specs.{greatest_number}
 use Rattle.osc_run.specs.{Came, Due}
 use Rattle.osc_client.specs.Steps as of_client
 use Rattle.osc_proxy.specs.Steps as of_proxy
-use Rattle.osc_proxy.specs.State.{State as Proxy}
-use Rattle.osc_client.specs.State.{State as Client}
 use Rattle.osc_world.specs.Nodes.{ClientTask, Begin, Ask, TellLie, Do, NodeStates, StartAgain, Take, Task, node_at, node_of}
 use Rattle.osc_world.specs.declared.event.Event.{Event}
 use Rattle.osc_world.specs.declared.event.What.{What}

@@ -2,7 +2,7 @@ use Rattle.std.proofs.Common.{◌≡◌, IfOk, Some, None, length, refl, subst, 
 use Rattle.std.proofs.lemmas.Option.{slice_get_past, slice_get_read}
 use Rattle.std.specs.Prelude.{slice_get}
 use Rattle.osc_run.specs.{Came}
-use Rattle.osc_world.specs.{Deed, Nothing, OfClient, Take, TellLie, deed_by, Takes}
+use Rattle.osc_world.specs.{Deed, OfClient, Take, TellLie, deed_by, Takes}
 use Rattle.osc_world.proofs.Deeds.{asked_deed, delivered_deed, lied_deed, undelivered_deed}
 use Rattle.osc_world.proofs.nodes.Nodes.take.Goals as goal
 

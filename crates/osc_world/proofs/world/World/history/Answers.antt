@@ -11,3 +11,6 @@ returns-clause-own_answers c = c.own_answers.ensures (run_of c.args.self.now) (s
 
 pub returns-clause-reached : goal.returns-clause-reached
 returns-clause-reached c = subst (λ (w : State). IsReached (run_of w)) c.self.view_is c.self.invariant.0
+
+pub returns-clause-young : goal.returns-clause-young
+returns-clause-young c = c.contexts_are_young.ensures (run_of c.args.self.now)

@@ -49,3 +49,6 @@ returns-clause-apart g c = subst (λ (w : State). StandApart w.nodes) c.self.vie
 
 pub returns-clause-stopped : goal.returns-clause-stopped
 returns-clause-stopped g c = c.rounds-done.ensures.stopped
+
+pub returns-clause-young : goal.returns-clause-young
+returns-clause-young g c = c.contexts_are_young.ensures (run_of c.rounds-done.new.self)

@@ -17,3 +17,6 @@ returns-clause-reached g c = subst (λ (w : State). IsReached (run_of w)) c.self
 
 pub returns-clause-apart : goal.returns-clause-apart
 returns-clause-apart g c = subst (λ (w : State). StandApart w.nodes) c.self.view_is c.self.invariant.1
+
+pub returns-clause-young : goal.returns-clause-young
+returns-clause-young g c = c.contexts_are_young.ensures (run_of c.happen-done.new.self)

@@ -17,3 +17,6 @@ returns-clause-reached c = subst (λ (w : State). IsReached (run_of w)) c.self.v
 
 pub returns-clause-apart : goal.returns-clause-apart
 returns-clause-apart c = subst (λ (w : State). StandApart w.nodes) c.self.view_is c.self.invariant.1
+
+pub returns-clause-young : goal.returns-clause-young
+returns-clause-young c = c.contexts_are_young.ensures (run_of c.skips.new.self)
