@@ -58,6 +58,13 @@ typedef struct osc_key { uint8_t bytes[16]; } osc_key;
 typedef struct osc_iv { uint8_t bytes[13]; } osc_iv;
 typedef struct osc_draw { uint8_t bytes[32]; } osc_draw;
 
+/* what a device's server rules, beside its key and its audience */
+typedef struct osc_rules {
+    osc_key old_key;          /* the former key, at a change of key */
+    uint8_t has_old_key;      /* 1: the former key is there; else 0 */
+    uint32_t context_seconds; /* a context counts for so many seconds after the post that made it; 0 is no limit */
+} osc_rules;
+
 /* two draws: the device's own, and its server's */
 typedef struct osc_draws { osc_draw own; osc_draw server; } osc_draws;
 
@@ -79,10 +86,11 @@ typedef struct osc_served {
     size_t context_length; /* of the id context of its token, 0 to 64 */
 } osc_served;
 
-/* A request that was refused. The reasons of a protected one: 3 it opens to no text, 21 its protection cannot be read, 22 it names no live context, 23
- * its number is not fresh. Those of a post to authz-info: 23 it came before, and its context is gone, 24 and 29 the scope or another claim of its token
- * cannot be read, 25 its token opens to no text under the server's key, 26 it has expired, 27 it is not valid yet, 28 it is for another audience, 30 it is
- * no whole map with the fields of an exchange, 31 64 others have a live context, 38 it is revoked. */
+/* A request that was refused. The reasons of a protected one: 3 it opens to no text, 21 its protection cannot be read, 22 it names no live
+ * context, 23 its number is not fresh. Those of a post to authz-info: 23 it came before, and the context that it made is gone, 24 and 29 the scope or
+ * another claim of its token cannot be read, 25 its token opens to no text under the server's key, nor under the former one, 26 it has expired, 27 it
+ * is not valid yet, 28 it is for another audience, 30 it is no whole map with the fields of an exchange, 31 64 others have a live context, 38 it is
+ * revoked. */
 typedef struct osc_refused {
     osc_peer from;
     uint8_t code;   /* what it was answered */
@@ -128,9 +136,17 @@ typedef struct osc_proxy { void *held; } osc_proxy;
 int32_t osc_device_new(osc_device *device, const osc_key *key, const uint8_t *audience, size_t audience_length, const uint8_t *open,
                        size_t open_length, const uint8_t *own, size_t own_length, const osc_draw *draw);
 
-/* Gives the device a security context with its server, which `put`, `append` and `remove` need; also behind `restart`. OSC_UNVERIFIED with the
- * code where the server refuses it; else `code` is 0. Also OSC_BUSY, OSC_LOST, OSC_BAD_ARGUMENT, OSC_NO_MEMORY. Heap: while the context lives,
- * some 950 bytes. */
+/* Makes a device as `osc_device_new` does, with rules. A token that does not open under `key` is opened under the former key, where there is one.
+ * A context counts until its token ends, and for at most `context_seconds`, the device's own too: then it needs `open` again. `revoked` is the text
+ * of the revocation path, of at most 4 segments: a resource below it revokes the tokens of one id, as `revoke` says; "" for none.
+ * Answers as `osc_device_new`; also OSC_BAD_ARGUMENT where `has_old_key` is neither 0 nor 1, or `revoked` is no such text. */
+int32_t osc_device_new_with(osc_device *device, const osc_key *key, const uint8_t *audience, size_t audience_length, const uint8_t *open,
+                            size_t open_length, const uint8_t *own, size_t own_length, const osc_draw *draw, const osc_rules *rules,
+                            const uint8_t *revoked, size_t revoked_length);
+
+/* Gives the device a security context with its server, which `put`, `append`, `remove`, `revoke` and `allow` need; also behind `restart`.
+ * OSC_UNVERIFIED with the code where the server refuses it; else `code` is 0. Also OSC_BUSY, OSC_LOST, OSC_BAD_ARGUMENT, OSC_NO_MEMORY. Heap: while
+ * the context lives, some 950 bytes. */
 int32_t osc_device_open(osc_device *device, uint64_t now, const osc_draws *draws, uint8_t *code);
 
 /* The device writes, appends to, or removes a resource of its own server, as a holder of its token: what is promised of holders holds of it.
@@ -144,21 +160,28 @@ int32_t osc_device_append(osc_device *device, uint64_t now, const uint8_t *path,
                           size_t payload_length, const osc_draws *draws, uint8_t *code);
 int32_t osc_device_remove(osc_device *device, uint64_t now, const uint8_t *path, size_t path_length, const osc_draws *draws, uint8_t *code);
 
+/* `revoke` puts an empty value at the path for this id: the revocation path, and the hexadecimal digits of the id, 32 in a segment. While it is there
+ * no post of a token of this id makes a context, and no request under its contexts is served. `allow` removes what is at that path. Both are as `put`
+ * and `remove`: `own` must grant PUT and DELETE there, else `code` is 4.03 or 4.05, and nothing changes. OSC_BAD_ARGUMENT where the device has no
+ * revocation path, or the id is too long for it; one of at most 64 bytes never is. Otherwise as `put`. */
+int32_t osc_device_revoke(osc_device *device, uint64_t now, const uint8_t *id, size_t id_length, const osc_draws *draws, uint8_t *code);
+int32_t osc_device_allow(osc_device *device, uint64_t now, const uint8_t *id, size_t id_length, const osc_draws *draws, uint8_t *code);
+
 /* What stands at a path: OSC_NOTHING where nothing does, OSC_TOO_SHORT where `room` is less than value->length. Heap: the path, for the call. */
 int32_t osc_device_get(osc_device *device, const uint8_t *path, size_t path_length, uint8_t *payload, size_t room, osc_value *value);
 
 /* These bytes came from there as one datagram. Any bytes return OSC_DONE, but for want of memory or a bad moment. What is to be sent is taken by
  * `next`, and what was served or refused is told by `served` and `refused`, until the next call of `on_datagram`, `on_tick`, `open`, `put`,
- * `append`, `remove` or `restart`. OSC_BAD_ARGUMENT where `from` is 0.0.0.0, which no datagram comes from: the device's own place. Heap: for the
- * step. */
+ * `append`, `remove`, `revoke`, `allow` or `restart`. OSC_BAD_ARGUMENT where `from` is 0.0.0.0, which no datagram comes from: the device's own
+ * place. Heap: for the step. */
 int32_t osc_device_on_datagram(osc_device *device, uint64_t now, const osc_peer *from, const uint8_t *bytes, size_t length, const osc_draw *draw);
 
 /* What is due by now is done, whatever memory there is: at least each second, also while datagrams come. Heap: for what is sent, which is lost without. */
 int32_t osc_device_on_tick(osc_device *device, uint64_t now, const osc_draw *draw);
 
-/* What the last step learnt, where it was a tick, of what `open`, `put`, `append` or `remove` left open where it answered OSC_LOST: OSC_DONE, or
- * OSC_UNVERIFIED, and the code, as that call would have answered; else OSC_NOTHING: it is open still, or nothing was. It is told as long as what was
- * served is, so ask behind each tick. */
+/* What the last step learnt, where it was a tick, of what `open`, `put`, `append`, `remove`, `revoke` or `allow` left open where it answered
+ * OSC_LOST: OSC_DONE, or OSC_UNVERIFIED, and the code, as that call would have answered; else OSC_NOTHING: it is open still, or nothing was. It is
+ * told as long as what was served is, so ask behind each tick. */
 int32_t osc_device_learnt(osc_device *device, uint8_t *code);
 
 /* The first moment at which a tick does more than let go of what was heard long ago; OSC_NOTHING where none would. */

@@ -6,6 +6,7 @@ use Rattle.osc_model.specs.declared.node.Moment.{Moment}
 use Rattle.osc_model.specs.declared.node.Peer.{Peer}
 use Rattle.osc_c.specs.declared.calls.plain.PlainDraws.{PlainDraws}
 use Rattle.osc_c.specs.declared.calls.plain.PlainOptions.{PlainOptions}
+use Rattle.osc_c.specs.declared.calls.plain.PlainRules.{PlainRules}
 
 -- what a token is to claim
 pub record GivenClaims : Type 0 where
@@ -48,6 +49,11 @@ pub record GivenDevice : Type 0 where
   pub own : List ℕ
   pub draw : List ℕ
 
+-- what a device's server rules, beside its key and its audience, and the text of its revocation path
+pub record GivenRules : Type 0 where
+  pub plain : PlainRules
+  pub revoked : List ℕ
+
 -- a value for a path of a device
 pub record GivenValue : Type 0 where
   pub ms : ℕ
@@ -60,6 +66,12 @@ pub record GivenValue : Type 0 where
 pub record GivenPath : Type 0 where
   pub ms : ℕ
   pub path : List ℕ
+  pub draws : PlainDraws
+
+-- an id, whose tokens a device revokes, or lets in again
+pub record GivenId : Type 0 where
+  pub ms : ℕ
+  pub id : List ℕ
   pub draws : PlainDraws
 
 -- a datagram that came

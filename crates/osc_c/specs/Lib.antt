@@ -30,12 +30,13 @@ pub use Ciphers.{sealing, tags}
 pub use Client.{AskedBy, IsFresh, IsNewClient}
 pub use Device.{HeardAt, UnlessNowhere}
 pub use Ends.{At}
-pub use Given.{GivenDatagram, GivenGrant, GivenRequest, GivenValue, came_at}
+pub use Given.{GivenDatagram, GivenDevice, GivenGrant, GivenRequest, GivenRules, GivenValue, came_at}
 pub use Granted.{IsLawfulGrant, IsNoClient}
 pub use Held.{holds}
 pub use Last.{LastStep, nothing}
+pub use Making.{IsNewDevice, IsNoNewDevice, IsNoNewDeviceWith, IsOwnToken, rules_of}
 pub use Nodes.{ClientType, DeviceType, ProxyType}
 pub use Outcome.{number_of}
-pub use Own.{Asks, AsksBy, ComesTo, IsRefusal, Writing, asked_for, is_refused_by, last_after}
+pub use Own.{Asks, AsksBy, ComesTo, IsRefusal, Writing, asked_for, is_refused_by, last_after, revoked_by}
 pub use Plain.{draw_of, peer_of}
 pub use Told.{begun_as, learnt_as, refused_as, told_by, told_of}

@@ -1,8 +1,9 @@
 -- Devices that are made of keys, names and scopes.
-use Rattle.std.specs.Prelude.{◌≡◌, ℕ, ◌⊎◌, List, [], take, drop, codes, None}
+use Rattle.std.specs.Prelude.{◌≡◌, ℕ, ◌⊎◌, ◌==◌, ◌<◌, ◌≤◌, if◌then◌else◌, List, [], ◌∷◌, length, take, drop, codes, Option, Some, None}
 use Rattle.std.specs.Str.{IsUtf8}
 use Rattle.std.specs.FinMap as map
 use Rattle.std.specs.FinSet as set
+use Rattle.osc_model.specs.{IsPath, segments_of}
 use Rattle.osc_model.specs.Scope.{Scope}
 use Rattle.osc_ccm.specs.{Sealings}
 use Rattle.osc_scope.specs.{Entry, IsScope, scope_of}
@@ -14,12 +15,50 @@ use Rattle.osc_device.specs.declared.own_token.OwnToken.{OwnToken}
 use Rattle.osc_device.specs.declared.own_token.ServerParts.{ServerParts}
 use Rattle.osc_world.specs.declared.error.EnrollError.TheVariants as enroll
 use Rattle.osc_c.specs.Arguments.{IsUnfit}
-use Rattle.osc_c.specs.Given.{GivenDevice}
+use Rattle.osc_c.specs.Given.{GivenDevice, GivenRules}
 use Rattle.osc_c.specs.Last.{nothing}
 use Rattle.osc_c.specs.Tokens.{IsNoScope, IsNoScopeText, IsScopeOf}
 use Rattle.osc_c.specs.declared.calls.device.DeviceNode.{DeviceNode}
+use Rattle.osc_c.specs.declared.calls.making.Rules.{Rules}
 use Rattle.osc_c.specs.declared.calls.outcome.Outcome.{Outcome}
 use Rattle.osc_c.specs.declared.calls.outcome.Outcome.TheVariants.{BadArgument, BadScope, NoMemory, TooLong}
+use Rattle.osc_c.specs.declared.calls.plain.PlainRules.{PlainRules}
+
+-- ---- what its server rules
+
+-- a key, where the flag is 1
+abbrev pub old_key_of : PlainRules → Option (List ℕ)
+old_key_of plain = if plain.has_old_key == 1 then Some plain.old_key.bytes else None
+
+-- how many seconds a context counts; 0 is no limit
+abbrev pub limit_of : ℕ → Option ℕ
+limit_of seconds = if seconds == 0 then None else Some seconds
+
+-- the revocation path of this text; an empty one says none
+abbrev pub revoked_of : List ℕ → Option (List ℕ)
+revoked_of [] = None
+revoked_of (byte ∷ text) = Some (byte ∷ text)
+
+abbrev pub rules_of : GivenRules → Rules
+rules_of given = record { old_key = old_key_of given.plain; revoked = revoked_of given.revoked; seconds = limit_of given.plain.context_seconds }
+
+-- no former key, no revocation path, and no limit
+abbrev pub no_rules : Rules
+no_rules = record { old_key = None; revoked = None; seconds = None }
+
+-- an empty text, or that of a path of at most 4 segments: those of a token's id, of at most 64 bytes, are four more, and a path has at most 8
+abbrev pub IsRevocationText : List ℕ → Type 0
+IsRevocationText text = (text ≡ []) ⊎ (IsPath text × (length (segments_of text) ≤ 4))
+
+-- the flag is 0 or 1, and the text says a revocation path, or none
+abbrev pub AreRules : GivenRules → Type 0
+AreRules given = (given.plain.has_old_key ≤ 1) × IsRevocationText given.revoked
+
+-- why these are no rules
+abbrev pub AreNoRules : GivenRules → Type 0
+AreNoRules given = (1 < given.plain.has_old_key) ⊎ ¬ (IsRevocationText given.revoked)
+
+-- ---- what it is made of
 
 -- what a text grants to all: nothing where it is empty
 abbrev pub IsOpenScope : List ℕ → Scope → Type 0
@@ -28,10 +67,10 @@ IsOpenScope text scope =
     ⊎ ((bytes : List ℕ) × (entries : List Entry) × IsScopeOf text bytes × IsScope bytes entries × (scope ≡ scope_of entries))
 
 -- a server without resources
-abbrev pub AreParts : List ℕ → List ℕ → List ℕ → ServerParts → Type 0
-AreParts key audience free parts =
-    (parts.tree ≡ map.empty) × IsOpenScope free parts.open_scope × (parts.key ≡ key) × (parts.old_key ≡ None) × (parts.audience ≡ audience)
-    × (parts.revoked ≡ None) × (parts.context_seconds ≡ None)
+abbrev pub AreParts : GivenDevice → Rules → ServerParts → Type 0
+AreParts given rules parts =
+    (parts.tree ≡ map.empty) × IsOpenScope given.free parts.open_scope × (parts.key ≡ given.key) × (parts.old_key ≡ rules.old_key)
+    × (parts.audience ≡ given.audience) × (parts.revoked ≡ rules.revoked) × (parts.context_seconds ≡ rules.seconds)
 
 -- the device's own token: its secret are the first 16 bytes of the draw, and its IV the 13 behind them
 abbrev pub IsOwnToken : List ℕ → List ℕ → OwnToken → Type 0
@@ -59,20 +98,28 @@ unmade_as (Token enroll.TooLong) = TooLong
 unmade_as device.TooLong = TooLong
 unmade_as other = BadArgument
 
-abbrev pub IsNoNewDevice : GivenDevice → Outcome → Type 0
-IsNoNewDevice given outcome =
+abbrev pub IsNoNewDevice : GivenDevice → Rules → Outcome → Type 0
+IsNoNewDevice given rules outcome =
     IsNoServer given.audience given.free outcome ⊎ IsNoScope given.own outcome
-    ⊎ ((parts : ServerParts) × (token : OwnToken) × (error : NewError) × AreParts given.key given.audience given.free parts
+    ⊎ ((parts : ServerParts) × (token : OwnToken) × (error : NewError) × AreParts given rules parts
     × IsOwnToken given.own given.draw token × IsNoDevice parts token error × (outcome ≡ unmade_as error))
+
+-- the same where the rules are given: they are none, or there was no memory for them; or no device is made with them
+abbrev pub IsNoNewDeviceWith : GivenDevice → GivenRules → Outcome → Type 0
+IsNoNewDeviceWith given rules outcome = IsUnfit (AreNoRules rules) outcome ⊎ IsNoNewDevice given (rules_of rules) outcome
 
 -- `is_sealing algorithm` is the relation of the algorithm's cipher
 module _ (is_sealing : Sealings) where
   -- It begins with these parts and this token, which counts at its server, and has made no step.
-  pub record IsNewDevice (given : GivenDevice) (node : DeviceNode) : Type 0 where
+  pub record IsNewDevice (given : GivenDevice) (rules : Rules) (node : DeviceNode) : Type 0 where
     pub parts : ServerParts
     pub token : OwnToken
-    pub are_parts : AreParts given.key given.audience given.free parts
+    pub are_parts : AreParts given rules parts
     pub is_token : IsOwnToken given.own given.draw token
     pub begun : IsBegun is_sealing parts token node.device
     pub granted : (entries : List Entry) × IsScope token.scope entries × IsGranted is_sealing node.device (own_claims parts token) entries
     pub last : node.last ≡ nothing
+
+  -- the same with the rules that these are
+  abbrev pub IsNewDeviceWith : GivenDevice → GivenRules → DeviceNode → Type 0
+  IsNewDeviceWith given rules node = AreRules rules × IsNewDevice given (rules_of rules) node

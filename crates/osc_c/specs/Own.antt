@@ -1,6 +1,6 @@
 -- What a device does at its own server, by calls.
 use Rattle.std.specs.Prelude.{◌≡◌, ℕ, ◌<◌, ◌^◌, ◌⊎◌, Bool, true, false, if◌then◌else◌, List, [], Option, Some, None, ⊤}
-use Rattle.osc_model.specs.{IsPath}
+use Rattle.osc_model.specs.{IsPath, revocation_of}
 use Rattle.osc_model.specs.declared.code.Method.{Method}
 use Rattle.osc_model.specs.declared.code.Method.TheVariants.{Delete}
 use Rattle.osc_model.specs.declared.node.Moment.{Moment}
@@ -15,7 +15,7 @@ use Rattle.osc_token.specs.declared.claims.Claims.{Claims}
 use Rattle.osc_device.specs.{IsAnsweredWhereReady, IsOpen, IsWhole, MayOpen, own_request, AskedOfServer, AsksItsServer, Carries, asked_by, AllGoOn, IsOfAnEntry, noted}
 use Rattle.osc_device.specs.declared.round.Round.{Round}
 use Rattle.osc_c.specs.Arguments.{IsFormat, IsNoFormat, IsUnfit}
-use Rattle.osc_c.specs.Given.{GivenPath, GivenValue}
+use Rattle.osc_c.specs.Given.{GivenId, GivenPath, GivenValue}
 use Rattle.osc_c.specs.Last.{LastStep, nothing}
 use Rattle.osc_c.specs.Plain.{draw_of}
 use Rattle.osc_c.specs.Told.{bare, told_of}
@@ -53,6 +53,10 @@ ComesTo old told new Does =
 -- it is no moment, no path, or no format
 abbrev pub IsNoValue : GivenValue → Type 0
 IsNoValue given = ¬ (given.ms < 2 ^ 63) ⊎ ¬ (IsPath given.path) ⊎ IsNoFormat given.format
+
+-- the path whose resource revokes the tokens of this id, where the device has a revocation path and the id isn't too long for it
+abbrev pub revoked_by : DeviceNode → List ℕ → Option (List ℕ)
+revoked_by node id = revocation_of node.device.server.desk.rules.revoked id
 
 -- a value, which is put at its path, or appended to what is there
 pub record Writing : Type 0 where
@@ -108,3 +112,11 @@ module _ (is_sealing : Sealings) where
         ((now : Moment) × (now.ms ≡ given.ms)
         × ComesTo old told new (λ round. Asks old (asked_for given.draws now (own_request Delete given.path None [])) round new))
         ⊎ IsRejected (¬ (given.ms < 2 ^ 63) ⊎ ¬ (IsPath given.path)) old told new
+
+    -- The device asks for nothing but this method, at the path that revokes the tokens of this id: PUT revokes them, and DELETE lets them in again.
+    -- Where there is no such path, or for a bad moment, nothing changes.
+    abbrev pub AsksOfId : Method → DeviceNode → GivenId → Told → DeviceNode → Type 0
+    AsksOfId method old given told new =
+        ((now : Moment) × (path : List ℕ) × (now.ms ≡ given.ms) × (revoked_by old given.id ≡ Some path)
+        × ComesTo old told new (λ round. Asks old (asked_for given.draws now (own_request method path None [])) round new))
+        ⊎ IsRejected (¬ (given.ms < 2 ^ 63) ⊎ (revoked_by old given.id ≡ None)) old told new

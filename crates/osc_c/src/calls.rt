@@ -21,11 +21,12 @@ pub use client::{ClientNode, GivenGrant, GivenRequest};
 pub use device::DeviceNode;
 pub use filling::fill;
 pub use last::Last;
+pub use making::{GivenDevice, Rules};
 pub use outcome::Outcome;
 pub use own::GivenValue;
 pub use plain::{
     PlainDraw, PlainDraws, PlainIv, PlainKey, PlainOptions, PlainPeer, PlainRefused, PlainResult,
-    PlainServed, PlainValue,
+    PlainRules, PlainServed, PlainValue,
 };
 pub use proxy::{Forwarding, ProxyNode};
 pub use round::Told;

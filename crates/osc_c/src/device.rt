@@ -2,15 +2,17 @@
 ghost use Rattle.std.specs.Prelude.{◌≡◌};
 ghost use Rattle.std.specs.declared.option.Option.TheVariants.{None};
 ghost use Rattle.osc_c.specs.Device.{HeardBy, Restarts, TellsDeadline, TickedBy};
-ghost use Rattle.osc_c.specs.Given.{GivenDevice as Given};
+ghost use Rattle.osc_c.specs.Given.{GivenDevice as Given, GivenRules};
 ghost use Rattle.osc_c.specs.Last.{HandsOut};
-ghost use Rattle.osc_c.specs.Making.{IsNewDevice, IsNoNewDevice};
+ghost use Rattle.osc_c.specs.Making.{IsNewDevice, IsNewDeviceWith, IsNoNewDevice, IsNoNewDeviceWith, no_rules};
 ghost use Rattle.osc_c.specs.Plain.{draw_of, peer_of};
 ghost use Rattle.osc_c.specs.declared.calls.outcome.Outcome.TheVariants.{Done};
 ghost use Rattle.osc_c.specs.Calls.{Calls, Looks, Makes};
 ghost use Rattle.osc_c.specs.Ciphers.{sealing};
 
-use crate::calls::{DeviceNode, Outcome, PlainDraw, PlainKey, PlainPeer};
+use crate::calls::{
+    DeviceNode, GivenDevice, Outcome, PlainDraw, PlainKey, PlainPeer, PlainRules, Rules,
+};
 use crate::handle::{hold, taken, with};
 use crate::handles::DeviceHandle;
 use osc_ccm::Suite;
@@ -32,9 +34,48 @@ pub extern "C" fn osc_device_new(
     draw: &PlainDraw,
 ) -> i32
     ensures { let given : Given = record { key = key.now.bytes; audience = audience.now; free = free.now; own = own.now; draw = draw.now.bytes } in
-        Makes device.old.held result device.new.held (λ node. IsNewDevice sealing given node) (IsNoNewDevice given) }
+        Makes device.old.held result device.new.held (λ node. IsNewDevice sealing given no_rules node) (IsNoNewDevice given no_rules) }
 {
-    let made = DeviceNode::new::<Suite>(alloc, key, audience, free, own, draw);
+    let given = GivenDevice {
+        key,
+        audience,
+        free,
+        own,
+        draw,
+    };
+    let made = DeviceNode::new::<Suite>(alloc, &given, Rules::none());
+    hold(alloc, device, made).number()
+}
+
+/// Makes a device as `osc_device_new` does, whose server takes tokens under a former key, too, lets a context count for so many seconds, and
+/// revokes tokens by resources below the path of the text `revoked`, which is empty for none.
+///
+/// Answers as `osc_device_new`; and 34 where the flag of `rules` isn't 0 or 1, and where the text is no path, or one of more than 4 segments. Then
+/// what was held is held. Heap: some 38 KiB, for as long as it is held.
+#[unsafe(no_mangle)]
+pub extern "C" fn osc_device_new_with(
+    alloc: Global,
+    device: &mut DeviceHandle,
+    key: &PlainKey,
+    audience: &[u8],
+    free: &[u8],
+    own: &[u8],
+    draw: &PlainDraw,
+    rules: &PlainRules,
+    revoked: &[u8],
+) -> i32
+    ensures { let given : Given = record { key = key.now.bytes; audience = audience.now; free = free.now; own = own.now; draw = draw.now.bytes } in
+        let with : GivenRules = record { plain = rules.now; revoked = revoked.now } in
+        Makes device.old.held result device.new.held (λ node. IsNewDeviceWith sealing given with node) (IsNoNewDeviceWith given with) }
+{
+    let given = GivenDevice {
+        key,
+        audience,
+        free,
+        own,
+        draw,
+    };
+    let made = DeviceNode::new_with::<Suite>(alloc, &given, rules, revoked);
     hold(alloc, device, made).number()
 }
 

@@ -1,7 +1,7 @@
 //! What a device does at its own server.
 ghost use Rattle.std.specs.Prelude.{◌≡◌, ◌≢◌, pos};
-ghost use Rattle.osc_model.specs.declared.code.Method.TheVariants.{Post, Put};
-ghost use Rattle.osc_c.specs.Own.{AsksBy, OpensBy, RemovesBy};
+ghost use Rattle.osc_model.specs.declared.code.Method.TheVariants.{Delete, Post, Put};
+ghost use Rattle.osc_c.specs.Own.{AsksBy, AsksOfId, OpensBy, RemovesBy};
 ghost use Rattle.osc_c.specs.Calls.{Tells};
 ghost use Rattle.osc_c.specs.declared.calls.outcome.Outcome.TheVariants as outcome;
 ghost use Rattle.osc_c.specs.declared.calls.round.Told.{Told};
@@ -137,6 +137,56 @@ pub extern "C" fn osc_device_remove(
             ensures { (told : Told) × (result ≡ told.outcome) × (code.exit.now ≡ told.code)
                 × RemovesBy sealing tags node.old (record { ms = now; path = path.entry.now; draws = draws.entry.now }) told node.new }
         { tell(node.remove::<Suite>(alloc, now, path, draws), code) },
+    )
+    .number()
+}
+
+/// Revokes the tokens of this id: puts an empty value at the path that is for it below the revocation path.
+///
+/// Answers as `osc_device_put`; and 34 where the device has no revocation path, or the id is too long for one.
+#[unsafe(no_mangle)]
+pub extern "C" fn osc_device_revoke(
+    alloc: Global,
+    device: &mut DeviceHandle,
+    now: u64,
+    id: &[u8],
+    draws: &PlainDraws,
+    code: &mut u8,
+) -> i32
+    ensures { Tells device.old.held code.old (record { number = result; code = code.new }) device.new.held
+        (λ old told new. AsksOfId sealing tags Put old (record { ms = now; id = id.now; draws = draws.now }) told new) }
+{
+    with(
+        alloc,
+        device,
+        &mut |node|
+            ensures { (told : Told) × (result ≡ told.outcome) × (code.exit.now ≡ told.code)
+                × AsksOfId sealing tags Put node.old (record { ms = now; id = id.entry.now; draws = draws.entry.now }) told node.new }
+        { tell(node.revoke::<Suite>(alloc, now, id, draws), code) },
+    )
+    .number()
+}
+
+/// Lets the tokens of this id in again: removes what is at the path that is for it. Otherwise as `osc_device_revoke`.
+#[unsafe(no_mangle)]
+pub extern "C" fn osc_device_allow(
+    alloc: Global,
+    device: &mut DeviceHandle,
+    now: u64,
+    id: &[u8],
+    draws: &PlainDraws,
+    code: &mut u8,
+) -> i32
+    ensures { Tells device.old.held code.old (record { number = result; code = code.new }) device.new.held
+        (λ old told new. AsksOfId sealing tags Delete old (record { ms = now; id = id.now; draws = draws.now }) told new) }
+{
+    with(
+        alloc,
+        device,
+        &mut |node|
+            ensures { (told : Told) × (result ≡ told.outcome) × (code.exit.now ≡ told.code)
+                × AsksOfId sealing tags Delete node.old (record { ms = now; id = id.entry.now; draws = draws.entry.now }) told node.new }
+        { tell(node.allow::<Suite>(alloc, now, id, draws), code) },
     )
     .number()
 }

@@ -1,26 +1,130 @@
 //! A device of keys, names and scopes.
-ghost use Rattle.std.specs.Prelude.{◌≡◌, IfErr, IfOk, drop, take};
-ghost use Rattle.osc_c.specs.Making.{AreParts, IsNewDevice, IsNoNewDevice, IsNoOpenScope, IsNoServer, IsOpenScope, IsOwnToken, unmade_as};
+ghost use Rattle.std.specs.Prelude.{◌≡◌, ◌<◌, ◌≤◌, IfErr, IfOk, drop, take};
+ghost use Rattle.osc_c.specs.Arguments.{IsUnfit};
+ghost use Rattle.osc_c.specs.Given.{GivenRules as Given};
+ghost use Rattle.osc_c.specs.Making.{AreNoRules, AreParts, AreRules, IsNewDevice, IsNewDeviceWith, IsNoNewDevice, IsNoNewDeviceWith, IsNoOpenScope, IsNoServer, IsOpenScope, IsOwnToken, IsRevocationText, limit_of, no_rules, old_key_of, revoked_of, rules_of, unmade_as};
 ghost use Rattle.osc_c.specs.Tokens.{IsNoScope};
+ghost use Rattle.osc_c.specs.declared.calls.outcome.Outcome.TheVariants.{BadArgument};
 
+use crate::calls::arguments;
+use crate::calls::arguments::flag;
 use crate::calls::device::DeviceNode;
 use crate::calls::last::Last;
 use crate::calls::outcome::Outcome;
-use crate::calls::plain::{PlainDraw, PlainKey};
+use crate::calls::plain::{PlainDraw, PlainKey, PlainRules};
 use crate::calls::tokens::{audience, scope_bytes};
 use osc_ccm::Ciphers;
 use osc_device::{Device, NewError, OwnToken, ServerParts};
-use osc_model::Bytes;
+use osc_model::{Bytes, Path};
 use osc_scope::{Scope, ScopeError};
 use osc_tree::Tree;
 use osc_world::EnrollError;
 use std::alloc::Global;
+use std::marker::Model;
 
 /// By what the device's own token is named.
 const OWN_ID: &[u8] = b"device";
 
 /// How many bytes of a draw its secret has.
 const SECRET: usize = 16;
+
+/// The most segments of a revocation path: with those of a token's id it isn't too long.
+const MOST_SEGMENTS: usize = 4;
+
+/// What a device is made of, as numbers and bytes.
+#[derive(Drop)]
+pub struct GivenDevice<'a> {
+    /// The key of its server's tokens.
+    pub key: &'a PlainKey,
+    /// The name for which they are, in UTF-8.
+    pub audience: &'a [u8],
+    /// The text of what needs no protection; empty for nothing.
+    pub free: &'a [u8],
+    /// The text of what the device itself may do.
+    pub own: &'a [u8],
+    /// The random bytes of its own token.
+    pub draw: &'a PlainDraw,
+}
+
+impl<'a> Model for GivenDevice<'a> {
+    ghost use Rattle.osc_c.specs.Given.{GivenDevice as Given};
+
+    ghost Value = { Given };
+
+    ghost view = { λ g. record { key = g.key.now.bytes; audience = g.audience.now; free = g.free.now; own = g.own.now; draw = g.draw.now.bytes } };
+}
+
+/// What a device's server rules, beside its key and its audience.
+#[derive(Drop)]
+pub struct Rules {
+    /// The former key, at a change of key.
+    pub old_key: Option<[u8; 16]>,
+    /// The path below which a resource revokes a token.
+    pub revoked: Option<Path>,
+    /// How many seconds after the post that made it a context counts no more.
+    pub seconds: Option<u32>,
+}
+
+impl Rules {
+    /// No former key, no revocation path, and no limit.
+    pub fn none() -> Rules
+        ensures { result ≡ no_rules }
+    {
+        Rules {
+            old_key: None,
+            revoked: None,
+            seconds: None,
+        }
+    }
+
+    /// What these numbers and bytes rule.
+    fn of(alloc: Global, plain: &PlainRules, revoked: &[u8]) -> Result<Rules, Outcome>
+        ensures ok { let given : Given = record { plain = plain.now; revoked = revoked.now } in IfOk result (λ rules. (rules ≡ rules_of given) × AreRules given) }
+        ensures err { IfErr result (IsUnfit (AreNoRules (record { plain = plain.now; revoked = revoked.now }))) }
+    {
+        let old_key = old_key(plain)?;
+        Ok(Rules {
+            old_key,
+            revoked: revocation_path(alloc, revoked)?,
+            seconds: limit(plain.context_seconds),
+        })
+    }
+}
+
+/// The former key, where the flag is 1.
+fn old_key(plain: &PlainRules) -> Result<Option<[u8; 16]>, Outcome>
+    ensures ok { IfOk result (λ key. (key ≡ old_key_of plain.now) × (plain.now.has_old_key ≤ 1)) }
+    ensures err { IfErr result (λ outcome. (outcome ≡ BadArgument) × (1 < plain.now.has_old_key)) }
+{
+    let key = plain.old_key.bytes;
+    if flag(plain.has_old_key)? {
+        Ok(Some(key))
+    } else {
+        Ok(None)
+    }
+}
+
+/// The revocation path of this text: none where it is empty.
+fn revocation_path(alloc: Global, text: &[u8]) -> Result<Option<Path>, Outcome>
+    ensures ok { IfOk result (λ path. (path ≡ revoked_of text.now) × IsRevocationText text.now) }
+    ensures err { IfErr result (IsUnfit (¬ (IsRevocationText text.now))) }
+{
+    if text.is_empty() {
+        return Ok(None);
+    }
+    let path = arguments::path(alloc, text)?;
+    if path.segments() > MOST_SEGMENTS {
+        return Err(Outcome::BadArgument);
+    }
+    Ok(Some(path))
+}
+
+/// A limit: 0 seconds are none.
+fn limit(seconds: u32) -> Option<u32>
+    ensures { result ≡ limit_of seconds }
+{
+    if seconds == 0 { None } else { Some(seconds) }
+}
 
 /// The scope of what needs no protection: none where the text is empty.
 fn open_scope(alloc: Global, text: &[u8]) -> Result<Scope, Outcome>
@@ -39,19 +143,25 @@ fn open_scope(alloc: Global, text: &[u8]) -> Result<Scope, Outcome>
 }
 
 /// A server without resources.
-fn parts(alloc: Global, key: &PlainKey, name: &[u8], free: &[u8]) -> Result<ServerParts, Outcome>
-    ensures ok { IfOk result (AreParts key.now.bytes name.now free.now) }
-    ensures err { IfErr result (IsNoServer name.now free.now) }
+fn parts(alloc: Global, given: &GivenDevice<'_>, rules: Rules) -> Result<ServerParts, Outcome>
+    ensures ok { IfOk result (AreParts given.now rules) }
+    ensures err { IfErr result (IsNoServer given.now.audience given.now.free) }
 {
+    let key = given.key;
     let key = key.bytes;
+    let Rules {
+        old_key,
+        revoked,
+        seconds,
+    } = rules;
     Ok(ServerParts {
         tree: Tree::new(alloc),
-        open_scope: open_scope(alloc, free)?,
+        open_scope: open_scope(alloc, given.free)?,
         key,
-        old_key: None,
-        audience: audience(alloc, name)?,
-        revoked: None,
-        context_seconds: None,
+        old_key,
+        audience: audience(alloc, given.audience)?,
+        revoked,
+        context_seconds: seconds,
     })
 }
 
@@ -124,22 +234,17 @@ fn refused(error: NewError) -> Outcome
 }
 
 impl DeviceNode {
-    /// A device without resources. What `free` grants needs no protection, of which GETs alone count.
+    /// A device without resources, whose server rules this.
     pub fn new<A: Ciphers>(
         alloc: Global,
-        key: &PlainKey,
-        audience: &[u8],
-        free: &[u8],
-        own: &[u8],
-        draw: &PlainDraw,
+        given: &GivenDevice<'_>,
+        rules: Rules,
     ) -> Result<DeviceNode, Outcome>
-        ensures ok { IfOk result (λ node. IsNewDevice A.is_sealing
-            (record { key = key.now.bytes; audience = audience.now; free = free.now; own = own.now; draw = draw.now.bytes }) node) }
-        ensures err { IfErr result (IsNoNewDevice
-            (record { key = key.now.bytes; audience = audience.now; free = free.now; own = own.now; draw = draw.now.bytes })) }
+        ensures ok { IfOk result (λ node. IsNewDevice A.is_sealing given.now rules node) }
+        ensures err { IfErr result (IsNoNewDevice given.now rules) }
     {
-        let parts = parts(alloc, key, audience, free)?;
-        let own = own_token(alloc, own, draw)?;
+        let parts = parts(alloc, given, rules)?;
+        let own = own_token(alloc, given.own, given.draw)?;
         match Device::new::<A>(alloc, parts, own) {
             Ok(device) => Ok(DeviceNode {
                 device,
@@ -147,5 +252,19 @@ impl DeviceNode {
             }),
             Err(error) => Err(refused(error)),
         }
+    }
+
+    /// The same with what these numbers and bytes rule.
+    pub fn new_with<A: Ciphers>(
+        alloc: Global,
+        given: &GivenDevice<'_>,
+        plain: &PlainRules,
+        revoked: &[u8],
+    ) -> Result<DeviceNode, Outcome>
+        ensures ok { IfOk result (λ node. IsNewDeviceWith A.is_sealing given.now (record { plain = plain.now; revoked = revoked.now }) node) }
+        ensures err { IfErr result (IsNoNewDeviceWith given.now (record { plain = plain.now; revoked = revoked.now })) }
+    {
+        let rules = Rules::of(alloc, plain, revoked)?;
+        DeviceNode::new::<A>(alloc, given, rules)
     }
 }

@@ -2,7 +2,8 @@
 ghost use Rattle.std.specs.Prelude.{◌≡◌, ◌≢◌, ◌<◌, IfErr, IfOk};
 ghost use Rattle.osc_c.specs.Arguments.{IsUnfit};
 ghost use Rattle.osc_device.specs.{own_request};
-ghost use Rattle.osc_c.specs.Own.{Asks, AsksBy, ComesTo, IsNoValue, Opens, OpensBy, RemovesBy, asked_for, is_refused_by, last_after};
+ghost use Rattle.osc_model.specs.declared.code.Method.TheVariants.{Delete, Put};
+ghost use Rattle.osc_c.specs.Own.{Asks, AsksBy, AsksOfId, ComesTo, IsNoValue, Opens, OpensBy, RemovesBy, asked_for, is_refused_by, last_after};
 ghost use Rattle.osc_c.specs.Inner.Writes.{Reads};
 ghost use Rattle.osc_c.specs.Told.{told_of};
 ghost use Rattle.osc_c.specs.declared.calls.outcome.Outcome.TheVariants as outcome;
@@ -15,7 +16,7 @@ use crate::calls::outcome::Outcome;
 use crate::calls::plain::PlainDraws;
 use crate::calls::round::{Told, bare, what_is_told};
 use osc_ccm::Ciphers;
-use osc_device::Round;
+use osc_device::{OwnDraws, Round};
 use osc_model::{Bytes, ClientResult, Draw, ETags, Method, Moment, Path, Request};
 use std::alloc::Global;
 use std::marker::Model;
@@ -109,9 +110,13 @@ impl DeviceNode {
         ensures opens { ComesTo self.old result self.new (λ round. Opens A.is_sealing self.old now draws.now round self.new) }
         ensures fits { result.outcome ≢ outcome.TooLong }
     {
-        let own = draws.own.bytes;
-        let server = draws.server.bytes;
-        match self.device.open::<A>(alloc, now, &Draw(own), &Draw(server)) {
+        let own = Draw(draws.own.bytes);
+        let server = Draw(draws.server.bytes);
+        let both = OwnDraws {
+            own: &own,
+            server: &server,
+        };
+        match self.device.open::<A>(alloc, now, both) {
             Ok(round) => keep(&mut self.last, round),
             Err(_) => bare(Outcome::NoMemory),
         }
@@ -156,6 +161,60 @@ impl DeviceNode {
         }
     }
 
+    /// Revokes the tokens of this id: puts an empty value at the path that is for it. `BadArgument` where there is no such path.
+    pub fn revoke<A: Ciphers>(
+        &mut self,
+        alloc: Global,
+        now: u64,
+        id: &[u8],
+        draws: &PlainDraws,
+    ) -> Told
+        ensures { AsksOfId A.is_sealing A.TAG Put self.old (record { ms = now; id = id.now; draws = draws.now }) result self.new }
+    {
+        let now = match moment(now) {
+            Ok(now) => now,
+            Err(outcome) => return bare(outcome),
+        };
+        let own = Draw(draws.own.bytes);
+        let server = Draw(draws.server.bytes);
+        let both = OwnDraws {
+            own: &own,
+            server: &server,
+        };
+        match self.device.revoke::<A>(alloc, now, id, both) {
+            Ok(Some(round)) => keep(&mut self.last, round),
+            Ok(None) => bare(Outcome::BadArgument),
+            Err(_) => bare(Outcome::NoMemory),
+        }
+    }
+
+    /// Lets the tokens of this id in again: removes what is at the path that is for it. `BadArgument` where there is no such path.
+    pub fn allow<A: Ciphers>(
+        &mut self,
+        alloc: Global,
+        now: u64,
+        id: &[u8],
+        draws: &PlainDraws,
+    ) -> Told
+        ensures { AsksOfId A.is_sealing A.TAG Delete self.old (record { ms = now; id = id.now; draws = draws.now }) result self.new }
+    {
+        let now = match moment(now) {
+            Ok(now) => now,
+            Err(outcome) => return bare(outcome),
+        };
+        let own = Draw(draws.own.bytes);
+        let server = Draw(draws.server.bytes);
+        let both = OwnDraws {
+            own: &own,
+            server: &server,
+        };
+        match self.device.allow::<A>(alloc, now, id, both) {
+            Ok(Some(round)) => keep(&mut self.last, round),
+            Ok(None) => bare(Outcome::BadArgument),
+            Err(_) => bare(Outcome::NoMemory),
+        }
+    }
+
     /// Asks this of its server.
     fn ask_at<A: Ciphers>(
         &mut self,
@@ -167,12 +226,13 @@ impl DeviceNode {
         requires { 0 < request.now.code.0 }
         ensures { ComesTo self.old result self.new (λ round. Asks A.is_sealing A.TAG self.old (asked_for draws.now now request.now) round self.new) }
     {
-        let own = draws.own.bytes;
-        let server = draws.server.bytes;
-        match self
-            .device
-            .ask::<A>(alloc, now, request, &Draw(own), &Draw(server))
-        {
+        let own = Draw(draws.own.bytes);
+        let server = Draw(draws.server.bytes);
+        let both = OwnDraws {
+            own: &own,
+            server: &server,
+        };
+        match self.device.ask::<A>(alloc, now, request, both) {
             Ok(round) => keep(&mut self.last, round),
             Err(_) => bare(Outcome::NoMemory),
         }

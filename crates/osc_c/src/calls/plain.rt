@@ -48,6 +48,18 @@ pub struct PlainDraws {
     pub server: PlainDraw,
 }
 
+/// What a device's server rules, beside its key and its audience.
+#[repr(C)]
+#[derive(Clone, Copy)]
+pub struct PlainRules {
+    /// The former key, at a change of key.
+    pub old_key: PlainKey,
+    /// 1: the former key is there; 0: it isn't.
+    pub has_old_key: u8,
+    /// How many seconds after the post that made it a context counts no more; 0 for no limit.
+    pub context_seconds: u32,
+}
+
 /// What stands at a path.
 #[repr(C)]
 #[derive(Clone, Copy)]
