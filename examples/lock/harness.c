@@ -150,6 +150,7 @@ typedef struct world {
 } world;
 
 static const osc_key KEY = {{1, 2, 3, 4, 5, 6, 7, 8, 9, 10, 11, 12, 13, 14, 15, 16}};
+static const osc_key OLD_KEY = {{16, 15, 14, 13, 12, 11, 10, 9, 8, 7, 6, 5, 4, 3, 2, 1}};
 static const uint8_t SECRETS[CLIENTS][16] = {{1}, {2}};
 static const char *const NAMES[CLIENTS] = {"owner", "guest"};
 
@@ -164,25 +165,42 @@ static int32_t new_device(osc_device *device) {
     return osc_device_new(device, &KEY, TEXT("door"), TEXT("/e:GET"), TEXT("/e:GET+PUT+DELETE,/log:POST+DELETE,/d:GET+POST+PUT+DELETE+SUB"), &it);
 }
 
+/* A device with these rules, and a revocation path of this text, which may do this. */
+static int32_t device_with(osc_device *device, const osc_rules *rules, const char *revoked, const char *own) {
+    osc_draw it = draw();
+    return osc_device_new_with(device, &KEY, TEXT("door"), TEXT("/e:GET"), (const uint8_t *)own, strlen(own), &it, rules, (const uint8_t *)revoked,
+                               strlen(revoked));
+}
+
+/* A device that takes tokens under the former key, too, whose contexts count for ten seconds, and which revokes below /gone. */
+static int32_t new_device_with(osc_device *device) {
+    osc_rules rules = {OLD_KEY, 1, 10};
+    return device_with(device, &rules, "/gone", "/e:GET+PUT,/gone:PUT+DELETE+SUB");
+}
+
 /* Mints the token of one of the clients. */
-static int32_t mint(size_t client, uint8_t *token, size_t room, size_t *length) {
+static int32_t mint_under(const osc_key *key, size_t client, uint8_t *token, size_t room, size_t *length) {
     osc_iv iv = {{0}};
     uint8_t id = (uint8_t)(client + 1);
     iv.bytes[12] = id;
-    return osc_token_mint(&KEY, TEXT("door"), &id, 1, SECRETS[client], 16, (const uint8_t *)NAMES[client], strlen(NAMES[client]), 1,
+    return osc_token_mint(key, TEXT("door"), &id, 1, SECRETS[client], 16, (const uint8_t *)NAMES[client], strlen(NAMES[client]), 1,
                           TEXT("/e:GET+PUT,/log:GET+POST+DELETE"), 0, 0, client ? 30 : 10, &iv, token, room, length);
 }
 
-static int32_t new_client(osc_client *client, size_t which) {
+static int32_t mint(size_t client, uint8_t *token, size_t room, size_t *length) { return mint_under(&KEY, client, token, room, length); }
+
+static int32_t new_client_under(const osc_key *key, osc_client *client, size_t which) {
     uint8_t token[512];
     size_t length = 0;
     osc_peer hop = peer(which ? PROXY_PORT : DEVICE_PORT);
-    int32_t number = mint(which, token, sizeof token, &length);
+    int32_t number = mint_under(key, which, token, sizeof token, &length);
     if (number != OSC_DONE) return number;
     const char *host = which ? "door" : "";
     return osc_client_new(client, &hop, (const uint8_t *)host, strlen(host), DEVICE_PORT, token, length, SECRETS[which], 16, TEXT(""),
                           (const uint8_t *)NAMES[which], strlen(NAMES[which]), 1, which ? 30 : 10);
 }
+
+static int32_t new_client(osc_client *client, size_t which) { return new_client_under(&KEY, client, which); }
 
 static int32_t new_proxy(osc_proxy *proxy) {
     osc_peer to = peer(DEVICE_PORT);
@@ -327,6 +345,33 @@ static int written(world *w, uint8_t method, const char *path, const char *paylo
     return 1;
 }
 
+/* `revoke`, and else `allow`. */
+static int32_t revokes(world *w, int revoke, const uint8_t *id, size_t length, uint8_t *code) {
+    osc_draws draws = two_draws();
+    return (revoke ? osc_device_revoke : osc_device_allow)(&w->device, w->now, id, length, &draws, code);
+}
+
+/* The device revokes the token of one of the clients, or lets it in again, and is answered this. */
+static int revoked(world *w, int revoke, size_t client, uint8_t wanted) {
+    uint8_t id = (uint8_t)(client + 1), code = 0;
+    int32_t number = revokes(w, revoke, &id, 1, &code);
+    if (refused) CLAIM(number == OSC_DONE || number == OSC_NO_MEMORY || number == OSC_LOST);
+    NEEDS(number == OSC_DONE);
+    NEEDS(code == wanted);
+    return 1;
+}
+
+/* Posts its token, and is refused by 4.01. */
+static int is_shut_out(world *w, size_t at) {
+    osc_draw it = draw();
+    w->results[at].what = 0;
+    NEEDS(osc_client_exchange(&w->clients[at], w->now, &it) == OSC_DONE);
+    heed_client(w, at);
+    NEEDS(quiet(w));
+    NEEDS(w->results[at].what == OSC_ENDED && w->results[at].code == 0x81);
+    return 1;
+}
+
 static int reads(world *w, const char *path, const char *wanted) {
     uint8_t payload[ROOM];
     osc_value value;
@@ -346,7 +391,12 @@ static int play(world *w) {
     if (!written(w, 4, "/log", "", 0x42)) return 0;
     NEEDS(osc_device_restart(&w->device) == OSC_DONE);
     if (!opens(w) || !exchange(w, 0)) return 0;
-    return asks(w, 0, 1, "/e", "", 0x45);
+    if (!asks(w, 0, 1, "/e", "", 0x45)) return 0;
+    NEEDS(new_device_with(&w->device) == OSC_DONE);
+    if (!opens(w) || !written(w, 3, "/e", "open", 0x41)) return 0;
+    if (!revoked(w, 1, 1, 0x41) || !is_shut_out(w, 1)) return 0;
+    if (!revoked(w, 0, 1, 0x42) || !exchange(w, 1)) return 0;
+    return asks(w, 1, 1, "/e", "", 0x45);
 }
 
 /* ---- handles that hold nothing */
@@ -366,6 +416,8 @@ static void nothing_of_a_device(void) {
     ANSWERS(OSC_NOTHING, osc_device_put(&none, 0, TEXT("/e"), -1, TEXT(""), &draws, &code));
     ANSWERS(OSC_NOTHING, osc_device_append(&none, 0, TEXT("/e"), -1, TEXT(""), &draws, &code));
     ANSWERS(OSC_NOTHING, osc_device_remove(&none, 0, TEXT("/e"), &draws, &code));
+    ANSWERS(OSC_NOTHING, osc_device_revoke(&none, 0, TEXT("1"), &draws, &code));
+    ANSWERS(OSC_NOTHING, osc_device_allow(&none, 0, TEXT("1"), &draws, &code));
     ANSWERS(OSC_NOTHING, osc_device_get(&none, TEXT("/e"), bytes, sizeof bytes, &value));
     ANSWERS(OSC_NOTHING, osc_device_on_datagram(&none, 0, &from, TEXT("x"), &it));
     ANSWERS(OSC_NOTHING, osc_device_on_tick(&none, 0, &it));
@@ -446,6 +498,26 @@ static void bad_devices(void) {
     osc_device_free(&it);
 }
 
+/* What is no rule makes no device, and what is held stays. */
+static void bad_rules(void) {
+    static const char *const BAD_ROOTS[] = {"/", "gone", "//", "/a/b/c/d/e", "/a/b/c/d/", "/123456789012345678901234567890123", "/\xff"};
+    osc_device it = {0};
+    osc_rules rules = {KEY, 0, 0};
+    for (size_t at = 0; at < sizeof BAD_ROOTS / sizeof BAD_ROOTS[0]; at++) ANSWERS(OSC_BAD_ARGUMENT, device_with(&it, &rules, BAD_ROOTS[at], "/e:GET"));
+    rules.has_old_key = 2;
+    ANSWERS(OSC_BAD_ARGUMENT, device_with(&it, &rules, "", "/e:GET"));
+    CLAIM(it.held == NULL && held == 0);
+    rules.has_old_key = 1;
+    rules.context_seconds = UINT32_MAX;
+    ANSWERS(OSC_BAD_SCOPE, device_with(&it, &rules, "/gone", "/e:get"));
+    ANSWERS(OSC_DONE, device_with(&it, &rules, "", "/e:GET"));
+    ANSWERS(OSC_DONE, device_with(&it, &rules, "/a/b/c/d", "/e:GET"));
+    void *before = it.held;
+    ANSWERS(OSC_BAD_ARGUMENT, device_with(&it, &rules, "gone", "/e:GET"));
+    CLAIM(it.held == before);
+    osc_device_free(&it);
+}
+
 enum { MOST_ENTRIES = 4000, ENTRY = 20 };
 
 /* A device whose own scope has so many entries. */
@@ -493,6 +565,9 @@ static void bad_moments(world *w) {
     uint8_t code;
     ANSWERS(OSC_BAD_ARGUMENT, osc_device_open(&w->device, late, &draws, &code));
     ANSWERS(OSC_BAD_ARGUMENT, osc_device_put(&w->device, late, TEXT("/e"), -1, TEXT("x"), &draws, &code));
+    ANSWERS(OSC_DONE, new_device_with(&w->device));
+    ANSWERS(OSC_BAD_ARGUMENT, osc_device_revoke(&w->device, late, TEXT("1"), &draws, &code));
+    ANSWERS(OSC_BAD_ARGUMENT, osc_device_allow(&w->device, late, TEXT("1"), &draws, &code));
     ANSWERS(OSC_BAD_ARGUMENT, osc_device_on_datagram(&w->device, late, &from, TEXT("x"), &it));
     ANSWERS(OSC_BAD_ARGUMENT, osc_device_on_datagram(&w->device, w->now, &nowhere, TEXT("x"), &it));
     ANSWERS(OSC_BAD_ARGUMENT, osc_device_on_tick(&w->device, UINT64_MAX, &it));
@@ -608,6 +683,84 @@ static void writing(world *w) {
     long_text[512] = '\0';
     CLAIM(writes(w, 3, "/e", long_text, &code) == OSC_DONE && code == 0x44);
     CLAIM(reads(w, "/e", long_text));
+}
+
+/* A token that is revoked makes no context, and its context serves nothing, until it is let in again. Others are served all the same. */
+static void revoking(world *w) {
+    uint8_t code = 0xee;
+    const uint8_t id = 1;
+    ANSWERS(OSC_DONE, new_device_with(&w->device));
+    ANSWERS(OSC_NO_CONTEXT, revokes(w, 1, &id, 1, &code));
+    CLAIM(code == 0 && opens(w) && written(w, 3, "/e", "open", 0x41) && exchange(w, 0) && exchange(w, 1));
+    CLAIM(asks(w, 0, 1, "/e", "", 0x45) && asks(w, 1, 1, "/e", "", 0x45));
+    CLAIM(revoked(w, 1, 0, 0x41) && reads(w, "/gone/01", ""));
+    ANSWERS(OSC_DONE, ask(w, 0, 1, "/e", ""));
+    CLAIM(quiet(w) && w->results[0].what == OSC_ENDED && w->results[0].code == 0x81);
+    CLAIM(w->why.code == 0x81 && w->why.reason == 22);
+    CLAIM(is_shut_out(w, 0) && w->why.code == 0x81 && w->why.reason == 38);
+    CLAIM(asks(w, 1, 1, "/e", "", 0x45) && revoked(w, 1, 0, 0x44));
+    CLAIM(revoked(w, 0, 0, 0x42) && revoked(w, 0, 0, 0x42));
+    CLAIM(exchange(w, 0) && asks(w, 0, 1, "/e", "", 0x45));
+}
+
+/* Ids that have no path: of a device without a revocation path, and where the digits are too many. And ids that its own scope doesn't name. */
+static void not_revoked(world *w) {
+    static const uint8_t ids[65] = {1};
+    osc_rules rules = {KEY, 0, 0};
+    uint8_t code = 0xee;
+    CLAIM(opens(w));
+    ANSWERS(OSC_BAD_ARGUMENT, revokes(w, 1, ids, 1, &code));
+    ANSWERS(OSC_BAD_ARGUMENT, revokes(w, 0, ids, 1, &code));
+    CLAIM(code == 0);
+    ANSWERS(OSC_DONE, device_with(&w->device, &rules, "/a/b/c/d", "/a/b/c/d:PUT+DELETE+SUB"));
+    CLAIM(opens(w));
+    ANSWERS(OSC_BAD_ARGUMENT, revokes(w, 1, ids, 65, &code));
+    ANSWERS(OSC_BAD_ARGUMENT, revokes(w, 0, ids, 65, &code));
+    CLAIM(revokes(w, 1, ids, 64, &code) == OSC_DONE && code == 0x41 && revokes(w, 0, ids, 64, &code) == OSC_DONE && code == 0x42);
+    CLAIM(revokes(w, 1, ids, 33, &code) == OSC_DONE && code == 0x41);
+    CLAIM(reads(w, "/a/b/c/d/01000000000000000000000000000000/00000000000000000000000000000000/00", ""));
+    CLAIM(revokes(w, 1, ids, 0, &code) == OSC_DONE && code == 0x41 && reads(w, "/a/b/c/d", ""));
+    ANSWERS(OSC_DONE, device_with(&w->device, &rules, "/gone", "/e:PUT,/gone:DELETE+SUB"));
+    CLAIM(opens(w) && revokes(w, 1, ids, 1, &code) == OSC_DONE && code == 0x85);
+    ANSWERS(OSC_DONE, device_with(&w->device, &rules, "/gone", "/e:PUT"));
+    CLAIM(opens(w) && written(w, 3, "/e", "open", 0x41) && revokes(w, 1, ids, 1, &code) == OSC_DONE && code == 0x83);
+    CLAIM(exchange(w, 0) && asks(w, 0, 1, "/e", "", 0x45));
+}
+
+/* A token under the former key makes a context at a device that has it, and at no other. */
+static void former_key(world *w) {
+    osc_rules rules = {OLD_KEY, 0, 0};
+    ANSWERS(OSC_DONE, new_client_under(&OLD_KEY, &w->clients[0], 0));
+    ANSWERS(OSC_DONE, device_with(&w->device, &rules, "", "/e:PUT"));
+    CLAIM(is_shut_out(w, 0) && w->why.reason == 25);
+    rules.has_old_key = 1;
+    ANSWERS(OSC_DONE, device_with(&w->device, &rules, "", "/e:PUT"));
+    CLAIM(opens(w) && written(w, 3, "/e", "open", 0x41));
+    CLAIM(exchange(w, 0) && exchange(w, 1) && asks(w, 0, 1, "/e", "", 0x45) && asks(w, 1, 1, "/e", "", 0x45));
+}
+
+/* Ten seconds after its post a context counts no more, the device's own neither; and that post, in a new message, is known. */
+static void ten_seconds(world *w) {
+    uint8_t code = 0xee;
+    size_t made;
+    ANSWERS(OSC_DONE, new_device_with(&w->device));
+    CLAIM(opens(w) && written(w, 3, "/e", "open", 0x41));
+    made = w->sent;
+    CLAIM(exchange(w, 0));
+    datagram post = w->past[made % PAST];
+    post.bytes[2] ^= 0x55;
+    w->now += 9999;
+    CLAIM(asks(w, 0, 1, "/e", "", 0x45) && written(w, 3, "/e", "shut", 0x44));
+    w->now += 1;
+    ANSWERS(OSC_DONE, ask(w, 0, 1, "/e", ""));
+    CLAIM(quiet(w) && w->results[0].what == OSC_ENDED && w->results[0].code == 0x81 && w->why.reason == 22);
+    ANSWERS(OSC_UNVERIFIED, writes(w, 3, "/e", "x", &code));
+    CLAIM(code == 0x81);
+    w->results[0].what = 0;
+    ANSWERS(OSC_DONE, deliver(w, &post));
+    CLAIM(w->why.code == 0x81 && w->why.reason == 23);
+    w->waiting = 0;
+    CLAIM(opens(w) && written(w, 3, "/e", "open", 0x44) && exchange(w, 0) && asks(w, 0, 1, "/e", "", 0x45));
 }
 
 static void reading(world *w) {
@@ -889,6 +1042,7 @@ static void all_claims(void) {
     nothing_of_a_proxy();
     handles();
     bad_devices();
+    bad_rules();
     a_long_scope();
     bad_clients();
     tokens();
@@ -896,6 +1050,10 @@ static void all_claims(void) {
     in_a_world(bad_moments);
     in_a_world(bad_requests);
     in_a_world(writing);
+    in_a_world(revoking);
+    in_a_world(not_revoked);
+    in_a_world(former_key);
+    in_a_world(ten_seconds);
     in_a_world(reading);
     in_a_world(unprotected);
     in_a_world(whole_exchange);
@@ -1014,13 +1172,15 @@ static void some_call_of_a_device(world *w) {
     uint8_t bytes[ROOM], others[ROOM], code = 0, method = (uint8_t)(2 + below(3));
     const char *path = some_path(), *payload = some_payload();
     size_t room = below(600), small = below(20), smaller = below(20), smallest = below(20);
-    switch (below(8)) {
+    switch (below(10)) {
     case 0: tell(osc_device_open(&w->device, w->now, &draws, &code)); break;
     case 1: tell(osc_device_on_tick(&w->device, w->now, &it)); break;
     case 2: tell(osc_device_get(&w->device, (const uint8_t *)path, strlen(path), bytes, room, &value)); break;
     case 3: tell(osc_device_next(&w->device, &to, bytes, small, &length)); break;
     case 4: tell(osc_device_served(&w->device, &served, bytes, small, others, smaller, w->context, smallest)); break;
     case 5: tell(osc_device_learnt(&w->device, &code)); break;
+    case 6: tell(osc_device_revoke(&w->device, w->now, (const uint8_t *)path, small % 4, &draws, &code)); break;
+    case 7: tell(osc_device_allow(&w->device, w->now, (const uint8_t *)path, small % 4, &draws, &code)); break;
     default: tell(writes(w, method, path, payload, &code)); break;
     }
     heed_device(w);
@@ -1051,7 +1211,7 @@ static void some_end(world *w) {
     case 5: tell(osc_proxy_restart(&w->proxy)); break;
     default: break;
     }
-    if (!w->device.held) tell(new_device(&w->device));
+    if (!w->device.held) tell(below(2) ? new_device(&w->device) : new_device_with(&w->device));
     if (!w->clients[at].held) tell(new_client(&w->clients[at], at));
     if (!w->proxy.held) tell(new_proxy(&w->proxy));
     refuse = kept;
