@@ -2,15 +2,19 @@
  * and a forward proxy, as values behind handles. No socket, no clock, no generator and no thread: the caller hands in what came, when it came
  * and random bytes, and sends what comes out.
  *
- * Calls. Each answers a number: OSC_DONE, or why not. After any other number than OSC_DONE the node is as it was before the call, unless the
- * call's own text says more; its last step stands too, so look at what was served, refused or learnt only behind OSC_DONE.
+ * Calls. Each answers a number: OSC_DONE, or why not. OSC_LOST and OSC_UNVERIFIED say that something was begun. After any other number than
+ * these and OSC_DONE the node is as it was before the call, unless the call's own text says more.
  *
- * Pointers. None may be null, also where a length is 0 (hand in "" then). What they point to is not kept behind the call. What is written to
+ * Steps. What a step leaves stands until the next: the datagrams that are to be sent, and what was served, refused or learnt. So take the
+ * datagrams by `next` before another step. A device's own calls (`open`, `put` and the like) leave nothing of the step before them, once
+ * something was begun. A call that is refused leaves the last step as it was: look at what was served, refused or learnt only after OSC_DONE.
+ *
+ * Pointers. None may be null, also where a length is 0 (hand in "" then). What they point to is not kept after the call. What is written to
  * must not overlap with anything else that is handed in.
  *
  * Handles. A handle is all zero bytes where it holds nothing: `osc_device door = {0};`. `new` puts a node there, in the place of one that it
  * held; `free` lets it go, and does nothing where none is held. A handle must not be copied, and be used by one call at a time, by the thread
- * that made its node. A call on a handle that holds nothing answers OSC_NOTHING.
+ * that made its node. A call on a handle that holds nothing answers OSC_NOTHING, and leaves a `code` as it was.
  *
  * Heap. Nodes are on the heap: by malloc, realloc and free of the program, or three functions of these names of its own. What a call may take
  * of it stands with the call; one that says nothing takes none. `on_datagram`, `on_tick`, `exchange` and `ask` take it for their step: what is
@@ -19,7 +23,7 @@
  * Moments are milliseconds since 1970, below 2^63, and do not fall from call to call. Draws are 32 bytes of a generator that nobody can guess,
  * new for each: what is promised of keys and nonces rests on their not coming twice.
  *
- * Texts are bytes with a length, without a zero behind them. A path is 1 to 8 segments with a `/` before each, of 1 to 32 bytes of UTF-8. A
+ * Texts are bytes with a length, without a zero after them. A path is 1 to 8 segments with a `/` before each, of 1 to 32 bytes of UTF-8. A
  * scope is a list of paths with methods, as "/log:GET+POST,/t:GET+SUB"; a last +SUB lets the methods count below the path, too. */
 #ifndef OSC_H
 #define OSC_H
@@ -43,8 +47,8 @@ extern "C" {
 #define OSC_BAD_SCOPE 24   /* the text is no scope */
 #define OSC_NOTHING 33     /* there is none: no node, no datagram, nothing served, nothing learnt, no resource, no deadline */
 #define OSC_BAD_ARGUMENT 34 /* an argument is out of its range: a moment, a path, a method, a format, a length */
-#define OSC_LOST 35        /* memory was wanting on the way: what was begun is open, and a tick goes on with it */
-#define OSC_UNVERIFIED 36  /* what was begun ended by an unprotected answer */
+#define OSC_LOST 35        /* there was no memory on the way: what was begun is open, and a tick goes on with it */
+#define OSC_UNVERIFIED 36  /* what was begun ended by an unprotected answer, or by none in time: the code is 0 then */
 #define OSC_NOT_NOW 37     /* the proxy has heard something already */
 
 /* ---- what goes in and comes out */
@@ -130,7 +134,7 @@ typedef struct osc_proxy { void *held; } osc_proxy;
 
 /* Makes a device without resources. Its server takes tokens that are sealed under `key` and for `audience` (UTF-8). GETs that `open` grants need
  * no protection ("" for none). The device itself may do what `own` grants: its own token, of the id "device", which no other token may have, is
- * minted here; its secret and its IV come of the draw. An empty `own` is no scope. Heap: some 38 KB, for as long as it is held.
+ * minted here; its secret and its IV are taken from the draw. An empty `own` is no scope. Heap: some 38 KiB, for as long as it is held.
  * OSC_TOO_LONG where `own` and `audience` are so long that the post of the device's token, which `open` sends, fits no datagram: together they may
  * have some 900 bytes. Also OSC_BAD_SCOPE, OSC_BAD_ARGUMENT, OSC_NO_MEMORY. */
 int32_t osc_device_new(osc_device *device, const osc_key *key, const uint8_t *audience, size_t audience_length, const uint8_t *open,
@@ -144,7 +148,7 @@ int32_t osc_device_new_with(osc_device *device, const osc_key *key, const uint8_
                             size_t open_length, const uint8_t *own, size_t own_length, const osc_draw *draw, const osc_rules *rules,
                             const uint8_t *revoked, size_t revoked_length);
 
-/* Gives the device a security context with its server, which `put`, `append`, `remove`, `revoke` and `allow` need; also behind `restart`.
+/* Gives the device a security context with its server, which `put`, `append`, `remove`, `revoke` and `allow` need; also after `restart`.
  * OSC_UNVERIFIED with the code where the server refuses it; else `code` is 0. Also OSC_BUSY, OSC_LOST, OSC_BAD_ARGUMENT, OSC_NO_MEMORY. Heap: while
  * the context lives, some 950 bytes. */
 int32_t osc_device_open(osc_device *device, uint64_t now, const osc_draws *draws, uint8_t *code);
@@ -152,8 +156,8 @@ int32_t osc_device_open(osc_device *device, uint64_t now, const osc_draws *draws
 /* The device writes, appends to, or removes a resource of its own server, as a holder of its token: what is promised of holders holds of it.
  * `code` is the answer's, as 0x41 (2.01 Created) or 0x44 (2.04 Changed), where OSC_DONE or OSC_UNVERIFIED is answered, and else 0. `format` is
  * -1 for none.
- * Also OSC_TOO_LONG, OSC_BUSY, OSC_EXHAUSTED, OSC_NO_CONTEXT, OSC_LOST, OSC_BAD_ARGUMENT, OSC_NO_MEMORY. Behind OSC_LOST a tick goes on, and what
- * came of it is told by `learnt`. Heap: what is stored. */
+ * Also OSC_TOO_LONG, OSC_BUSY, OSC_EXHAUSTED, OSC_NO_CONTEXT, OSC_LOST, OSC_BAD_ARGUMENT, OSC_NO_MEMORY. After OSC_LOST a tick goes on, and what
+ * it learnt is told by `learnt`. Heap: what is stored. */
 int32_t osc_device_put(osc_device *device, uint64_t now, const uint8_t *path, size_t path_length, int32_t format, const uint8_t *payload,
                        size_t payload_length, const osc_draws *draws, uint8_t *code);
 int32_t osc_device_append(osc_device *device, uint64_t now, const uint8_t *path, size_t path_length, int32_t format, const uint8_t *payload,
@@ -170,7 +174,7 @@ int32_t osc_device_allow(osc_device *device, uint64_t now, const uint8_t *id, si
 /* What stands at a path: OSC_NOTHING where nothing does, OSC_TOO_SHORT where `room` is less than value->length. Heap: the path, for the call. */
 int32_t osc_device_get(osc_device *device, const uint8_t *path, size_t path_length, uint8_t *payload, size_t room, osc_value *value);
 
-/* These bytes came from there as one datagram. Any bytes return OSC_DONE, but for want of memory or a bad moment. What is to be sent is taken by
+/* These bytes came from there as one datagram. Any bytes return OSC_DONE, unless memory is out or the moment is bad. What is to be sent is taken by
  * `next`, and what was served or refused is told by `served` and `refused`, until the next call of `on_datagram`, `on_tick`, `open`, `put`,
  * `append`, `remove`, `revoke`, `allow` or `restart`. OSC_BAD_ARGUMENT where `from` is 0.0.0.0, which no datagram comes from: the device's own
  * place. Heap: for the step. */
@@ -181,7 +185,7 @@ int32_t osc_device_on_tick(osc_device *device, uint64_t now, const osc_draw *dra
 
 /* What the last step learnt, where it was a tick, of what `open`, `put`, `append`, `remove`, `revoke` or `allow` left open where it answered
  * OSC_LOST: OSC_DONE, or OSC_UNVERIFIED, and the code, as that call would have answered; else OSC_NOTHING: it is open still, or nothing was. It is
- * told as long as what was served is, so ask behind each tick. */
+ * told as long as what was served is, so ask after each tick. */
 int32_t osc_device_learnt(osc_device *device, uint8_t *code);
 
 /* The first moment at which a tick does more than let go of what was heard long ago; OSC_NOTHING where none would. */
@@ -199,7 +203,7 @@ int32_t osc_device_served(osc_device *device, osc_served *served, uint8_t *path,
 /* The request that the last step refused; OSC_NOTHING where it refused none. */
 int32_t osc_device_refused(osc_device *device, osc_refused *refused);
 
-/* Starts again: resources stay, security contexts are gone, and holders post their tokens anew. The device does so by `open`. */
+/* Starts again: resources stay, security contexts are gone, and holders post their tokens again. The device does so by `open`. */
 int32_t osc_device_restart(osc_device *device);
 
 void osc_device_free(osc_device *device);
@@ -208,7 +212,7 @@ void osc_device_free(osc_device *device);
 
 /* Makes a client that was granted this token, with the secret, the salt and the id context that the token has (`has_context` is 1; or 0 where it
  * has none), and the algorithm of its contexts, 10 or 30. It sends to `next_hop`: the server itself where `host_length` is 0, else a proxy that
- * knows the server by this host (1 to 255 bytes) and port. Heap: some 19 KB, for as long as it is held.
+ * knows the server by this host (1 to 255 bytes) and port. Heap: some 19 KiB, for as long as it is held.
  * Also OSC_BAD_ARGUMENT, OSC_NO_MEMORY. */
 int32_t osc_client_new(osc_client *client, const osc_peer *next_hop, const uint8_t *host, size_t host_length, uint16_t port, const uint8_t *token,
                        size_t token_length, const uint8_t *secret, size_t secret_length, const uint8_t *salt, size_t salt_length,
