@@ -8,6 +8,7 @@ static any const CALLS[] = {
     (any)osc_device_new,    (any)osc_device_open,    (any)osc_device_put,           (any)osc_device_append, (any)osc_device_remove,
     (any)osc_device_get,    (any)osc_device_next,    (any)osc_device_next_deadline, (any)osc_device_served, (any)osc_device_refused,
     (any)osc_device_learnt, (any)osc_device_on_tick, (any)osc_device_on_datagram,    (any)osc_device_restart, (any)osc_device_free,
+    (any)osc_device_new_with, (any)osc_device_revoke, (any)osc_device_allow,
 #endif
 #ifdef CLIENT
     (any)osc_client_new,     (any)osc_client_exchange, (any)osc_client_ask,           (any)osc_client_on_datagram, (any)osc_client_result,

@@ -382,18 +382,18 @@ static void device_worst(void) {
         osc_client_free(&client);
         if (fits) break;
     }
-    /* Each holder has two contexts: one under which it asked, and one of another post. Its client isn't held. */
+    /* Each holder has two contexts: one under which it asked, and one of its last post. Its eight newest posts are known. Its client isn't held. */
     size_t before = device_heap.held;
     for (unsigned number = 1; number < 64; number++) {
         must(new_holder((uint8_t)number) && holder_posts(number), "a holder");
         osc_peer at = peer(number);
         begin_ask(1, path, long_path(path, number), (const uint8_t *)"", 0);
         must(learnt_by(&at).code == 0x45, "a GET");
-        must(holder_posts(number), "another post");
+        for (unsigned more = 0; more < 8; more++) must(holder_posts(number), "another post");
         osc_client_free(&client);
     }
     printf("    (a token's scope has %u paths; each token id takes %zu bytes)\n", paths_of_holder + 1, (device_heap.held - before) / 63);
-    most_row("with 64 token ids, two contexts each, of the longest scopes", &device_heap);
+    most_row("with 64 token ids, two contexts and eight known posts each", &device_heap);
     /* Answers for repeats: each as long as an answer is. */
     must(new_holder(63) && holder_posts(63), "a holder");
     for (unsigned number = 0; number < 64; number++) {
@@ -545,7 +545,7 @@ static void proxy_worst(void) {
 }
 
 /* What each node may hold at the most, as docs/LIBRARY.md has it: this run comes to within a fiftieth of it, and doesn't pass it. */
-enum { DEVICE_LIMIT = 1660000, CLIENT_LIMIT = 28500, PROXY_LIMIT = 1465000 };
+enum { DEVICE_LIMIT = 1700000, CLIENT_LIMIT = 28500, PROXY_LIMIT = 1465000 };
 
 static void within(const char *who, const heap *of, size_t limit) {
     int holds = of->most <= limit && of->most >= limit - limit / 50;
@@ -568,10 +568,12 @@ int main(void) {
     tried("device: a write of its own that was lost", device_lost, device_ends, device_again);
     printf("\n%-72s %9s %9s\n", "Bytes of heap: what is held, and was at the most", "held", "at most");
     device_worst();
+    /* What comes after it is of other devices. */
+    heap full_device = device_heap;
     client_worst();
     proxy_worst();
     printf("\n%-72s %9s %9s\n", "The most that a node was brought to, and may hold", "at most", "limit");
-    within("a device", &device_heap, DEVICE_LIMIT);
+    within("a device", &full_device, DEVICE_LIMIT);
     within("a client", &client_heap, CLIENT_LIMIT);
     within("a proxy", &proxy_heap, PROXY_LIMIT);
     puts(failed ? "wanting: something doesn't hold" : "wanting: all holds");
