@@ -150,7 +150,7 @@ int32_t osc_device_new_with(osc_device *device, const osc_key *key, const uint8_
 
 /* Gives the device a security context with its server, which `put`, `append`, `remove`, `revoke` and `allow` need; also after `restart`.
  * OSC_UNVERIFIED with the code where the server refuses it; else `code` is 0. Also OSC_BUSY, OSC_LOST, OSC_BAD_ARGUMENT, OSC_NO_MEMORY. Heap: while
- * the context lives, some 950 bytes. */
+ * the context lives, some 2 KiB. */
 int32_t osc_device_open(osc_device *device, uint64_t now, const osc_draws *draws, uint8_t *code);
 
 /* The device writes, appends to, or removes a resource of its own server, as a holder of its token: what is promised of holders holds of it.
