@@ -16,7 +16,7 @@
  * held; `free` lets it go, and does nothing where none is held. A handle must not be copied, and be used by one call at a time, by the thread
  * that made its node. A call on a handle that holds nothing answers OSC_NOTHING, and leaves a `code` as it was.
  *
- * Heap. Nodes are on the heap: by malloc, realloc and free of the program, or three functions of these names of its own. What a call may take
+ * Heap. Nodes are on the heap: by malloc and free of the program, or two functions of these names of its own. What a call may take
  * of it stands with the call; one that says nothing takes none. `on_datagram`, `on_tick`, `exchange` and `ask` take it for their step: what is
  * sent, kept for repeats and noted.
  *
