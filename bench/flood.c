@@ -23,13 +23,13 @@ void __real_free(void *block);
 
 enum { COUNT = 200000, KINDS = 5, RUNS = 5, MARK = 65521, LIMIT = 1152, TOKENS = 1000, TIMES = 100 };
 
-/* ---- limits, in bytes, by the figures of docs/LIBRARY.md */
+/* ---- limits, in bytes, none above the figures of docs/LIBRARY.md */
 
 /* What a node sends has at most LIMIT bytes, and so has what it keeps for a repeat; 64 are kept. */
 enum { REPEATS = 64 * LIMIT };
 
 /* A server, one open resource of four bytes, and two contexts of each of 64 token ids. */
-enum { SERVER_LIMIT = 18177 + 165 + 128 * 665 + REPEATS };
+enum { SERVER_LIMIT = 18177 + 160 + 128 * 665 + REPEATS };
 
 /* A proxy, 64 exchanges, and the messages that may be open to one target and to the peers of these exchanges: 17 and 64. */
 enum { PROXY_LIMIT = 105345 + 104 + 63 * 24 + (17 + 64) * LIMIT + REPEATS };
