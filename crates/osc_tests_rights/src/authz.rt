@@ -188,21 +188,32 @@ fn what_is_posted(rt: HostRuntime) {
     assert!(rt; body.as_slice() == POST);
 }
 
-/// What is answered to the post.
-fn answered(rt: &impl Abort, alloc: Global, desk: &mut ServerDesk) -> PostAnswer {
+/// What is answered to the post at a draw whose nonce ends in this byte, and whether its token opened.
+fn reply_at(
+    rt: &impl Abort,
+    alloc: Global,
+    desk: &mut ServerDesk,
+    last: u8,
+) -> (Result<PostReply, PostError>, bool) {
     let tree = Tree::new(alloc);
     let on = Standing {
         at: Moment::START,
         tree: &tree,
     };
     let post = desk
-        .post::<Ccm<8>>(alloc, &on, POST, &drawn(2))
+        .post::<Ccm<8>>(alloc, &on, POST, &drawn(last))
         .expect(rt, "memory");
     drop(on);
     drop(tree);
-    let answer = post.answer;
+    let came = (post.answer, post.opened.is_some());
     drop(post);
-    answer.expect(rt, "an answer").answer()
+    came
+}
+
+/// What is answered to the post.
+fn answered(rt: &impl Abort, alloc: Global, desk: &mut ServerDesk) -> PostAnswer {
+    let (reply, _) = reply_at(rt, alloc, desk, 2);
+    reply.expect(rt, "an answer").answer()
 }
 
 #[test]
@@ -642,19 +653,7 @@ const NONE_REMEMBERED: [Turn; 4] = [(1, Ok(1)), (2, Ok(1)), (2, Ok(1)), (1, Ok(1
 fn a_known_post_is_answered_as_before(rt: HostRuntime) {
     let mut desk = desk_with(rt.alloc(), None, 8).expect(&rt, "memory");
     let first = answered(&rt, rt.alloc(), &mut desk);
-    let tree = Tree::new(rt.alloc());
-    let on = Standing {
-        at: Moment::START,
-        tree: &tree,
-    };
-    let again = desk
-        .post::<Ccm<8>>(rt.alloc(), &on, POST, &drawn(3))
-        .expect(&rt, "memory");
-    drop(on);
-    drop(tree);
-    let reply = again.answer;
-    let is_opened = again.opened.is_some();
-    drop(again);
+    let (reply, is_opened) = reply_at(&rt, rt.alloc(), &mut desk, 3);
     let is_there = is_found(&desk, rt.alloc(), 0, 1);
     drop(desk);
     assert!(&rt; reply == Ok(PostReply::Known(first)));
@@ -666,19 +665,8 @@ fn a_known_post_is_answered_as_before(rt: HostRuntime) {
 fn a_post_is_new_where_none_is_remembered(rt: HostRuntime) {
     let mut desk = desk_with(rt.alloc(), None, 0).expect(&rt, "memory");
     let first = answered(&rt, rt.alloc(), &mut desk);
-    let tree = Tree::new(rt.alloc());
-    let on = Standing {
-        at: Moment::START,
-        tree: &tree,
-    };
-    let again = desk
-        .post::<Ccm<8>>(rt.alloc(), &on, POST, &drawn(3))
-        .expect(&rt, "memory");
-    drop(on);
-    drop(tree);
+    let (reply, _) = reply_at(&rt, rt.alloc(), &mut desk, 3);
     drop(desk);
-    let reply = again.answer;
-    drop(again);
     let second = match reply {
         Ok(PostReply::New(answer)) => answer,
         _ => panic!(&rt; "it made no context"),
