@@ -231,25 +231,25 @@ impl Device {
         alloc: Global,
         now: Moment,
         request: &Request,
-        draws: OwnDraws<'_>,
+        draws: OwnDraws,
     ) -> Result<Round, AllocError>
         requires { 0 < request.now.code.0 }
         ensures asked { IfOk result (λ round. AsksItsServer A.is_sealing A.TAG self.old
-            (record { at = now; draw = draws.entry.own.now; server_draw = draws.entry.server.now; request = request.now }) round self.new) }
-        ensures answered { IfOk result (λ round. IsAnsweredWhereReady self.old (record { at = now; draw = draws.entry.own.now; request = request.now }) round self.new) }
+            (record { at = now; draw = draws.own; server_draw = draws.server; request = request.now }) round self.new) }
+        ensures answered { IfOk result (λ round. IsAnsweredWhereReady self.old (record { at = now; draw = draws.own; request = request.now }) round self.new) }
         ensures run { IfOk result (λ round. AllGoOn self.old (λ number. noted number round) self.new) }
         ensures entry { IfOk result (λ round. IsOfAnEntry self.old round) }
         ensures err { OnErr result (self.new ≡ self.old) }
         // What hinders a request is told without memory.
-        ensures needs_memory { OnErr result ((context : ClientContextState) × IsFree A.is_sealing A.TAG self.old.own request.now draws.entry.own.now context) }
+        ensures needs_memory { OnErr result ((context : ClientContextState) × IsFree A.is_sealing A.TAG self.old.own request.now draws.own context) }
     {
         a_request_is_answered::<A>();
         runs_go_on::<A>();
         runs_keep_their_promises::<A>();
         is_lawful(&self.server);
-        let begun = self.own.node.ask::<A>(alloc, now, request, draws.own)?;
+        let begun = self.own.node.ask::<A>(alloc, now, request, &draws.own)?;
         self.own.node.has_lawful_parts();
-        Ok(self.carry::<A>(alloc, now, begun, draws.server))
+        Ok(self.carry::<A>(alloc, now, begun, &draws.server))
     }
 
     /// Puts this value at the path, as [`Device::ask`] does: 2.01 where nothing was there, 2.04 where something was.
@@ -259,16 +259,16 @@ impl Device {
         now: Moment,
         path: Path,
         resource: Resource,
-        draws: OwnDraws<'_>,
+        draws: OwnDraws,
     ) -> Result<Round, AllocError>
         ensures asked { IfOk result (λ round. AsksItsServer A.is_sealing A.TAG self.old
-            (record { at = now; draw = draws.entry.own.now; server_draw = draws.entry.server.now; request = own_request_of Put path resource.format resource.payload }) round self.new) }
-        ensures answered { IfOk result (λ round. IsAnsweredWhereReady self.old (record { at = now; draw = draws.entry.own.now; request = own_request_of Put path resource.format resource.payload }) round self.new) }
+            (record { at = now; draw = draws.own; server_draw = draws.server; request = own_request_of Put path resource.format resource.payload }) round self.new) }
+        ensures answered { IfOk result (λ round. IsAnsweredWhereReady self.old (record { at = now; draw = draws.own; request = own_request_of Put path resource.format resource.payload }) round self.new) }
         ensures run { IfOk result (λ round. AllGoOn self.old (λ number. noted number round) self.new) }
         ensures entry { IfOk result (λ round. IsOfAnEntry self.old round) }
         ensures err { OnErr result (self.new ≡ self.old) }
         // What hinders a request is told without memory.
-        ensures needs_memory { OnErr result ((context : ClientContextState) × IsFree A.is_sealing A.TAG self.old.own (own_request_of Put path resource.format resource.payload) draws.entry.own.now context) }
+        ensures needs_memory { OnErr result ((context : ClientContextState) × IsFree A.is_sealing A.TAG self.old.own (own_request_of Put path resource.format resource.payload) draws.own context) }
     {
         let request = own_request(alloc, Method::Put, path, resource);
         self.ask::<A>(alloc, now, &request, draws)
@@ -281,16 +281,16 @@ impl Device {
         now: Moment,
         path: Path,
         resource: Resource,
-        draws: OwnDraws<'_>,
+        draws: OwnDraws,
     ) -> Result<Round, AllocError>
         ensures asked { IfOk result (λ round. AsksItsServer A.is_sealing A.TAG self.old
-            (record { at = now; draw = draws.entry.own.now; server_draw = draws.entry.server.now; request = own_request_of Post path resource.format resource.payload }) round self.new) }
-        ensures answered { IfOk result (λ round. IsAnsweredWhereReady self.old (record { at = now; draw = draws.entry.own.now; request = own_request_of Post path resource.format resource.payload }) round self.new) }
+            (record { at = now; draw = draws.own; server_draw = draws.server; request = own_request_of Post path resource.format resource.payload }) round self.new) }
+        ensures answered { IfOk result (λ round. IsAnsweredWhereReady self.old (record { at = now; draw = draws.own; request = own_request_of Post path resource.format resource.payload }) round self.new) }
         ensures run { IfOk result (λ round. AllGoOn self.old (λ number. noted number round) self.new) }
         ensures entry { IfOk result (λ round. IsOfAnEntry self.old round) }
         ensures err { OnErr result (self.new ≡ self.old) }
         // What hinders a request is told without memory.
-        ensures needs_memory { OnErr result ((context : ClientContextState) × IsFree A.is_sealing A.TAG self.old.own (own_request_of Post path resource.format resource.payload) draws.entry.own.now context) }
+        ensures needs_memory { OnErr result ((context : ClientContextState) × IsFree A.is_sealing A.TAG self.old.own (own_request_of Post path resource.format resource.payload) draws.own context) }
     {
         let request = own_request(alloc, Method::Post, path, resource);
         self.ask::<A>(alloc, now, &request, draws)
@@ -302,16 +302,16 @@ impl Device {
         alloc: Global,
         now: Moment,
         path: Path,
-        draws: OwnDraws<'_>,
+        draws: OwnDraws,
     ) -> Result<Round, AllocError>
         ensures asked { IfOk result (λ round. AsksItsServer A.is_sealing A.TAG self.old
-            (record { at = now; draw = draws.entry.own.now; server_draw = draws.entry.server.now; request = own_request_of Delete path None [] }) round self.new) }
-        ensures answered { IfOk result (λ round. IsAnsweredWhereReady self.old (record { at = now; draw = draws.entry.own.now; request = own_request_of Delete path None [] }) round self.new) }
+            (record { at = now; draw = draws.own; server_draw = draws.server; request = own_request_of Delete path None [] }) round self.new) }
+        ensures answered { IfOk result (λ round. IsAnsweredWhereReady self.old (record { at = now; draw = draws.own; request = own_request_of Delete path None [] }) round self.new) }
         ensures run { IfOk result (λ round. AllGoOn self.old (λ number. noted number round) self.new) }
         ensures entry { IfOk result (λ round. IsOfAnEntry self.old round) }
         ensures err { OnErr result (self.new ≡ self.old) }
         // What hinders a request is told without memory.
-        ensures needs_memory { OnErr result ((context : ClientContextState) × IsFree A.is_sealing A.TAG self.old.own (own_request_of Delete path None []) draws.entry.own.now context) }
+        ensures needs_memory { OnErr result ((context : ClientContextState) × IsFree A.is_sealing A.TAG self.old.own (own_request_of Delete path None []) draws.own context) }
     {
         let request = own_request(alloc, Method::Delete, path, nothing(alloc));
         self.ask::<A>(alloc, now, &request, draws)
@@ -323,16 +323,16 @@ impl Device {
         alloc: Global,
         now: Moment,
         path: Path,
-        draws: OwnDraws<'_>,
+        draws: OwnDraws,
     ) -> Result<Round, AllocError>
         ensures asked { IfOk result (λ round. AsksItsServer A.is_sealing A.TAG self.old
-            (record { at = now; draw = draws.entry.own.now; server_draw = draws.entry.server.now; request = own_request_of Get path None [] }) round self.new) }
-        ensures answered { IfOk result (λ round. IsAnsweredWhereReady self.old (record { at = now; draw = draws.entry.own.now; request = own_request_of Get path None [] }) round self.new) }
+            (record { at = now; draw = draws.own; server_draw = draws.server; request = own_request_of Get path None [] }) round self.new) }
+        ensures answered { IfOk result (λ round. IsAnsweredWhereReady self.old (record { at = now; draw = draws.own; request = own_request_of Get path None [] }) round self.new) }
         ensures run { IfOk result (λ round. AllGoOn self.old (λ number. noted number round) self.new) }
         ensures entry { IfOk result (λ round. IsOfAnEntry self.old round) }
         ensures err { OnErr result (self.new ≡ self.old) }
         // What hinders a request is told without memory.
-        ensures needs_memory { OnErr result ((context : ClientContextState) × IsFree A.is_sealing A.TAG self.old.own (own_request_of Get path None []) draws.entry.own.now context) }
+        ensures needs_memory { OnErr result ((context : ClientContextState) × IsFree A.is_sealing A.TAG self.old.own (own_request_of Get path None []) draws.own context) }
     {
         let request = own_request(alloc, Method::Get, path, nothing(alloc));
         self.ask::<A>(alloc, now, &request, draws)
@@ -349,12 +349,12 @@ impl Device {
         alloc: Global,
         now: Moment,
         id: &[u8],
-        draws: OwnDraws<'_>,
+        draws: OwnDraws,
     ) -> Result<Option<Round>, AllocError>
         ensures asked { IfOk result (λ found. IfSome found (λ round. (path : List ℕ) × (revocation_of self.old.server.desk.rules.revoked id.now ≡ Some path)
             × AsksItsServer A.is_sealing A.TAG self.old
-            (record { at = now; draw = draws.entry.own.now; server_draw = draws.entry.server.now; request = own_request_of Put path None [] }) round self.new
-            × IsAnsweredWhereReady self.old (record { at = now; draw = draws.entry.own.now; request = own_request_of Put path None [] }) round self.new)) }
+            (record { at = now; draw = draws.own; server_draw = draws.server; request = own_request_of Put path None [] }) round self.new
+            × IsAnsweredWhereReady self.old (record { at = now; draw = draws.own; request = own_request_of Put path None [] }) round self.new)) }
         ensures none { IfOk result (λ found. IfNone found ((revocation_of self.old.server.desk.rules.revoked id.now ≡ None) × (self.new ≡ self.old))) }
         ensures run { IfOk result (λ found. IfSome found (λ round. AllGoOn self.old (λ number. noted number round) self.new)) }
         ensures entry { IfOk result (λ found. IfSome found (λ round. IsOfAnEntry self.old round)) }
@@ -379,12 +379,12 @@ impl Device {
         alloc: Global,
         now: Moment,
         id: &[u8],
-        draws: OwnDraws<'_>,
+        draws: OwnDraws,
     ) -> Result<Option<Round>, AllocError>
         ensures asked { IfOk result (λ found. IfSome found (λ round. (path : List ℕ) × (revocation_of self.old.server.desk.rules.revoked id.now ≡ Some path)
             × AsksItsServer A.is_sealing A.TAG self.old
-            (record { at = now; draw = draws.entry.own.now; server_draw = draws.entry.server.now; request = own_request_of Delete path None [] }) round self.new
-            × IsAnsweredWhereReady self.old (record { at = now; draw = draws.entry.own.now; request = own_request_of Delete path None [] }) round self.new)) }
+            (record { at = now; draw = draws.own; server_draw = draws.server; request = own_request_of Delete path None [] }) round self.new
+            × IsAnsweredWhereReady self.old (record { at = now; draw = draws.own; request = own_request_of Delete path None [] }) round self.new)) }
         ensures none { IfOk result (λ found. IfNone found ((revocation_of self.old.server.desk.rules.revoked id.now ≡ None) × (self.new ≡ self.old))) }
         ensures run { IfOk result (λ found. IfSome found (λ round. AllGoOn self.old (λ number. noted number round) self.new)) }
         ensures entry { IfOk result (λ found. IfSome found (λ round. IsOfAnEntry self.old round)) }
@@ -407,14 +407,14 @@ impl Device {
         &mut self,
         alloc: Global,
         now: Moment,
-        draws: OwnDraws<'_>,
+        draws: OwnDraws,
     ) -> Result<Round, AllocError>
-        ensures begun { IfOk result (λ round. (begun : Own) × Begins self.old.own now draws.entry.own.now round.begun begun
+        ensures begun { IfOk result (λ round. (begun : Own) × Begins self.old.own now draws.own round.begun begun
             × ClientStep false (own_core self.old.own) round.begun.notes (own_core begun)
-            × Carries A.is_sealing (record self.old { own = begun }) now draws.entry.server.now round self.new) }
+            × Carries A.is_sealing (record self.old { own = begun }) now draws.server round self.new) }
         // Where it may, and no step wants memory.
         ensures made { IfOk result (λ round. (claims : AnyClaims) (entries : List Entry)
-            → MayOpen A.is_sealing self.old now draws.entry.own.now claims entries → IsWhole round → IsOpen now entries self.new) }
+            → MayOpen A.is_sealing self.old now draws.own claims entries → IsWhole round → IsOpen now entries self.new) }
         // Its post is never too long for a datagram.
         ensures fits { IfOk result (λ round. round.begun.notes.result ≢ Some (result_of.Refused refusal.datagram_too_long)) }
         ensures run { IfOk result (λ round. AllGoOn self.old (λ number. noted number round) self.new) }
@@ -424,11 +424,11 @@ impl Device {
     {
         a_context_is_made::<A>();
         runs_go_on::<A>();
-        is_drawn(draws.server);
-        is_drawn(draws.own);
-        let begun = self.own.node.exchange(alloc, now, draws.own)?;
+        is_drawn(&draws.server);
+        is_drawn(&draws.own);
+        let begun = self.own.node.exchange(alloc, now, &draws.own)?;
         self.own.node.has_lawful_parts();
-        Ok(self.carry::<A>(alloc, now, begun, draws.server))
+        Ok(self.carry::<A>(alloc, now, begun, &draws.server))
     }
 
     /// Hands what was sent to the server, and what that answers to the device.

@@ -115,10 +115,9 @@ impl Lock {
         now: Moment,
         bolt: Bolt,
     ) -> Result<(), Fault> {
-        let (own, server) = (self.draws.draw(), self.draws.draw());
         let draws = OwnDraws {
-            own: &own,
-            server: &server,
+            own: self.draws.draw(),
+            server: self.draws.draw(),
         };
         let round = self.device.open::<Suite>(alloc, now, draws)?;
         let outcome = if is_made(round) {
@@ -216,10 +215,9 @@ impl Lock {
             format: None,
             payload,
         };
-        let (own, server) = (self.draws.draw(), self.draws.draw());
         let draws = OwnDraws {
-            own: &own,
-            server: &server,
+            own: self.draws.draw(),
+            server: self.draws.draw(),
         };
         let round = self.device.put::<Suite>(alloc, now, path, resource, draws)?;
         Ok(tell_own(rt, "PUT", place, text, answered(round))?)
@@ -238,10 +236,9 @@ impl Lock {
             format: None,
             payload,
         };
-        let (own, server) = (self.draws.draw(), self.draws.draw());
         let draws = OwnDraws {
-            own: &own,
-            server: &server,
+            own: self.draws.draw(),
+            server: self.draws.draw(),
         };
         let round = self
             .device

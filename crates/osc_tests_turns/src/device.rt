@@ -59,10 +59,9 @@ fn learnt(round: &Round) -> Option<&ClientResult> {
 
 /// Whether the device has posted its token, and has a context.
 fn opens(alloc: Global, device: &mut Device, number: u8) -> bool {
-    let (own, server) = (drawn(number), drawn(number.wrapping_add(100)));
     let draws = OwnDraws {
-        own: &own,
-        server: &server,
+        own: drawn(number),
+        server: drawn(number.wrapping_add(100)),
     };
     match device.open::<Suite>(alloc, at(0), draws) {
         Ok(round) => {
@@ -88,10 +87,9 @@ fn asks(alloc: Global, device: &mut Device, number: u8, code: u8, payload: &'sta
     let Ok(request) = request(alloc, b"/log", code, payload) else {
         return 0;
     };
-    let (own, server) = (drawn(number), drawn(number.wrapping_add(100)));
     let draws = OwnDraws {
-        own: &own,
-        server: &server,
+        own: drawn(number),
+        server: drawn(number.wrapping_add(100)),
     };
     let round = device.ask::<Suite>(alloc, at(0), &request, draws);
     drop(request);
@@ -207,10 +205,9 @@ fn puts(rt: &impl Abort, alloc: Global, device: &mut Device, number: u8, bytes: 
         format: None,
         payload,
     };
-    let (own, server) = (drawn(number), drawn(100));
     let draws = OwnDraws {
-        own: &own,
-        server: &server,
+        own: drawn(number),
+        server: drawn(100),
     };
     code_of(device.put::<Suite>(alloc, at(0), path, resource, draws))
 }
@@ -222,30 +219,27 @@ fn appends(rt: &impl Abort, alloc: Global, device: &mut Device, number: u8, byte
         format: None,
         payload,
     };
-    let (own, server) = (drawn(number), drawn(100));
     let draws = OwnDraws {
-        own: &own,
-        server: &server,
+        own: drawn(number),
+        server: drawn(100),
     };
     code_of(device.append::<Suite>(alloc, at(0), path, resource, draws))
 }
 
 fn reads(rt: &impl Abort, alloc: Global, device: &mut Device, number: u8) -> u8 {
     let path = log(rt, alloc);
-    let (own, server) = (drawn(number), drawn(100));
     let draws = OwnDraws {
-        own: &own,
-        server: &server,
+        own: drawn(number),
+        server: drawn(100),
     };
     code_of(device.read::<Suite>(alloc, at(0), path, draws))
 }
 
 fn removes(rt: &impl Abort, alloc: Global, device: &mut Device, number: u8) -> u8 {
     let path = log(rt, alloc);
-    let (own, server) = (drawn(number), drawn(100));
     let draws = OwnDraws {
-        own: &own,
-        server: &server,
+        own: drawn(number),
+        server: drawn(100),
     };
     code_of(device.remove::<Suite>(alloc, at(0), path, draws))
 }
@@ -379,10 +373,9 @@ fn logs(alloc: Global, device: &mut Device, guest: &mut Client, number: u8) -> u
 
 /// The code that the device is answered where it revokes the guest's token, or lets it in again; 0 where it isn't, 1 where it has no path for it.
 fn changes(alloc: Global, device: &mut Device, number: u8, is_out: bool) -> u8 {
-    let (own, server) = (drawn(number), drawn(number.wrapping_add(100)));
     let draws = OwnDraws {
-        own: &own,
-        server: &server,
+        own: drawn(number),
+        server: drawn(number.wrapping_add(100)),
     };
     let changed = if is_out {
         device.revoke::<Suite>(alloc, at(0), GUEST, draws)

@@ -110,11 +110,9 @@ impl DeviceNode {
         ensures opens { ComesTo self.old result self.new (λ round. Opens A.is_sealing self.old now draws.now round self.new) }
         ensures fits { result.outcome ≢ outcome.TooLong }
     {
-        let own = Draw(draws.own.bytes);
-        let server = Draw(draws.server.bytes);
         let both = OwnDraws {
-            own: &own,
-            server: &server,
+            own: Draw(draws.own.bytes),
+            server: Draw(draws.server.bytes),
         };
         match self.device.open::<A>(alloc, now, both) {
             Ok(round) => keep(&mut self.last, round),
@@ -175,11 +173,9 @@ impl DeviceNode {
             Ok(now) => now,
             Err(outcome) => return bare(outcome),
         };
-        let own = Draw(draws.own.bytes);
-        let server = Draw(draws.server.bytes);
         let both = OwnDraws {
-            own: &own,
-            server: &server,
+            own: Draw(draws.own.bytes),
+            server: Draw(draws.server.bytes),
         };
         match self.device.revoke::<A>(alloc, now, id, both) {
             Ok(Some(round)) => keep(&mut self.last, round),
@@ -202,11 +198,9 @@ impl DeviceNode {
             Ok(now) => now,
             Err(outcome) => return bare(outcome),
         };
-        let own = Draw(draws.own.bytes);
-        let server = Draw(draws.server.bytes);
         let both = OwnDraws {
-            own: &own,
-            server: &server,
+            own: Draw(draws.own.bytes),
+            server: Draw(draws.server.bytes),
         };
         match self.device.allow::<A>(alloc, now, id, both) {
             Ok(Some(round)) => keep(&mut self.last, round),
@@ -226,11 +220,9 @@ impl DeviceNode {
         requires { 0 < request.now.code.0 }
         ensures { ComesTo self.old result self.new (λ round. Asks A.is_sealing A.TAG self.old (asked_for draws.now now request.now) round self.new) }
     {
-        let own = Draw(draws.own.bytes);
-        let server = Draw(draws.server.bytes);
         let both = OwnDraws {
-            own: &own,
-            server: &server,
+            own: Draw(draws.own.bytes),
+            server: Draw(draws.server.bytes),
         };
         match self.device.ask::<A>(alloc, now, request, both) {
             Ok(round) => keep(&mut self.last, round),

@@ -16,35 +16,35 @@ returns-clause-begun g c =
     let own = ap (λ d. d.own) c.self.view_is in
     let server = ap (λ d. d.server) c.self.view_is in (
       c.exchange.new.self,
-      subst (λ (begun : Step). Begins c.args.self.now.own c.args.now c.args.draws.own.now begun c.exchange.new.self) (sym c.carry.ensures.begun)
-          (subst (λ (old : Client). Begins old c.args.now c.args.draws.own.now c.in_ok-begun.begun c.exchange.new.self) own c.in_ok-begun.ensures.begun),
+      subst (λ (begun : Step). Begins c.args.self.now.own c.args.now c.args.draws.own begun c.exchange.new.self) (sym c.carry.ensures.begun)
+          (subst (λ (old : Client). Begins old c.args.now c.args.draws.own c.in_ok-begun.begun c.exchange.new.self) own c.in_ok-begun.ensures.begun),
       subst (λ (begun : Step). ClientStep false (core c.args.self.now.own) begun.notes (core c.exchange.new.self)) (sym c.carry.ensures.begun)
           (subst (λ (old : Client). ClientStep false (core old) c.in_ok-begun.begun.notes (core c.exchange.new.self)) own c.in_ok-begun.ensures.kind),
-      subst (λ (old : Server). Carries g.A.Ciphers.is_sealing (device old c.exchange.new.self) c.args.now c.args.draws.server.now c.carry.result c.carry.new.self) server c.carry.ensures.carries,
+      subst (λ (old : Server). Carries g.A.Ciphers.is_sealing (device old c.exchange.new.self) c.args.now c.args.draws.server c.carry.result c.carry.new.self) server c.carry.ensures.carries,
     )
 
 pub returns-clause-made : goal.returns-clause-made
 returns-clause-made g c = λ claims entries may whole.
     let own = ap (λ d. d.own) c.self.view_is in
     let server = ap (λ d. d.server) c.self.view_is in
-    c.a_context_is_made.ensures c.args.self.now c.carry.new.self c.args.now c.args.draws.own.now c.args.draws.server.now claims entries c.exchange.new.self c.carry.result
+    c.a_context_is_made.ensures c.args.self.now c.carry.new.self c.args.now c.args.draws.own c.args.draws.server claims entries c.exchange.new.self c.carry.result
     (sym (ap (λ k. k.origin) own) ∙ c.self.invariant.0, sym (ap (λ k. k.next_hop) own) ∙ c.self.invariant.1)
     c.has_lawful_parts.ensures may whole c.is_drawn.ensures
-    (subst (λ (begun : Step). Begins c.args.self.now.own c.args.now c.args.draws.own.now begun c.exchange.new.self) (sym c.carry.ensures.begun)
-    (subst (λ (old : Client). Begins old c.args.now c.args.draws.own.now c.in_ok-begun.begun c.exchange.new.self) own c.in_ok-begun.ensures.begun))
-    (subst (λ (old : Server). Carries g.A.Ciphers.is_sealing (device old c.exchange.new.self) c.args.now c.args.draws.server.now c.carry.result c.carry.new.self) server c.carry.ensures.carries)
+    (subst (λ (begun : Step). Begins c.args.self.now.own c.args.now c.args.draws.own begun c.exchange.new.self) (sym c.carry.ensures.begun)
+    (subst (λ (old : Client). Begins old c.args.now c.args.draws.own c.in_ok-begun.begun c.exchange.new.self) own c.in_ok-begun.ensures.begun))
+    (subst (λ (old : Server). Carries g.A.Ciphers.is_sealing (device old c.exchange.new.self) c.args.now c.args.draws.server c.carry.result c.carry.new.self) server c.carry.ensures.carries)
 
 pub returns-clause-run : goal.returns-clause-run
 returns-clause-run g c =
     let begun = returns-clause-begun g c in
-    c.runs_go_on.ensures c.args.self.now (device c.args.self.now.server begun.0) c.carry.new.self c.args.now c.args.draws.server.now c.carry.result begun.2 refl begun.3
+    c.runs_go_on.ensures c.args.self.now (device c.args.self.now.server begun.0) c.carry.new.self c.args.now c.args.draws.server c.carry.result begun.2 refl begun.3
 
 pub returns-clause-fits : goal.returns-clause-fits
 returns-clause-fits g c =
     subst (λ (begun : Step). begun.notes.result ≢ Some (Refused 14)) (sym c.carry.ensures.begun)
-    (never_too_long c.self.inside.own.node c.exchange.new.self c.args.now c.args.draws.own.now c.in_ok-begun.begun c.is_drawn-2.ensures c.self.invariant.2
+    (never_too_long c.self.inside.own.node c.exchange.new.self c.args.now c.args.draws.own c.in_ok-begun.begun c.is_drawn-2.ensures c.self.invariant.2
     c.in_ok-begun.ensures.begun.exchanges)
 
 pub invariant_of-self-2 : goal.invariant_of-self-2
 invariant_of-self-2 g c =
-    begun_straight c.self.inside.own.node c.args.now c.args.draws.own.now c.in_ok-begun.begun c.exchange.new.self c.in_ok-begun.ensures.begun.exchanges c.self.invariant
+    begun_straight c.self.inside.own.node c.args.now c.args.draws.own c.in_ok-begun.begun c.exchange.new.self c.in_ok-begun.ensures.begun.exchanges c.self.invariant
