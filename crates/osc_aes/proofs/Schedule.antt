@@ -21,7 +21,7 @@ plain_word i a b x inner ex =
     let goes_on : (i % 4 == 0) ≡ false = grind (arith, nat_tests) in
     ex ∙ ap (λ (p : Bool). add_words a (if p then add_words (sub_word (rot_word b)) (round_constant (i / 4)) else b)) (sym goes_on)
 
--- the key stands at the head of its schedule
+-- the key is at the head of its schedule
 long : (key : List ℕ) (n : ℕ) → length key ≡ 16 → 16 ≤ length (first_words key n)
 unfolding first_words
 long key zero h = omega arith

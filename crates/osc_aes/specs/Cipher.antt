@@ -1,5 +1,5 @@
 -- AES-128 of one block (FIPS 197, section 5.1). A block is a list of 16 bytes, and so is the state, a square of four
--- rows and four columns: byte i stands in row i mod 4 and column i div 4 (3.4).
+-- rows and four columns: byte i is in row i mod 4 and column i div 4 (3.4).
 use Rattle.std.specs.Prelude.{ℕ, zero, suc, ◌+◌, ◌-◌, ◌*◌, ◌/◌, ◌%◌, List, [], ◌∷◌, map, bit_xor, slice_index}
 use Rattle.std.specs.List.{range_with_len}
 use Rattle.osc_aes.specs.Field.{total, product}

@@ -11,28 +11,28 @@ use crate::key_expansion::Keys;
 use crate::tower::{doubled_substitutes, forms, plain_substitutes};
 use std::simd::prelude::*;
 
-/// Where the form of the byte one row below stands, once ShiftRows has turned the state once.
+/// Where the form of the byte one row below is, once ShiftRows has turned the state once.
 const NEXT_1: [usize; 16] = [5, 6, 7, 4, 9, 10, 11, 8, 13, 14, 15, 12, 1, 2, 3, 0];
 
-/// Where the form of the byte one row above stands, once ShiftRows has turned the state once.
+/// Where the form of the byte one row above is, once ShiftRows has turned the state once.
 const BEFORE_1: [usize; 16] = [15, 12, 13, 14, 3, 0, 1, 2, 7, 4, 5, 6, 11, 8, 9, 10];
 
-/// Where the form of the byte one row below stands, once ShiftRows has turned the state twice.
+/// Where the form of the byte one row below is, once ShiftRows has turned the state twice.
 const NEXT_2: [usize; 16] = [9, 10, 11, 8, 13, 14, 15, 12, 1, 2, 3, 0, 5, 6, 7, 4];
 
-/// Where the form of the byte one row above stands, once ShiftRows has turned the state twice.
+/// Where the form of the byte one row above is, once ShiftRows has turned the state twice.
 const BEFORE_2: [usize; 16] = [11, 8, 9, 10, 15, 12, 13, 14, 3, 0, 1, 2, 7, 4, 5, 6];
 
-/// Where the form of the byte one row below stands, once ShiftRows has turned the state three times.
+/// Where the form of the byte one row below is, once ShiftRows has turned the state three times.
 const NEXT_3: [usize; 16] = [13, 14, 15, 12, 1, 2, 3, 0, 5, 6, 7, 4, 9, 10, 11, 8];
 
-/// Where the form of the byte one row above stands, once ShiftRows has turned the state three times.
+/// Where the form of the byte one row above is, once ShiftRows has turned the state three times.
 const BEFORE_3: [usize; 16] = [7, 4, 5, 6, 11, 8, 9, 10, 15, 12, 13, 14, 3, 0, 1, 2];
 
-/// Where the form of the byte one row below stands, once ShiftRows has turned the state from three times to not at all.
+/// Where the form of the byte one row below is, once ShiftRows has turned the state from three times to not at all.
 const NEXT_0: [usize; 16] = [1, 2, 3, 0, 5, 6, 7, 4, 9, 10, 11, 8, 13, 14, 15, 12];
 
-/// Where the form of the byte one row above stands, once ShiftRows has turned the state from three times to not at all.
+/// Where the form of the byte one row above is, once ShiftRows has turned the state from three times to not at all.
 const BEFORE_0: [usize; 16] = [3, 0, 1, 2, 7, 4, 5, 6, 11, 8, 9, 10, 15, 12, 13, 14];
 
 /// A round before the last, after which the state is turned once.

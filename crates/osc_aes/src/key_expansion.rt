@@ -32,7 +32,7 @@ const CONSTANT: u8 = 0x5b;
 /// The forms of the first bytes of the round constants number 1 to 10, each with 0x63 added.
 const ROUND_CONSTANTS: [u8; 10] = [0x2b, 0x71, 0xc3, 0x53, 0x16, 0x27, 0x26, 0xda, 0x44, 0xd8];
 
-/// Lanes moved up by a word, behind zeros.
+/// Lanes moved up by a word, after zeros.
 #[inline(always)]
 fn word_later(lanes: u8x16) -> u8x16
     ensures { result ≡ replicate 4 0 ++ take 12 lanes }
@@ -43,7 +43,7 @@ fn word_later(lanes: u8x16) -> u8x16
     )
 }
 
-/// Lanes moved up by two words, behind zeros.
+/// Lanes moved up by two words, after zeros.
 #[inline(always)]
 fn two_words_later(lanes: u8x16) -> u8x16
     ensures { result ≡ replicate 8 0 ++ take 8 lanes }

@@ -12,7 +12,7 @@ use Rattle.osc_authz.specs.{listed, contexts, is_live, holds_live, alive, has_id
 use Rattle.osc_authz.specs.declared.token_entry.TokenEntry.{TokenEntry}
 use Rattle.osc_authz.proofs.Members.{in_front, in_back, in_either, mapped_in, in_mapped, in_filter, filtered_in, one_of_text}
 
--- ---- where a context stands
+-- ---- where a context is
 
 -- the confirmed or the pending one of an entry
 abbrev slot : Bool → TokenEntry → Option SecurityContext
@@ -359,7 +359,7 @@ module _ (number : ℕ) (x : OfToken) (table : List TokenEntry) (is_table : IsTa
   place : Stands x table
   place = stands table x m
 
-  -- what stands in an entry of the table
+  -- what is in an entry of the table
   in_holding : (h : TokenEntry) (k : Bool) (d : SecurityContext) → In h table → slot k h ≡ Some d → In (record { token = h.id; is_confirmed = k; held = d }) (of_tokens table)
   in_holding h k d i e = stood table (record { token = h.id; is_confirmed = k; held = d }) (record { entry = h; among = i; token = refl; here = e })
 
@@ -371,7 +371,7 @@ module _ (number : ℕ) (x : OfToken) (table : List TokenEntry) (is_table : IsTa
       ap (λ (c : OfToken). c.is_confirmed) (sym (one (pending_of h.id d.0) (in_holding h false d.0 place.among d.1) d.2)))
       (tested id number h.pending) refl (tested id number h.confirmed) refl
 
-  -- where a context stands afterwards
+  -- where a context is afterwards
   after : (c : OfToken) → In c (of_tokens (accepted id number table)) → (h : TokenEntry) × In h table × (c.token ≡ h.id) × (slot c.is_confirmed (change h) ≡ Some c.held)
   after c i =
       let s = stands (accepted id number table) c i in

@@ -61,7 +61,7 @@ found_alone P id held (x ∷ xs) apart found here = by (has_id id x) refl found 
         (λ again. rw it here, no_other same xs apart.0)
     by false other is up = (λ has. absurd (both_ways (has_id id x) other has), up is here)
 
--- ---- where a recipient ID stands
+-- ---- where a recipient ID is
 
 -- The entry that has the ID is the only one: no other is changed.
 module _ (id : List ℕ) (number : ℕ) where
@@ -276,7 +276,7 @@ pub each_of : (P : SecurityContext → Type 0) (id : List ℕ) (table : List Tok
 each_of P id table held i d is_table found here within =
     in_holding (λ context. has_id id context ≡ true → P context) table i d within (found_alone P id held (contexts table) is_table.own_ids found here)
 
--- ---- where a token id stands
+-- ---- where a token id is
 
 -- a change of the entry at the place, or a new one at the end
 put_within : (token : List ℕ) (held : SecurityContext) (remember : List AgreedPost → List AgreedPost) (table : List TokenEntry) (d : TokenEntry) → position_or_len (λ entry. bytes_eq token entry.id) table < length table

@@ -19,7 +19,7 @@ use Rattle.osc_authz.proofs.Parts.{part_filter, part_length}
 use Rattle.osc_authz.proofs.Pigeon.{crowded}
 use Rattle.osc_authz.proofs.TableLaws.{two_each}
 
--- ---- the IDs of some entries, and of those behind them
+-- ---- the IDs of some entries, and of those after them
 
 among_more : (held rest : List SecurityContext) (byte : ℕ)
     → is_among (map (λ context. context.name.client_id) (held ++ rest)) byte

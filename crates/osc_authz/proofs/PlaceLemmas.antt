@@ -1,4 +1,4 @@
--- Where recipient IDs stand in a table.
+-- Where recipient IDs are in a table.
 use Rattle.std.proofs.Common.{◌≡◌, ◌≢◌, ℕ, zero, suc, ◌+◌, ◌<◌, ◌≤◌, ◌==◌, Bool, true, false, not, ◌||◌, cond, List, [], ◌∷◌, ◌++◌, length, get_or, set, drop, drop-cons, replicate, Option, Some, None, option_map, refl, sym, ap, ◌∙◌, arith, position, nat_lt, add-zero, zero-add}
 use Rattle.std.specs.List.{AllByRecursion, find, position_or_len}
 use Rattle.std.specs.Option.{option_map_or}

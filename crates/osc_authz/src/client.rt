@@ -186,7 +186,7 @@ impl ClientDesk {
         }
     }
 
-    /// What the exchange comes to by an answer of this code and payload. An error is want of memory.
+    /// What the exchange comes to by an answer of this code and payload. An error is lack of memory.
     fn outcome_of(
         &self,
         alloc: Global,
@@ -206,7 +206,7 @@ impl ClientDesk {
         }
     }
 
-    /// What the exchange comes to by an answer 2.01 whose payload is this item. An error is want of memory.
+    /// What the exchange comes to by an answer 2.01 whose payload is this item. An error is lack of memory.
     fn made(
         &self,
         alloc: Global,

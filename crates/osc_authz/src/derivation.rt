@@ -7,7 +7,7 @@ use osc_context::{DeriveError, RecipientContext, SenderContext, derive};
 use osc_model::{ContextName, Side};
 use std::alloc::{AllocError, Global};
 
-/// The contexts of one end of a name whose IDs are short and differ, so that only memory can be wanting.
+/// The contexts of one end of a name whose IDs are short and differ, so that only memory can run out.
 pub(crate) fn derived(
     alloc: Global,
     name: &ContextName,

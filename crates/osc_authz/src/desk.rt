@@ -61,7 +61,7 @@ pub struct ServerDesk {
     audience: Audience,
     rules: ContextRules,
     table: Vec<TokenEntry>,
-    // Where each recipient ID stands in the table.
+    // Where each recipient ID is in the table.
     places: Places,
 }
 
@@ -434,7 +434,7 @@ impl ServerDesk {
     }
 
     /// A request with this fresh number opened under the context with this recipient ID: its window takes the number, and the
-    /// right to one reply comes of it. If the context was pending, it is confirmed, and the older one of its token id goes. Answers
+    /// right to one reply comes from it. If the context was pending, it is confirmed, and the older one of its token id goes. Answers
     /// the place of the context's token id as well, so that it needn't be looked up again. Takes no memory.
     pub fn accept(&mut self, id: &[u8], number: u64) -> (AcceptedNumber, usize)
         requires fresh { (held : SecurityContext) × (with_id id.now self.old.table ≡ Some held) × IsFresh held.window number }

@@ -9,7 +9,7 @@ use osc_model::{Code, refusals};
 use osc_token::TokenError;
 use thiserror::Error;
 
-/// Why a post to authz-info is refused: the first of these that stands.
+/// Why a post to authz-info is refused: the first of these that applies.
 #[derive(Clone, Copy, Debug, PartialEq, Eq, Error)]
 pub enum PostError {
     /// Its payload isn't one whole map, or lacks a field, or has one of another type or length.
@@ -67,7 +67,7 @@ fn token_code(error: TokenError) -> Code
     }
 }
 
-/// Why no client is granted a token with this input material: the first of these that stands.
+/// Why no client is granted a token with this input material: the first of these that applies.
 #[derive(Clone, Copy, Debug, PartialEq, Eq, Error)]
 pub enum GrantError {
     /// The master secret is empty, or longer than 64 bytes.
@@ -81,7 +81,7 @@ pub enum GrantError {
     IdContext,
 }
 
-/// Why an exchange makes no context. It is used up, but for want of memory.
+/// Why an exchange makes no context. It is used up, but for lack of memory.
 #[derive(Debug, Drop, Error)]
 pub enum FinishError {
     /// The answer isn't 2.01 with a readable nonce and recipient ID.

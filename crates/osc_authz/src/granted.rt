@@ -62,7 +62,7 @@ impl ClientDesk {
     ///
     /// # Errors
     ///
-    /// The first that stands: `Secret`, `Salt`, `IdContext` where that has a length that no token may have.
+    /// The first that applies: `Secret`, `Salt`, `IdContext` where that has a length that no token may have.
     pub fn new(
         token: Bytes,
         secret: Bytes,

@@ -1,4 +1,4 @@
-//! Where in a desk's table each recipient ID stands, so that a context is found without going through them all.
+//! Where in a desk's table each recipient ID is, so that a context is found without going through them all.
 
 ghost use Rattle.std.specs.Prelude.{◌≡◌, ◌≤◌, ◌<◌, ℕ, [], ◌∷◌, if◌then◌else◌, false, bytes_eq, length, position, slice_index_or};
 ghost use Rattle.std.specs.Option.{option_map_or};
@@ -15,7 +15,7 @@ pub(crate) type Places = [u8; 256];
 /// The place of an ID that no context has.
 pub(crate) const NOWHERE: u8 = 255;
 
-/// Where the recipient IDs of this table stand; takes time linear in its token ids.
+/// Where the recipient IDs of this table are; takes time linear in its token ids.
 pub(crate) fn places_of(table: &[TokenEntry]) -> Places
     requires { length table.now ≤ 64 }
     ensures { IsIndex result table.now }

@@ -27,7 +27,7 @@ impl<'a> Model for Standing<'a> {
     ghost view = { λ on. record { at = on.at; tree = on.tree.now } };
 }
 
-/// Whether a resource stands at a path, if there is one.
+/// Whether a resource is at a path, if there is one.
 pub(crate) fn is_there(tree: &Tree, path: &Option<Path>) -> bool
     ensures { result ≡ stands tree.now path.now }
 {

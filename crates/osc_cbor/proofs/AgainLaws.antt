@@ -55,7 +55,7 @@ pairs_again inner left again (pair k v ps) before front rest (key, value, others
 
 -- ---- heads and contents
 
--- behind a head stands the content
+-- after a head is the content
 pub head_again : (left : ℕ) (m : Major) (n : ℕ) (front after : List ℕ) → IsHead (major_number m) n front → item_at (suc left) (front ++ after) ≡ content_at (item_at left) m n after
 head_again left m n front after is =
     let head = argument_again (major_number m) n front after is in

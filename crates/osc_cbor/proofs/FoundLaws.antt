@@ -71,7 +71,7 @@ pub record TookItems (left n : ℕ) (bytes : List ℕ) (ds : Items) (rest : List
   pub whole : bytes ≡ front ++ rest
   pub rest_fits : AreBytes rest
 
--- an item, and the others behind it
+-- an item, and the others after it
 pub item_spelled : (front rest : List ℕ) (d : DataItem) (ds : Items) → Spells front d → SpellsItems rest ds → SpellsItems (front ++ rest) (item d ds)
 item_spelled front rest d ds is_one are_others = (front, rest, is_one, are_others, refl)
 
@@ -111,7 +111,7 @@ pub record TookPairs (left : ℕ) (before : Pairs) (n : ℕ) (bytes : List ℕ) 
   pub whole : bytes ≡ front ++ rest
   pub rest_fits : AreBytes rest
 
--- a pair, and the others behind it
+-- a pair, and the others after it
 pub pair_spelled : (key value rest : List ℕ) (k v : DataItem) (ps : Pairs) → Spells key k → Spells value v → SpellsPairs rest ps → SpellsPairs (key ++ value ++ rest) (pair k v ps)
 pair_spelled key value rest k v ps is_key is_value are_others = (key, value, rest, is_key, is_value, are_others, refl)
 

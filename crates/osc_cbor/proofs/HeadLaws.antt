@@ -184,7 +184,7 @@ argument_takes bits bytes n rest fits e =
       | from_28 le ↦ absurd (ok_or_err (n, rest) Unsupported (sym e ∙ argument_reserved bits bytes le))
     ]
 
--- a head, as its first byte and the argument that is read behind it
+-- a head, as its first byte and the argument that is read after it
 pub record Heads (major n : ℕ) (front rest : List ℕ) : Type 0 where
   pub bits : ℕ
   pub extension : List ℕ

@@ -33,7 +33,7 @@ pub front_read : (bytes front rest : List ℕ) (s : Stands bytes) → front ≡ 
 front_read bytes front rest s is after =
     stands_read bytes s ∙ ap₂ (λ (d : DataItem) (x : List ℕ). Ok (d, x)) (sym (item_in_is front s.first (front_is bytes front s is))) (sym after)
 
--- nothing stands inside it
+-- nothing is inside it
 pub leaf_passed : (bytes : List ℕ) (t : Token) (after : List ℕ) (d : DataItem) (front rest : List ℕ) → token_at bytes ≡ Ok (t, after) → inside t.0 t.1 ≡ 0 → Spells front d → bytes ≡ front ++ rest → after ≡ rest
 leaf_passed bytes t after d front rest read none s whole =
     pending_done (1 - 1 + inside t.0 t.1) after rest (pending_step 1 bytes rest t after (pending_start bytes d front rest s whole) (omega arith) read) (omega (arith, none))
@@ -180,7 +180,7 @@ two_of front (bool b) rest t after s read is_array is_two = absurd (omega (arith
 two_of front null rest t after s read is_array is_two = absurd (omega (arith, kind_front front null rest t after s read))
 
 module _ (bytes : List ℕ) (s : Stands bytes) where
-  -- a token stands there
+  -- a token is there
   pub stands_token : (e : ReadError) → token_at bytes ≡ Err e → ⊥
   stands_token e refused = pending_refused 1 bytes s.rest e (pending_start bytes s.first s.front s.rest s.spelled s.whole) (omega arith) refused
 
@@ -193,7 +193,7 @@ module _ (bytes : List ℕ) (s : Stands bytes) where
         let k = array_front s.front (item a (item b no_items)) s.rest t after spelled (ap token_at (sym s.whole) ∙ read) in
         (sym k.0, sym k.1)
 
-    -- and behind that one they stand
+    -- and after that one they are
     pub two_inside : t.0 ≡ 4 → t.1 ≡ 2 → Two s.first after s.rest
     two_inside is_array is_two = two_of s.front s.first s.rest t after s.spelled (ap token_at (sym s.whole) ∙ read) is_array is_two
 

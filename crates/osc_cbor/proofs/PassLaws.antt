@@ -39,7 +39,7 @@ pub record Left (inner : List ℕ → Found) (count index : ℕ) (bytes rest : L
   pub fits : AreBytes rest
   pub left : pairs_from inner before (count - index) rest ≡ pairs_from inner no_pairs count bytes
 
--- the same with a key that is new behind them
+-- the same with a key that is new after them
 pub record KeyLeft (inner : List ℕ → Found) (count index : ℕ) (bytes rest behind_key : List ℕ) (rows : List (List ℕ)) (old new : List ℕ) (k : DataItem) : Type 0 where
   pub earlier : Left inner count index bytes rest rows old new
   pub new_key : has_key k earlier.before ≡ false

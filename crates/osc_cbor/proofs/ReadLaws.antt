@@ -10,7 +10,7 @@ use Rattle.osc_cbor.proofs.FoundLaws.{item_takes}
 use Rattle.osc_cbor.proofs.AgainLaws.{item_again}
 use Rattle.osc_cbor.proofs.FailLaws.{item_fails}
 
--- a refusal is for want of memory, or the one of the reading
+-- a refusal is for lack of memory, or the one of the reading
 pub refusal : {Y : Type 0} (e : ReadError) (read : Result Y ReadError) → Refuses e read → (e ≡ Memory) ⊎ (read ≡ Err e)
 refusal Memory read h = inl refl
 refusal Truncated read h = inr h
@@ -43,7 +43,7 @@ found_only bytes found after e d front rest spelled shallow whole =
     let left : after ≡ rest = ap (λ (p : DataItem × List ℕ). p.1) same in
     (ap (λ (p : DataItem × List ℕ). p.0) same, omega (arith, ap length left, ap length whole, length-append front rest))
 
--- once the end was found, nothing but memory is wanting
+-- once the end was found, nothing but memory runs out
 pub only_memory : (bytes : List ℕ) (e : ReadError) → Refuses e (item_at 9 bytes) → (d : DataItem) (rest : List ℕ) → item_at 9 bytes ≡ Ok (d, rest) → e ≡ Memory
 only_memory bytes e h d rest found =
     elim (refusal e (item_at 9 bytes) h) [
@@ -58,7 +58,7 @@ found_first bytes found after e fault fails = ok_or_err (found, after) fault (sy
 pub same_err : {Y : Type 0} {e d fault : ReadError} → e ≡ d → ◌≡◌ {A = Result Y ReadError} (Err d) (Err fault) → e ≡ fault
 same_err p q = p ∙ cc
 
--- ---- want of memory is no fault of the bytes
+-- ---- lack of memory is no fault of the bytes
 
 head_never : (bytes : List ℕ) → HeadFails bytes Memory → ⊥
 head_never bytes (faults.HeadFails.no_byte none is) = cc

@@ -72,7 +72,7 @@ items_refuse inner left Inner takes refused (suc n) before bytes e fits h =
 
 -- ---- pairs
 
--- pairs that stand behind others, of which one can't be read
+-- pairs that follow others, of which one can't be read
 record FailsBehind (left : ℕ) (Inner : List ℕ → ReadError → Type 0) (earlier : Pairs) (n : ℕ) (bytes : List ℕ) (e : ReadError) : Type 0 where
   pub more : Pairs
   pub front : List ℕ

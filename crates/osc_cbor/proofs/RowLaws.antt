@@ -1,4 +1,4 @@
--- Rows of bytes: how often some stand among them, and rows that ascend.
+-- Rows of bytes: how often some are among them, and rows that ascend.
 use Rattle.std.proofs.Common.{◌≡◌, ℕ, suc, ◌+◌, ◌-◌, ◌<◌, ◌≤◌, true, false, cond, List, [], ◌∷◌, ◌++◌, length, get_or, take, drop, refl, sym, ap, ◌∙◌, arith}
 use Rattle.std.specs.Str.{bytes_eq}
 use Rattle.std.specs.declared.cmp.Ordering.TheVariants.{Less, Equal}
@@ -107,6 +107,6 @@ says_sorted Unordered spelled keys sorted p h = tt
 pub pieces-drop : (spelled : List ℕ) (keys : List Key) (i : ℕ) (d : Key) → i < length keys → pieces spelled (drop i keys) ≡ piece spelled (get_or keys i d) ∷ pieces spelled (drop (i + 1) keys)
 pieces-drop spelled keys i d h = rw (drop_more keys i d h)
 
--- all of what stands behind an index
+-- all of what follows an index
 pub rest_of : (keys : List Key) (i : ℕ) → take (length keys - i) (drop i keys) ≡ drop i keys
 rest_of keys i = ap (λ (n : ℕ). take n (drop i keys)) (sym (length-drop i keys)) ∙ take-length (drop i keys)

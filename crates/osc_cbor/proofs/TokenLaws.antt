@@ -44,7 +44,7 @@ text_behind : (content after : List ℕ) → token_behind 3 (length content) (co
 unfolding token_behind
 text_behind content after = rw (string_again content after) refl
 
--- a head with no string behind it
+-- a head with no string after it
 pub plain_token : (major n : ℕ) (front after : List ℕ) → major < 7 → major ≢ 2 → major ≢ 3 → IsHead major n front → token_at (front ++ after) ≡ Ok ((major, n, []), after)
 plain_token major n front after low a b is = token_headed major n front after low is ∙ plain_behind major n after a b
 
@@ -70,7 +70,7 @@ simple_token bits bytes after lt whole =
     let low : (224 + bits) % 32 ≡ bits = bits_part 7 bits lt in
     rw (whole, high, low) refl
 
--- ---- what stands inside an item
+-- ---- what is inside an item
 
 abbrev pub join : Items → Items → Items
 join no_items es = es
@@ -314,7 +314,7 @@ token_shorter (first ∷ bytes) t after e =
 pub alike_start : (a b : List ℕ) (ts us : List Token) → Stream a ts → Stream b us → Alike ts us a b
 alike_start a b ts us is_a is_b = record { more = ts; others = us; is_more = is_a; is_others = is_b; same = λ e. e; back = λ e. e }
 
--- what stands at the front of a row
+-- what is at the front of a row
 first_of_row : (a : List ℕ) (ts : List Token) (t : Token) (rest : List ℕ) → Stream a ts → token_at a ≡ Ok (t, rest) → (more : List Token) × (ts ≡ t ∷ more) × Stream rest more
 first_of_row a [] t rest none e = absurd (ok_or_err (t, rest) Truncated (sym e ∙ ap token_at none ∙ token_none))
 first_of_row a (u ∷ us) t rest (after, read, more) e =
@@ -433,7 +433,7 @@ pub leaf_at : (bytes : List ℕ) (first : ℕ) (rest : List ℕ) (n : ℕ) (cont
 leaf_at bytes first rest n content after is low read =
     ((first / 32, n, content), ap token_at is ∙ read, inside_none (first / 32) n (omega (arith, low)))
 
--- nothing stands inside it
+-- nothing is inside it
 pub pending_leaf : (count : ℕ) (bytes rest : List ℕ) (t : Token) (after : List ℕ) → Pending count bytes rest → 0 < count → token_at bytes ≡ Ok (t, after) → inside t.0 t.1 ≡ 0 → Pending (count - 1) after rest
 pending_leaf count bytes rest t after p some read none =
     let n : count - 1 + inside t.0 t.1 ≡ count - 1 = omega (arith, none) in

@@ -56,7 +56,7 @@ value_under label (pair k v ps) = value_if label k v (value_under label ps)
 
 -- ---- nesting
 
--- in how many arrays, maps and tags the innermost item stands
+-- in how many arrays, maps and tags the innermost item is
 abbrev mutual
   pub nesting : DataItem → ℕ
   nesting (array ds) = items_nesting ds

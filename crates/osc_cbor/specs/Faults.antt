@@ -68,7 +68,7 @@ module _ (left : ℕ) (Inner : List ℕ → ReadError → Type 0) where
     pub fails : PairFails before rest fault
     pub whole : bytes ≡ front ++ rest
 
-  -- an item that stands in no more than the levels that are left ends in a fault
+  -- an item that is in no more than the levels that are left ends in a fault
   pub data ItemFails (bytes : List ℕ) (fault : ReadError) : Type 0 where
     in_head : HeadFails bytes fault → ItemFails bytes fault
     in_string : StringFails bytes fault → ItemFails bytes fault
@@ -76,7 +76,7 @@ module _ (left : ℕ) (Inner : List ℕ → ReadError → Type 0) where
     in_map : (count : ℕ) → Follows 5 count (λ rest. PairsFail count rest fault) bytes → ItemFails bytes fault
     in_tag : (number : ℕ) → Follows 6 number (λ rest. Inner rest fault) bytes → ItemFails bytes fault
 
--- an item stands too deep: judged where it has a first byte
+-- an item is too deep: judged where it has a first byte
 pub data TooDeepFails (bytes : List ℕ) (fault : ReadError) : Type 0 where
   no_byte : bytes ≡ [] → fault ≡ Truncated → TooDeepFails bytes fault
   too_deep : bytes ≢ [] → fault ≡ TooDeep → TooDeepFails bytes fault

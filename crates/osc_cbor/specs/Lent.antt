@@ -1,4 +1,4 @@
--- Items in their bytes: which item they spell, and which items or pairs stand there one after the other.
+-- Items in their bytes: which item they spell, and which items or pairs are there one after the other.
 use Rattle.std.specs.Prelude.{◌≡◌, ℕ, zero, suc, ◌≤◌, List, [], ◌∷◌, ◌++◌, Ok, Err}
 use Rattle.osc_cbor.specs.Data.{DataItem, unsigned, negative, byte_string, text_string, array, map, tag, bool, null, Items, Pairs, item_count, pair_count, nesting, items_nesting, pairs_nesting, most_nesting}
 use Rattle.osc_cbor.specs.Reading.{Found, item_at}
@@ -29,7 +29,7 @@ pairs_in (suc n) bytes =
     let behind_key = rest_of (item_at 9 bytes) in
     (item_in bytes, item_in behind_key) ∷ pairs_in n (rest_of (item_at 9 behind_key))
 
--- an item stands at the beginning of the bytes
+-- an item is at the beginning of the bytes
 pub record Stands (bytes : List ℕ) : Type 0 where
   pub first : DataItem
   pub front : List ℕ

@@ -87,7 +87,7 @@ abbrev pub push_pair : Pairs → DataItem → DataItem → Pairs
 push_pair no_pairs k v = pair k v no_pairs
 push_pair (pair l w ps) k v = pair l w (push_pair ps k v)
 
--- so many items, each read by `inner`, behind those before
+-- so many items, each read by `inner`, after those before
 unfoldable pub items_from : (List ℕ → Found) → Items → ℕ → List ℕ → Result (Items × List ℕ) ReadError
 items_from inner before zero bytes = Ok (before, bytes)
 items_from inner before (suc n) bytes = do

@@ -1,4 +1,4 @@
--- How items are spelled (RFC 8949 section 3): in which bytes each item may stand, and which of them are written.
+-- How items are spelled (RFC 8949 section 3): in which bytes each item may be, and which of them are written.
 use Rattle.std.specs.Prelude.{◌≡◌, ℕ, ◌≤◌, ◌<◌, ◌^◌, Bool, if◌then◌else◌, List, [], ◌∷◌, ◌++◌, length, take, ⊤}
 use Rattle.std.specs.Str.{IsUtf8}
 use Rattle.osc_cbor.specs.Data.{DataItem, unsigned, negative, byte_string, text_string, array, map, tag, bool, null, Items, no_items, item, Pairs, no_pairs, pair, item_count, pair_count, HasOwnKeys, nesting, most_nesting}

@@ -8,20 +8,20 @@ use osc_model::refusals;
 use std::alloc::{AllocError, AllocFailed};
 use thiserror::Error;
 
-/// Why no item stands at the beginning of some bytes: the first fault in their order, but for `Memory`.
+/// Why no item is at the beginning of some bytes: the first fault in their order, but for `Memory`.
 #[derive(Clone, Copy, Debug, PartialEq, Eq, Error)]
 pub enum ReadError {
     /// The bytes end inside an item.
     #[error("the bytes end inside an item")]
     Truncated,
-    /// What stands there isn't in the subset: a reserved head, an indefinite length, a floating-point number, another
+    /// What is there isn't in the subset: a reserved head, an indefinite length, a floating-point number, another
     /// simple value, or a text that isn't UTF-8.
     #[error("an item of an unsupported kind, or a text that is not UTF-8")]
     Unsupported,
     /// A map has two equal keys.
     #[error("two equal keys in a map")]
     DuplicateKey,
-    /// An item stands in more than 8 arrays, maps and tags.
+    /// An item is in more than 8 arrays, maps and tags.
     #[error("items are nested too deep")]
     TooDeep,
     /// There was no memory for the item.

@@ -87,7 +87,7 @@ pub(crate) fn two_inside<'a>(bytes: &'a [u8]) -> Option<(ItemRef<'a>, ItemRef<'a
     Some((first, second, rest))
 }
 
-/// What stands under the wanted number in the first pair that has it as its key: `known`, where one of the pairs before had
+/// What is under the wanted number in the first pair that has it as its key: `known`, where one of the pairs before had
 /// it, and else the value of this pair, where the wanted number is its label. So one pass over a map's pairs, by
 /// [`PairRefs::next_labelled`], finds all that is wanted of it.
 #[inline(always)]

@@ -1,4 +1,4 @@
-//! What stands in arrays and maps, lent item by item. No memory is taken.
+//! What is in arrays and maps, lent item by item. No memory is taken.
 
 ghost use Rattle.std.specs.Prelude.{◌≡◌, ◌≢◌, ◌≤◌, ◌<◌, ◌∷◌, List, ℕ, None, IfSome, IfNone, length};
 ghost use Rattle.std.specs.Iterator.{YieldsFirstBy, item_count};

@@ -17,7 +17,7 @@ use crate::heads::Major;
 use crate::item::Item;
 use std::alloc::Global;
 
-/// How many levels there are: an item stands in at most 8 arrays, maps and tags.
+/// How many levels there are: an item is in at most 8 arrays, maps and tags.
 pub(crate) const MOST_LEVELS: u8 = 9;
 
 fn one_byte_at(bytes: &[u8]) -> Result<(u64, &[u8]), ReadError>
@@ -241,7 +241,7 @@ pub(crate) fn item_of(alloc: Global, left: u8, bytes: &[u8]) -> Result<(Item, &[
 ///
 /// # Errors
 ///
-/// The first fault in the order of the bytes. `Memory` only where an item stands there.
+/// The first fault in the order of the bytes. `Memory` only where an item is there.
 pub fn read(alloc: Global, bytes: &[u8]) -> Result<(Item, usize), ReadError>
     // What is read is spelled so.
     ensures found { IfOk result (λ found. Begins bytes.now (view found.0) found.1) }
@@ -250,7 +250,7 @@ pub fn read(alloc: Global, bytes: &[u8]) -> Result<(Item, usize), ReadError>
         → Spells front d → nesting d ≤ most_nesting → bytes.now ≡ front ++ rest → GivesItem result d (length front) }
     // A fault is the first one, and the first one is answered ..
     ensures fault { (fault : AnyError) → fault ≢ AnyError.Memory → ((result ≡ Err fault) ↔ Fails 9 bytes.now fault) }
-    // .. for want of memory too: that is told only where an item stands.
+    // .. for lack of memory too: that is told only where an item is.
     ensures memory { result ≡ Err ReadError.Memory → (d : DataItem) × (count : ℕ) × Begins bytes.now d count }
 {
     behind_first(bytes)?;

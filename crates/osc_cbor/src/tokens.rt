@@ -12,10 +12,10 @@ use crate::error::ReadError;
 use crate::heads::Major;
 use crate::reader::{argument_of, string_of};
 
-/// A head with the string behind it: major type, argument and string. Of a simple value the argument is its five bits.
+/// A head with the string after it: major type, argument and string. Of a simple value the argument is its five bits.
 pub(crate) type Token<'a> = (u8, u64, &'a [u8]);
 
-/// What stands behind a head.
+/// What follows a head.
 #[tactic(auto, unfolding(crate::specs::Inner::Tokens::token_behind))]
 fn behind_head(major: u8, argument: u64, bytes: &[u8]) -> Result<(Token, &[u8]), ReadError>
     ensures { Reads (λ x. ((x.0.0, x.0.1, x.0.2.now), x.1.now)) result (token_behind major argument bytes.now) }
@@ -139,7 +139,7 @@ pub(crate) fn same_spelled(a: &[u8], b: &[u8]) -> bool
     right.is_empty()
 }
 
-/// How many items stand inside one with this head; the greatest number where they are more than that.
+/// How many items are inside one with this head; the greatest number where they are more than that.
 #[inline(always)]
 #[tactic(auto, unfolding(crate::specs::Inner::Tokens::inside))]
 fn inside(major: u8, argument: u64) -> u64
@@ -160,7 +160,7 @@ fn size_of(bytes: &[u8]) -> u64
     bytes.len() as u64
 }
 
-/// The bytes behind the first head with its string, where no item stands inside it, and the head takes one byte, or two and is that of a number.
+/// The bytes after the first head with its string, where no item is inside it, and the head takes one byte, or two and is that of a number.
 #[inline(always)]
 fn behind_leaf(bytes: &[u8]) -> Option<&[u8]>
     ensures { IfSome result (λ after. (t : spec.Token) × (token_at bytes.now ≡ Ok (t, after.now)) × (spec.inside t.0 t.1 ≡ 0)) }
@@ -177,7 +177,7 @@ fn behind_leaf(bytes: &[u8]) -> Option<&[u8]>
     Some(after)
 }
 
-/// The bytes behind the item that stands at their beginning.
+/// The bytes after the item that is at their beginning.
 #[inline(never)]
 pub(crate) fn behind_item(bytes: &[u8]) -> &[u8]
     ensures { (d : DataItem) (front rest : List ℕ) → Spells front d → bytes.now ≡ front ++ rest → result.now ≡ rest }
@@ -202,7 +202,7 @@ pub(crate) fn behind_item(bytes: &[u8]) -> &[u8]
     rest
 }
 
-/// The bytes after the item that stands at their beginning, told at once where its head is short and no other stands inside.
+/// The bytes after the item that is at their beginning, told at once where its head is short and no other is inside.
 #[inline(always)]
 pub(crate) fn after_item(bytes: &[u8]) -> &[u8]
     ensures { (d : DataItem) (front rest : List ℕ) → Spells front d → bytes.now ≡ front ++ rest → result.now ≡ rest }
@@ -213,7 +213,7 @@ pub(crate) fn after_item(bytes: &[u8]) -> &[u8]
     }
 }
 
-/// What stands before the rest.
+/// What is before the rest.
 #[inline(always)]
 pub(crate) fn taken<'a>(bytes: &'a [u8], rest: &[u8]) -> &'a [u8]
     ensures { (front : List ℕ) → bytes.now ≡ front ++ rest.now → result.now ≡ front }

@@ -28,7 +28,7 @@ pub fn is_whole_map(bytes: &[u8]) -> bool
     is_whole(bytes) && is_spelled_map(bytes)
 }
 
-/// The item that the bytes are, all of them, where they are one. An error is want of memory, and comes only where they are
+/// The item that the bytes are, all of them, where they are one. An error is lack of memory, and comes only where they are
 /// one; memory and time are those of [`crate::read`].
 pub fn read_whole(alloc: Global, bytes: &[u8]) -> Result<Option<Item>, AllocError>
     ensures { MatchResult result

@@ -3,7 +3,7 @@ use Rattle.std.proofs.Common.{◌≡◌, ◌↔◌, ℕ, ◌-◌, ◌≤◌, Boo
 use Rattle.std.proofs.lemmas.List.{take-append-drop, length-take, length-drop, length-append, append_cancel_left}
 use Rattle.osc_ccm.specs.{ciphered, tag_of, IsSealing, IsInRange, ciphered-ciphered, text_of_sealing}
 
--- c is the ciphertext and t the tag that stands behind it
+-- c is the ciphertext and t the tag that follows it
 genuine_parts : (key : List ℕ) (size : ℕ) (nonce aad c t sealed : List ℕ) (same : Bool) → sealed ≡ c ++ t → length t ≡ size → IsInRange (length c) (length aad) → length (ciphered key nonce c) ≡ length c → IsTrue same ↔ (t ≡ tag_of key size nonce aad (ciphered key nonce c)) → IsTrue same ↔ IsSealing key size nonce aad (ciphered key nonce c) sealed
 genuine_parts key size nonce aad c t sealed same parts tag_size range whole compared =
     let text = ciphered key nonce c in

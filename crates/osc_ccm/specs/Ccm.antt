@@ -48,7 +48,7 @@ first_flags size (_ ∷ _) = 64 + 8 * ((size - 2) / 2) + 1
 abbrev pub first_block : ℕ → List ℕ → List ℕ → List ℕ → List ℕ
 first_block size nonce aad text = flagged (first_flags size aad) nonce (length text)
 
--- the blocks of the associated data, which stands after its length; none where there is none
+-- the blocks of the associated data, which is after its length; none where there is none
 abbrev pub aad_blocks : List ℕ → List (List ℕ)
 aad_blocks [] = []
 aad_blocks (byte ∷ rest) = blocks (two_bytes (length (byte ∷ rest)) ++ (byte ∷ rest))

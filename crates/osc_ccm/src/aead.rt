@@ -43,7 +43,7 @@ pub trait Aead: Drop {
     ///
     /// # Errors
     ///
-    /// The first of these that stands; `out` is then as before:
+    /// The first of these that applies; `out` is then as before:
     /// `TooLong` for a text above `TEXT_LIMIT` or associated data above `AAD_LIMIT` bytes,
     /// `OutTooSmall` where the sealed bytes don't fit into `out`.
     fn seal(
@@ -68,7 +68,7 @@ pub trait Aead: Drop {
     ///
     /// # Errors
     ///
-    /// The first of these that stands; `out` is then as before:
+    /// The first of these that applies; `out` is then as before:
     /// `TooLong` for a text above `TEXT_LIMIT` or associated data above `AAD_LIMIT` bytes,
     /// `OutTooSmall` where the text doesn't fit into `out`,
     /// `NotGenuine` where the bytes are a sealing of no text; so are bytes shorter than a tag.

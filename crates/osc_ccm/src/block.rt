@@ -78,7 +78,7 @@ pub fn xor_into(bytes: &mut [u8], block: &[u8; 16])
 }
 
 /// Whether two strings of bytes of one length are equal. All bytes are compared, wherever the
-/// first difference stands: the differences are gathered, and looked at once.
+/// first difference is: the differences are gathered, and looked at once.
 pub fn is_same(one: &[u8], other: &[u8]) -> bool
     requires { length one.now ≡ length other.now }
     ensures { IsTrue result ↔ (one.now ≡ other.now) }

@@ -14,7 +14,7 @@ use Rattle.osc_options.specs.declared.table.Class.TheVariants.{E}
 use Rattle.osc_options.specs.{uint_bytes, each, none_match_options, path_options, request_options, segments_of, uint_options, with_request, request_plaintext, AreInOrder, has_oscore, inner_options, insert, merge, of_number, outer_options, plaintext_of, same_class, unprotected, class_of}
 use Rattle.osc_client.specs.{plain_request, post_with, HostAndPort, proxy_options, through}
 
--- ---- the laws that this stands on
+-- ---- the laws that this is on
 
 abbrev pub LengthLaw : Type 0
 LengthLaw = (m : Message) → length (spelling m) ≡ spelled_length m
@@ -38,7 +38,7 @@ is_inner option = same_class E (class_of option.0)
 abbrev is_of : ℕ → NumberAndValue → Bool
 is_of number option = option.0 == number
 
--- in order behind a smaller number
+-- in order after a smaller number
 in_order_below : (low high : ℕ) (options : List NumberAndValue) → low ≤ high → AreInOrder high options → AreInOrder low options
 in_order_below low high [] le p = tt
 in_order_below low high (option ∷ options) le p = (omega (arith, p.0), p.1)
@@ -198,7 +198,7 @@ all_inside : (before : ℕ) (options : List NumberAndValue) → AreEncrypted bef
 all_inside before [] p = refl
 all_inside before (option ∷ options) p = rw p.1 (ap (λ (rest : List NumberAndValue). option ∷ rest) (all_inside option.0 options p.2))
 
--- behind options of no larger number
+-- after options of no larger number
 abbrev EncryptedFrom : ℕ → List NumberAndValue → Type 0
 EncryptedFrom least rest = (before : ℕ) → before ≤ least → AreEncrypted before rest
 

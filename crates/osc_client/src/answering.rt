@@ -38,7 +38,7 @@ pub enum Outcome {
     Ends(ClientResult),
 }
 
-/// What an answer comes to, or want of memory for it, and what waits then.
+/// What an answer comes to, or lack of memory for it, and what waits then.
 #[derive(Drop)]
 pub(crate) struct Learnt {
     pub outcome: Result<Outcome, AllocError>,
@@ -101,7 +101,7 @@ fn exchange_outcome(
     }
 }
 
-/// What an exchange comes to by a success; want of memory hands it back.
+/// What an exchange comes to by a success; lack of memory hands it back.
 fn finish(
     alloc: Global,
     desk: &ClientDesk,
@@ -162,7 +162,7 @@ fn opened_outcome<A: Ciphers>(
     outcome_opened(alloc, opened)
 }
 
-/// What comes of what was opened, or wasn't: memory is taken for a reply alone.
+/// The outcome of what was opened, or wasn't: memory is taken for a reply alone.
 fn outcome_opened(alloc: Global, opened: Option<Note>) -> Result<Outcome, AllocError>
     ensures comes { IfOk result (λ outcome. ComesOf opened outcome) }
     ensures memory { IsErr result → IsSome opened }
@@ -257,7 +257,7 @@ fn judge_ask<A: Ciphers>(
     Judged { outcome, awaited }
 }
 
-/// What an answer that counts comes to, and what waits then: all that waited, where memory is wanting.
+/// What an answer that counts comes to, and what waits then: all that waited, where memory runs out.
 pub(crate) fn outcome_of<A: Ciphers>(
     alloc: Global,
     desk: &ClientDesk,

@@ -346,8 +346,8 @@ impl Client {
     }
 
     /// These bytes came from this peer at this moment as one datagram: the step that answers them. What is sent is at most one
-    /// datagram, to that peer: a Reset, an acknowledgement, a refusal, or what answered the same message before. What comes of an
-    /// answer that counts stands in the step's notes. Without memory for it an `AllocError`; then nothing has changed.
+    /// datagram, to that peer: a Reset, an acknowledgement, a refusal, or what answered the same message before. The outcome of an
+    /// answer that counts is in the step's notes. Without memory for it an `AllocError`; then nothing has changed.
     pub fn on_datagram<A: Ciphers>(
         &mut self,
         alloc: Global,
@@ -470,7 +470,7 @@ impl Client {
         Ok(step)
     }
 
-    /// What comes of a response that counts.
+    /// The outcome of a response that counts.
     fn count<A: Ciphers>(
         &mut self,
         alloc: Global,

@@ -1,5 +1,5 @@
 //! A client: exchanges at authz-info (RFC 9203), and protected requests (RFC 8613). One event in, its step out. What it sends in
-//! each, and keeps after it, stands in `specs/Sending.antt`.
+//! each, and keeps after it, is in `specs/Sending.antt`.
 #![tactic(auto)]
 
 mod answering;

@@ -7,7 +7,7 @@ use Rattle.osc_coap.specs.{NumberAndValue, option_spelling, options_spelling, pa
 use Rattle.osc_coap.proofs.Steps.{bind_some}
 use Rattle.osc_coap.proofs.OptionLaws.{IsOptionRead, first_byte, option_spelling-cons, first_byte_below, option_again, option_takes, option_left}
 
--- the options and the payload behind one option
+-- the options and the payload after one option
 abbrev pub behind : NumberAndValue → Option Body → Option Body
 behind option body = body >>= λ others. Some (option ∷ others.0, others.1)
 
@@ -21,7 +21,7 @@ unfolding body_within
 within_nil zero before = refl
 within_nil (suc fuel) before = refl
 
--- behind a marker stands the payload
+-- after a marker is the payload
 within_marker : (fuel before : ℕ) (bytes : List ℕ) → body_within (suc fuel) before (255 ∷ bytes) ≡ payload_at bytes
 unfolding body_within
 within_marker fuel before bytes = refl
@@ -61,7 +61,7 @@ pub body_nil : (before : ℕ) → body_at before [] ≡ Some ([], None)
 unfolding body_at
 body_nil before = within_nil 0 before
 
--- behind a marker stands the payload
+-- after a marker is the payload
 pub body_marker : (before : ℕ) (bytes : List ℕ) → body_at before (255 ∷ bytes) ≡ payload_at bytes
 unfolding body_at
 body_marker before bytes = within_marker (length bytes) before bytes
@@ -132,7 +132,7 @@ nil_takes before body e =
     let made : Body = ([], None) in
     subst (λ (x : Body). IsBodyRead before [] x) (same_Some made body (sym (body_nil before) ∙ e)) (record { whole = refl; fits = record { options = tt; payload = tt } })
 
--- an option and the others behind it are spelled so
+-- an option and the others after it are spelled so
 option_then : (before : ℕ) (bytes : List ℕ) (option : NumberAndValue) (rest : List ℕ) (body : Body) → IsOptionRead before bytes option rest → IsBodyRead option.0 rest body → IsBodyRead before bytes (option ∷ body.0, body.1)
 unfolding options_spelling
 option_then before bytes option rest body first others = record {

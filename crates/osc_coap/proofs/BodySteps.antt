@@ -20,7 +20,7 @@ body_none before (b ∷ bytes) more e = body_refused before b bytes (eqb-false b
 
 -- ---- the options
 
--- what stands behind an option can be read too
+-- what follows an option can be read too
 behind_read : (option : NumberAndValue) (body : Option Body) → IsTrue (is_some (behind option body)) → IsTrue (is_some body)
 behind_read option None h = h
 behind_read option (Some body) h = refl
@@ -29,7 +29,7 @@ behind_read option (Some body) h = refl
 abbrev options_part : Option Body → List NumberAndValue
 options_part body = unwrap_or (option_map (λ body. body.0) body) []
 
--- the options behind an option
+-- the options after an option
 behind_options : (option : NumberAndValue) (body : Option Body) → IsTrue (is_some (behind option body)) → options_part (behind option body) ≡ option ∷ options_part body
 behind_options option None h = absurd cc
 behind_options option (Some body) h = refl
@@ -47,12 +47,12 @@ options_more before bytes x more e read =
 pub is_read : (before : ℕ) (bytes : List ℕ) → is_end bytes ≡ false → option_at before bytes ≡ None → CanBeRead before bytes → ⊥
 is_read before bytes more e read = let none = subst (λ (b : Option Body). IsTrue (is_some b)) (body_none before bytes more e) read in cc
 
--- no options stand behind a marker
+-- no options follow a marker
 marker_options : (bytes : List ℕ) → options_part (payload_at bytes) ≡ []
 marker_options [] = refl
 marker_options (b ∷ bytes) = refl
 
--- no options stand at the end
+-- no options are at the end
 pub options_end : (before : ℕ) (bytes : List ℕ) → is_end bytes ≡ true → options_in before bytes ≡ []
 options_end before [] end = ap options_part (body_nil before)
 options_end before (b ∷ bytes) end = rw (eqb-true b 255 end) (ap options_part (body_marker before bytes) ∙ marker_options bytes)
@@ -63,7 +63,7 @@ options_end before (b ∷ bytes) end = rw (eqb-true b 255 end) (ap options_part 
 abbrev payload_part : Option Body → Option (Option (List ℕ))
 payload_part body = option_map (λ body. body.1) body
 
--- the payload is that behind an option
+-- the payload is that after an option
 behind_payload : (option : NumberAndValue) (body : Option Body) → payload_part (behind option body) ≡ payload_part body
 behind_payload option None = refl
 behind_payload option (Some body) = refl
@@ -76,27 +76,27 @@ payload_more before bytes x more e = ap payload_part (body_more before bytes x m
 pub payload_none : (before : ℕ) (bytes : List ℕ) → is_end bytes ≡ false → option_at before bytes ≡ None → payload_in before bytes ≡ None
 payload_none before bytes more e = ap payload_part (body_none before bytes more e)
 
--- what stands at the end of the options
+-- what is at the end of the options
 pub payload_nil : (before : ℕ) (bytes : List ℕ) → length bytes ≡ 0 → payload_in before bytes ≡ Some None
 payload_nil before bytes len = ap (payload_in before) (nil_from_length bytes len) ∙ ap payload_part (body_nil before)
 
--- behind a marker stands the payload
+-- after a marker is the payload
 payload_behind : (before : ℕ) (bytes : List ℕ) (marker : ℕ) (payload : List ℕ) → is_end bytes ≡ true → bytes ≡ marker ∷ payload → payload_in before bytes ≡ payload_part (payload_at payload)
 payload_behind before bytes marker payload end e =
     let is : marker ≡ 255 = eqb-true marker 255 (sym (ap is_end e) ∙ end) in
     ap (payload_in before) (e ∙ ap (λ (b : ℕ). b ∷ payload) is) ∙ ap payload_part (body_marker before payload)
 
--- a marker with nothing behind it is refused
+-- a marker with nothing after it is refused
 pub payload_empty : (before : ℕ) (bytes : List ℕ) (marker : ℕ) (payload : List ℕ) → is_end bytes ≡ true → bytes ≡ marker ∷ payload → length payload ≡ 0 → payload_in before bytes ≡ None
 payload_empty before bytes marker payload end e len =
     payload_behind before bytes marker payload end e ∙ ap (λ (p : List ℕ). payload_part (payload_at p)) (nil_from_length payload len)
 
--- some bytes behind a marker are the payload
+-- some bytes after a marker are the payload
 nonempty_part : (payload : List ℕ) → 0 < length payload → payload_part (payload_at payload) ≡ Some (Some payload)
 nonempty_part [] lt = absurd (omega arith)
 nonempty_part (b ∷ bytes) lt = refl
 
--- some bytes behind a marker are the payload
+-- some bytes after a marker are the payload
 pub payload_found : (before : ℕ) (bytes : List ℕ) (marker : ℕ) (payload : List ℕ) → is_end bytes ≡ true → bytes ≡ marker ∷ payload → 0 < length payload → payload_in before bytes ≡ Some (Some payload)
 payload_found before bytes marker payload end e lt = payload_behind before bytes marker payload end e ∙ nonempty_part payload lt
 

@@ -42,12 +42,12 @@ pub AreOptions-push : (before : ℕ) (options : List NumberAndValue) (option : N
 AreOptions-push before [] option fits last = (last, tt)
 AreOptions-push before (first ∷ options) option fits last = (fits.0, AreOptions-push first.0 options option fits.1 last)
 
--- the last number is that of the option behind the others
+-- the last number is that of the option after the others
 pub last_number-push : (before : ℕ) (options : List NumberAndValue) (option : NumberAndValue) → last_number before (options ++ option ∷ []) ≡ option.0
 last_number-push before [] option = refl
 last_number-push before (first ∷ options) option = last_number-push first.0 options option
 
--- an option is spelled behind the others
+-- an option is spelled after the others
 pub spelling-with_option : (m : Message) (number : ℕ) (value : List ℕ) → m.payload ≡ None → spelling (with_option m number value) ≡ spelling m ++ option_spelling (last_number 0 m.options) (number, value)
 unfolding spelling payload_spelling
 spelling-with_option m number value none =
@@ -57,7 +57,7 @@ spelling-with_option m number value none =
     append-nil _ ∙ ap (λ (t : List ℕ). front ++ t) (options-push 0 m.options (number, value)) ∙ sym (append_assoc front (options_spelling 0 m.options) option) ∙ ap (λ (t : List ℕ). t ++ option) (sym (append-nil (front ++ options_spelling 0 m.options))) in
     subst (λ (p : Option (List ℕ)). (front ++ options_spelling 0 (m.options ++ (number, value) ∷ [])) ++ payload_spelling p ≡ ((front ++ options_spelling 0 m.options) ++ payload_spelling p) ++ option) (sym none) pushed
 
--- a payload is spelled behind the options
+-- a payload is spelled after the options
 pub spelling-with_payload : (m : Message) (bytes : List ℕ) → m.payload ≡ None → spelling (with_payload m bytes) ≡ spelling m ++ payload_spelling (payload_of bytes)
 unfolding spelling payload_spelling
 spelling-with_payload m bytes none =

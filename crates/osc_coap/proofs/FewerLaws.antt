@@ -27,19 +27,19 @@ pub AreOptions-back : (before : ℕ) (front back : List NumberAndValue) → AreO
 AreOptions-back before [] back p = p
 AreOptions-back before (option ∷ front) back p = AreOptions-back option.0 front back p.1
 
--- ---- behind a smaller number
+-- ---- after a smaller number
 
--- options behind a smaller number
+-- options after a smaller number
 AreOptions_below : (low high : ℕ) (options : List NumberAndValue) → low ≤ high → AreOptions high options → AreOptions low options
 AreOptions_below low high [] le p = tt
 AreOptions_below low high (option ∷ options) le p = (record { rises = omega (arith, p.0.rises); number = p.0.number; size = p.0.size }, p.1)
 
--- the last number behind a smaller one
+-- the last number after a smaller one
 last_number_below : (low high : ℕ) (options : List NumberAndValue) → low ≤ high → last_number low options ≤ last_number high options
 last_number_below low high [] le = le
 last_number_below low high (option ∷ options) le = omega arith
 
--- the bytes behind a smaller number: at most those of the step between
+-- the bytes after a smaller number: at most those of the step between
 options_length_below : (low high : ℕ) (options : List NumberAndValue) → low ≤ high → AreOptions high options → options_length low options ≤ 1 + extension_length (high - low) + options_length high options
 options_length_below low high [] le p = omega arith
 options_length_below low high (option ∷ options) le p =

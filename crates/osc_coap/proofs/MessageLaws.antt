@@ -20,7 +20,7 @@ use Rattle.osc_coap.proofs.BodyLaws.{body_spelling, body_nil, body_again, body_t
 abbrev pub message_of : ℕ → ℕ → ℕ → List ℕ → Body → Message
 message_of first code id token body = record { kind = kind_of (first / 16 % 4); code = code; id = id; token = token; options = body.0; payload = body.1 }
 
--- what a header and the bytes behind it meet
+-- what a header and the bytes after it meet
 pub record AreFields (first code : ℕ) (rest : List ℕ) : Type 0 where
   pub short : first % 16 ≤ 8
   pub within : first % 16 ≤ length rest
@@ -32,7 +32,7 @@ nothing_read size rest body len e =
     let nothing : drop size rest ≡ [] = nil_from_length (drop size rest) (omega (arith, length-drop size rest)) in
     same_Some ([], None) body (sym (body_nil 0) ∙ ap (body_at 0) (sym nothing) ∙ e)
 
--- the message of a header and the bytes behind it has a spelling
+-- the message of a header and the bytes after it has a spelling
 pub fields_lawful : (first code id : ℕ) (rest : List ℕ) (body : Body) → AreBytes rest → id < 2 ^ 16 → AreFields first code rest → body_at 0 (drop (first % 16) rest) ≡ Some body → HasSpelling (message_of first code id (take (first % 16) rest) body)
 fields_lawful first code id rest body bytes id_fits fields e =
     let size = first % 16 in
@@ -53,7 +53,7 @@ fields_lawful first code id rest body bytes id_fits fields e =
 
 -- ---- the tests of the reader
 
--- code 0.00 with nothing behind the header passes the reader's test
+-- code 0.00 with nothing after the header passes the reader's test
 empty_test : (code : ℕ) (rest : List ℕ) → (code ≡ 0 → length rest ≡ 0) → (eqb code 0 && ltb 0 (length rest)) ≡ false
 empty_test code rest h =
     elim (cases_eq code 0) [
@@ -61,7 +61,7 @@ empty_test code rest h =
       | inr is_not ↦ and_left _ _ (ne_eqb code 0 is_not)
     ]
 
--- what passes it has code 0.00 with nothing behind the header, or another code
+-- what passes it has code 0.00 with nothing after the header, or another code
 empty_from_test : (code : ℕ) (rest : List ℕ) → (eqb code 0 && ltb 0 (length rest)) ≡ false → code ≡ 0 → length rest ≡ 0
 empty_from_test code rest test is =
     elim (and_cases _ _ test) [
@@ -231,7 +231,7 @@ failed e = Err e
 too_short : {A : Type 0} → failed Format ≡ failed Version → A
 too_short e = absurd cc
 
--- an error of the version comes of another version
+-- an error of the version comes from another version
 pub version_means : (bytes : List ℕ) → message_at bytes ≡ Err Version → HasOtherVersion bytes
 unfolding message_at
 version_means [] e = too_short e

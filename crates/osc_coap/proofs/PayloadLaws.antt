@@ -10,7 +10,7 @@ payload_length_least : (bytes : List ℕ) → length bytes ≤ payload_length (p
 payload_length_least [] = omega arith
 payload_length_least (b ∷ bytes) = omega arith
 
--- so has what stands before it
+-- so has what is before it
 pub length-before_payload : (bytes payload : List ℕ) → length bytes + length payload ≤ length (bytes ++ payload_spelling (payload_of payload))
 length-before_payload bytes payload =
     omega (arith, length-append bytes (payload_spelling (payload_of payload)), length-payload_spelling (payload_of payload), payload_length_least payload)
@@ -20,12 +20,12 @@ pub length-before_nought : (bytes : List ℕ) (size : ℕ) → length bytes + si
 length-before_nought bytes size =
     omega (arith, length-before_payload bytes (replicate size 0), length-replicate {A = ℕ} size 0)
 
--- the marker stands before the payload
+-- the marker is before the payload
 marked : (bytes : List ℕ) (b : ℕ) (payload : List ℕ) → bytes ++ payload_spelling (payload_of (b ∷ payload)) ≡ (bytes ++ 255 ∷ []) ++ (b ∷ payload)
 unfolding payload_spelling
 marked bytes b payload = sym (append_assoc bytes (255 ∷ []) (b ∷ payload))
 
--- what stands before the last elements
+-- what is before the last elements
 front : (xs ys : List ℕ) (size : ℕ) → length ys ≡ size → take (length (xs ++ ys) - size) (xs ++ ys) ≡ xs
 front xs ys size e =
     let at : length (xs ++ ys) - size ≡ length xs = omega (arith, length-append xs ys) in

@@ -59,7 +59,7 @@ length-plaintext_spelling p =
 
 -- ---- growing
 
--- an option is spelled behind the others
+-- an option is spelled after the others
 spelling-with_inner_option : (p : Plaintext) (number : ℕ) (value : List ℕ) → p.payload ≡ None → plaintext_spelling (with_inner_option p number value) ≡ plaintext_spelling p ++ option_spelling (last_number 0 p.options) (number, value)
 unfolding plaintext_spelling payload_spelling
 spelling-with_inner_option p number value none =
@@ -69,7 +69,7 @@ spelling-with_inner_option p number value none =
     ap (λ (t : List ℕ). p.code ∷ t) (append-nil _ ∙ options-push 0 p.options (number, value) ∙ ap (λ (t : List ℕ). t ++ option) (sym (append-nil options))) in
     subst (λ (b : Option (List ℕ)). (p.code ∷ options_spelling 0 (p.options ++ (number, value) ∷ []) ++ payload_spelling b) ≡ (p.code ∷ options ++ payload_spelling b) ++ option) (sym none) pushed
 
--- a payload is spelled behind the options
+-- a payload is spelled after the options
 spelling-with_inner_payload : (p : Plaintext) (bytes : List ℕ) → p.payload ≡ None → plaintext_spelling (with_inner_payload p bytes) ≡ plaintext_spelling p ++ payload_spelling (payload_of bytes)
 unfolding plaintext_spelling payload_spelling
 spelling-with_inner_payload p bytes none =
@@ -137,7 +137,7 @@ payload_spells bytes new last p payload is e = record {
 
 -- ---- for the code
 
--- a payload that was read behind a code is that of a plaintext
+-- a payload that was read after a code is that of a plaintext
 pub kept_lawful : (bytes body : List ℕ) (code : ℕ) (payload : Option (List ℕ)) → AreBytes bytes → bytes ≡ code ∷ body → Some payload ≡ payload_in 0 body → HasPlaintextSpelling (plaintext_with code (options_in 0 body, payload))
 kept_lawful bytes body code payload fits parts e =
     let taken = body_takes 0 body (options_in 0 body, payload) (AreBytes-rest code body (subst AreBytes parts fits)) (parts_read body payload e) in

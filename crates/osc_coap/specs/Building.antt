@@ -4,7 +4,7 @@ use Rattle.osc_coap.specs.declared.kind.Kind.{Kind}
 use Rattle.osc_coap.specs.Message.{NumberAndValue, Message}
 use Rattle.osc_coap.specs.Plaintext.{Plaintext}
 
--- the number of the last option, or what stands before the first
+-- the number of the last option, or what is before the first
 abbrev pub last_number : ℕ → List NumberAndValue → ℕ
 last_number before [] = before
 last_number before (option ∷ options) = last_number option.0 options
@@ -13,7 +13,7 @@ last_number before (option ∷ options) = last_number option.0 options
 abbrev pub bare : Kind → ℕ → ℕ → List ℕ → Message
 bare kind code id token = record { kind = kind; code = code; id = id; token = token; options = []; payload = None }
 
--- the message with one option more, behind the others
+-- the message with one option more, after the others
 abbrev pub with_option : Message → ℕ → List ℕ → Message
 with_option m number value = record m { options = m.options ++ (number, value) ∷ [] }
 
@@ -29,7 +29,7 @@ with_payload m bytes = record m { payload = payload_of bytes }
 abbrev pub bare_plaintext : ℕ → Plaintext
 bare_plaintext code = record { code = code; options = []; payload = None }
 
--- the plaintext with one option more, behind the others
+-- the plaintext with one option more, after the others
 abbrev pub with_inner_option : Plaintext → ℕ → List ℕ → Plaintext
 with_inner_option p number value = record p { options = p.options ++ (number, value) ∷ [] }
 

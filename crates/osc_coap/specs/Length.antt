@@ -7,7 +7,7 @@ use Rattle.osc_coap.specs.Plaintext.{Plaintext}
 abbrev pub extension_length : ℕ → ℕ
 extension_length n = if nat_lt n 13 then 0 else if nat_lt n 269 then 1 else 2
 
--- an option behind one whose number is before
+-- an option after one whose number is before
 abbrev pub option_length : ℕ → NumberAndValue → ℕ
 option_length before option = 1 + extension_length (option.0 - before) + extension_length (length option.1) + length option.1
 

@@ -31,7 +31,7 @@ nibble n = if nat_lt n 13 then n else if nat_lt n 269 then 13 else 14
 unfoldable pub extension : ℕ → List ℕ
 extension n = if nat_lt n 13 then [] else if nat_lt n 269 then (n - 13) ∷ [] else to_be_bytes w16 (n - 269)
 
--- an option behind one whose number is before (section 3.1, figure 8)
+-- an option after one whose number is before (section 3.1, figure 8)
 unfoldable pub option_spelling : ℕ → NumberAndValue → List ℕ
 option_spelling before option =
     let delta = option.0 - before in
@@ -52,7 +52,7 @@ spelling m = header m.kind m.code m.id (length m.token) ++ m.token ++ options_sp
 
 -- ---- which messages have a spelling
 
--- an option that can stand behind one whose number is before: deltas are not negative, numbers have
+-- an option that can follow one whose number is before: deltas are not negative, numbers have
 -- 16 bits, and the length has to fit its extension (section 3.1)
 pub record IsOptionBehind (before : ℕ) (option : NumberAndValue) : Type 0 where
   pub rises : before ≤ option.0

@@ -8,7 +8,7 @@ pub record Plaintext : Type 0 where
   pub options : List NumberAndValue
   pub payload : Option (List ℕ)
 
--- the code in one byte, and behind it options and payload as in a message
+-- the code in one byte, and after it options and payload as in a message
 unfoldable pub plaintext_spelling : Plaintext → List ℕ
 plaintext_spelling p = p.code ∷ options_spelling 0 p.options ++ payload_spelling p.payload
 

@@ -51,7 +51,7 @@ option_at before bytes = do
 abbrev pub Body : Type 0
 Body = List NumberAndValue × Option (List ℕ)
 
--- what stands behind the marker
+-- what follows the marker
 abbrev pub payload_at : List ℕ → Option Body
 payload_at [] = None
 payload_at (b ∷ bytes) = Some ([], Some (b ∷ bytes))
@@ -66,7 +66,7 @@ body_within (suc fuel) before (b ∷ bytes) =
 unfoldable pub body_at : ℕ → List ℕ → Option Body
 body_at before bytes = body_within (length bytes) before bytes
 
--- no option stands here
+-- no option is here
 abbrev pub is_end : List ℕ → Bool
 is_end [] = true
 is_end (b ∷ bytes) = b == 255
@@ -74,7 +74,7 @@ is_end (b ∷ bytes) = b == 255
 abbrev pub options_in : ℕ → List ℕ → List NumberAndValue
 options_in before bytes = unwrap_or (option_map (λ body. body.0) (body_at before bytes)) []
 
--- the payload behind the options, if the bytes can be read
+-- the payload after the options, if the bytes can be read
 abbrev pub payload_in : ℕ → List ℕ → Option (Option (List ℕ))
 payload_in before bytes = option_map (λ body. body.1) (body_at before bytes)
 

@@ -1,4 +1,4 @@
-//! Options and a payload, written behind one another: what messages and plaintexts have alike.
+//! Options and a payload, written after one another: what messages and plaintexts have alike.
 
 ghost use Rattle.std.specs.Prelude.{◌≡◌, ◌<◌, ◌≤◌, ◌↔◌, ◌+◌, ◌-◌, ◌++◌, ℕ, List, length, replicate, IsOk, OnOk, OnErr};
 ghost use Rattle.arrayvec.specs.ArrayVec.{array_vec_len};
@@ -64,7 +64,7 @@ fn extension_length(n: usize) -> usize
     }
 }
 
-/// How many bytes an option takes behind one of number `before`, or first behind 0 (RFC 7252 section 3.1).
+/// How many bytes an option takes after one of number `before`, or first after 0 (RFC 7252 section 3.1).
 pub fn option_length(before: u16, number: u16, value: &[u8]) -> usize
     requires { before ≤ number }
     ensures { result ≡ option_length_of before (number, value.now) }
@@ -84,7 +84,7 @@ pub(crate) fn append(out: &mut ArrayVec<u8, DATAGRAM_LIMIT>, bytes: &[u8])
     let _ = out.try_extend_from_slice(bytes);
 }
 
-/// Appends an option behind one of number `before` whose delta and length have no extension, if there is room.
+/// Appends an option after one of number `before` whose delta and length have no extension, if there is room.
 fn push_short(
     out: &mut ArrayVec<u8, DATAGRAM_LIMIT>,
     before: u16,
@@ -109,7 +109,7 @@ fn push_short(
     Ok(())
 }
 
-/// Appends an option behind one of number `before`, if there is room.
+/// Appends an option after one of number `before`, if there is room.
 pub(crate) fn push_option(
     out: &mut ArrayVec<u8, DATAGRAM_LIMIT>,
     before: u16,
@@ -197,7 +197,7 @@ pub(crate) struct Writer {
 }
 
 impl Writer {
-    /// Adds an option behind the others, if there is room.
+    /// Adds an option after the others, if there is room.
     pub(crate) fn option(&mut self, number: u16, value: &[u8]) -> Result<(), DatagramTooLong>
         requires { self.old.last ≤ number }
         ensures variant { IsOk result

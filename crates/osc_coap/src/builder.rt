@@ -59,7 +59,7 @@ impl MessageBuilder {
         }
     }
 
-    /// Adds an option behind the others.
+    /// Adds an option after the others.
     pub fn option(&mut self, number: u16, value: &[u8]) -> Result<(), DatagramTooLong>
         requires code { 0 < self.old.code }
         requires rises { last_number 0 self.old.options ≤ number }

@@ -9,10 +9,10 @@ ghost use Rattle.osc_coap.specs.Reading.{extended_at, option_at, options_in, pay
 use std::fmt;
 use std::marker::Model;
 
-/// The byte that stands between the options and the payload (RFC 7252 section 3).
+/// The byte that is between the options and the payload (RFC 7252 section 3).
 pub const PAYLOAD_MARKER: u8 = 0xff;
 
-/// The delta or length that four bits and their extension stand for, and the bytes behind it. 15 is
+/// The delta or length that four bits and their extension stand for, and the bytes after it. 15 is
 /// reserved.
 #[tactic(auto, unfolding(crate::specs::Reading::extended_at))]
 fn extended(bits: u8, bytes: &[u8]) -> Option<(u32, &[u8])>
@@ -41,7 +41,7 @@ fn is_short(head: u8) -> bool
     head < 0xd0 && head % 16 < 13
 }
 
-/// The option behind one of number `before` that starts with this byte, and the bytes after it, where delta and length have no
+/// The option after one of number `before` that starts with this byte, and the bytes after it, where delta and length have no
 /// extension.
 #[inline(always)]
 #[tactic(auto, unfolding(crate::specs::Reading::option_at, crate::specs::Reading::extended_at))]
@@ -59,7 +59,7 @@ fn short_option_of(before: u16, head: u8, rest: &[u8]) -> Option<((u16, &[u8]), 
     Some(((number as u16, value), rest))
 }
 
-/// The option behind one of number `before` that starts with this byte, and the bytes after it.
+/// The option after one of number `before` that starts with this byte, and the bytes after it.
 #[inline(never)]
 #[tactic(auto, unfolding(crate::specs::Reading::option_at))]
 fn extended_option_of(before: u16, head: u8, rest: &[u8]) -> Option<((u16, &[u8]), &[u8])>
@@ -75,7 +75,7 @@ fn extended_option_of(before: u16, head: u8, rest: &[u8]) -> Option<((u16, &[u8]
     Some(((number as u16, value), rest))
 }
 
-/// The option at the front of the bytes, behind one of number `before`, and the bytes after it.
+/// The option at the front of the bytes, after one of number `before`, and the bytes after it.
 /// Numbers have 16 bits.
 #[inline(always)]
 #[tactic(auto, unfolding(crate::specs::Reading::option_at))]
@@ -92,7 +92,7 @@ fn option_of(before: u16, bytes: &[u8]) -> Option<((u16, &[u8]), &[u8])>
     }
 }
 
-/// Whether no option stands at the front of the bytes.
+/// Whether no option is at the front of the bytes.
 fn is_end(bytes: &[u8]) -> bool
     ensures { result ≡ spec.is_end bytes.now }
 {
@@ -102,8 +102,8 @@ fn is_end(bytes: &[u8]) -> bool
     }
 }
 
-/// The payload behind the options, if there is one. `None` where the bytes are no options and
-/// payload; a marker with nothing behind it is a format error.
+/// The payload after the options, if there is one. `None` where the bytes are no options and
+/// payload; a marker with nothing after it is a format error.
 pub(crate) fn payload_of(bytes: &[u8]) -> Option<Option<&[u8]>>
     ensures { option_map option_copied result ≡ payload_in 0 bytes.now }
 {
@@ -150,7 +150,7 @@ impl<'a> Model for Options<'a> {
 }
 
 impl<'a> Options<'a> {
-    /// The options at the front of the bytes behind a token.
+    /// The options at the front of the bytes after a token.
     pub(crate) fn new(body: &'a [u8]) -> Options<'a>
         requires { CanBeRead 0 body.now }
         ensures value { result ≡ options_in 0 body.now }

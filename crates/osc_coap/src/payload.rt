@@ -6,7 +6,7 @@ ghost use Rattle.arrayvec.specs.ArrayVec.{array_vec_len};
 use crate::body::DATAGRAM_LIMIT;
 use arrayvec::ArrayVec;
 
-/// What writes a payload into the datagram itself, so that nothing is copied behind the message. How many bytes it
+/// What writes a payload into the datagram itself, so that nothing is copied after the message. How many bytes it
 /// has is known before.
 pub trait PayloadWriter {
     // Whether it can write so many bytes.

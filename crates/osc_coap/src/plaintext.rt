@@ -139,7 +139,7 @@ impl PlaintextBuilder {
         }
     }
 
-    /// Adds an option behind the others.
+    /// Adds an option after the others.
     pub fn option(&mut self, number: u16, value: &[u8]) -> Result<(), DatagramTooLong>
         requires rises { last_number 0 self.old.options ≤ number }
         requires before_payload { self.old.payload ≡ None }

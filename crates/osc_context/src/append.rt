@@ -1,4 +1,4 @@
-//! CBOR items (RFC 8949 section 3), each appended to bytes. For want of memory nothing more is said of the bytes.
+//! CBOR items (RFC 8949 section 3), each appended to bytes. For lack of memory nothing more is said of the bytes.
 
 ghost use Rattle.std.specs.Prelude.{◌≡◌, ◌++◌, OnOk};
 ghost use Rattle.osc_cbor.specs.{unsigned, byte_string, text_string, head, major_number, spelling};

@@ -105,8 +105,8 @@ fn contexts(
 ///
 /// # Errors
 ///
-/// The first of these that stands: `IdTooLong` for a sender ID of more than 7 bytes, `EqualIds` where both ends have the
-/// same sender ID, else `Memory` for want of memory.
+/// The first of these that applies: `IdTooLong` for a sender ID of more than 7 bytes, `EqualIds` where both ends have the
+/// same sender ID, else `Memory` for lack of memory.
 pub fn derive(
     alloc: Global,
     name: &ContextName,

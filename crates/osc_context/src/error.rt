@@ -7,7 +7,7 @@ ghost use Rattle.osc_context.specs.Errors.{number_of};
 use osc_model::refusals;
 use thiserror::Error;
 
-/// Why no security context is derived: the first of these that stands.
+/// Why no security context is derived: the first of these that applies.
 #[derive(Clone, Copy, Debug, PartialEq, Eq, Error)]
 pub enum DeriveError {
     /// A sender ID has more than 7 bytes (RFC 8613 section 3.3).

@@ -158,7 +158,7 @@ impl RecipientContext {
         self.window.is_fresh(number)
     }
 
-    /// Accepts a fresh number of the other end, so that each is accepted once: the right to one reply comes of it.
+    /// Accepts a fresh number of the other end, so that each is accepted once: the right to one reply comes from it.
     pub fn accept(&mut self, number: u64) -> AcceptedNumber
         requires fresh { IsFresh self.old.window number }
         requires number { number ≤ greatest_number }

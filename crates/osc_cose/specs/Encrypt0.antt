@@ -10,7 +10,7 @@ pub data IsProtected (bytes : List ℕ) : Type 0 where
   empty : bytes ≡ [] → IsProtected bytes
   holds : (parameters : Pairs) → IsWhole bytes (map parameters) → IsProtected bytes
 
--- without the tag 16, which may stand before the object (section 2)
+-- without the tag 16, which may be before the object (section 2)
 abbrev pub untagged : DataItem → DataItem
 untagged (tag n d) = if n == 16 then d else tag n d
 untagged d = d

@@ -17,7 +17,7 @@ use std::alloc::Global;
 ///
 /// # Errors
 ///
-/// The first of these that stands, but for `Memory`: `Algorithm` where the protected header isn't empty and is no map with
+/// The first of these that applies, but for `Memory`: `Algorithm` where the protected header isn't empty and is no map with
 /// 10 under label 1; `TooLong` where the ciphertext or the associated data is longer than the cipher takes; `NotGenuine`
 /// where the ciphertext is the sealing of no text. `Memory` only where the protected header is one: all room is taken before
 /// the ciphertext is opened, by [`open0_into`].
@@ -83,7 +83,7 @@ fn open_text<A: Aead>(
 ///
 /// # Errors
 ///
-/// The first of these that stands; `out` is then as before: `TooLong` where the ciphertext or the associated data is longer than
+/// The first of these that applies; `out` is then as before: `TooLong` where the ciphertext or the associated data is longer than
 /// the cipher takes; `NotGenuine` where the ciphertext is the sealing of no text.
 pub fn open0_into<A: Aead>(
     object: &Encrypt0,

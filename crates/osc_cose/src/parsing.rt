@@ -24,7 +24,7 @@ pub(crate) const IV: u64 = 5;
 ///
 /// # Errors
 ///
-/// `Shape` where the bytes are none, `Memory` for want of memory, which comes only where they are one whole item.
+/// `Shape` where the bytes are none, `Memory` for lack of memory, which comes only where they are one whole item.
 pub fn parse0(alloc: Global, bytes: &[u8]) -> Result<Encrypt0, ParseError>
     // What is read is such an object ..
     ensures found { IfOk result (λ object. (d : DataItem) × IsWhole bytes.now d × IsObject d object) }
@@ -45,7 +45,7 @@ pub fn parse0(alloc: Global, bytes: &[u8]) -> Result<Encrypt0, ParseError>
 ///
 /// # Errors
 ///
-/// `Shape` where the item is none, `Memory` for want of memory, which comes only where it is one.
+/// `Shape` where the item is none, `Memory` for lack of memory, which comes only where it is one.
 pub fn object_of(alloc: Global, item: &ItemRef<'_>) -> Result<Encrypt0, ParseError>
     // What is found is such an object ..
     ensures found { IfOk result (λ object. IsObject item.now object) }

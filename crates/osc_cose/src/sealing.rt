@@ -19,7 +19,7 @@ use std::alloc::Global;
 /// # Errors
 ///
 /// `TooLong` where the text is longer than 65535 bytes or the associated data longer than 65279: no such text has a sealing.
-/// `Memory` for want of memory.
+/// `Memory` for lack of memory.
 pub fn seal0<A: Aead>(
     alloc: Global,
     key: &[u8; 16],

@@ -30,9 +30,9 @@ of_same peer id e same =
     let addresses : peer.address ≡ e.peer.address = same_text peer.address e.peer.address (sym inner.0) in
     λ i. record { peer = record { address = sym addresses i; port = sym ports i }; id = sym ids i; noted = e.noted }
 
--- ---- where an entry stands
+-- ---- where an entry is
 
--- the note of an entry of the table, and what stands behind the entry there
+-- the note of an entry of the table, and what follows the entry there
 pub record Stands (notes : List Note) (e : Entry) (behind : List Entry) : Type 0 where
   pub younger : List Note
   pub older : List Note
@@ -47,7 +47,7 @@ pub record Stands (notes : List Note) (e : Entry) (behind : List Entry) : Type 0
 lived : (early late : Moment) → early.ms ≤ late.ms → (e : Entry) → is_alive late e ≡ true → is_alive early e ≡ true
 lived early late order e alive = lt-ltb early.ms e.noted.until (omega (arith, order, ltb-true late.ms e.noted.until alive))
 
--- what stays of the entries behind one is what stays of those noted after it
+-- what stays of the entries after one is what stays of those noted after it
 staying_agrees : (now : Moment) (peer : Peer) (id : ℕ) (xs ys : List Entry) → filter (is_alive now) xs ≡ filter (is_alive now) ys → staying now peer id xs ≡ staying now peer id ys
 staying_agrees now peer id xs ys agree = one xs ∙ ap (filter other) agree ∙ sym (one ys)
   where
@@ -67,7 +67,7 @@ staying_agrees now peer id xs ys agree = one xs ∙ ap (filter other) agree ∙ 
     one : (zs : List Entry) → staying now peer id zs ≡ filter other (filter (is_alive now) zs)
     one zs = sym (twice zs) ∙ filter_both (is_alive now) (is_alive now) other (λ z alive. alive) zs
 
--- one note more, behind both
+-- one note more, after both
 agrees_more : (t : Moment) (k : Note) (xs : List Entry) (younger : List Note) → k.moment.ms ≤ t.ms → filter (is_alive t) xs ≡ filter (is_alive t) (unreplaced younger)
     → filter (is_alive t) (staying k.moment k.entry.peer k.entry.id xs ++ k.entry ∷ []) ≡ filter (is_alive t) (unreplaced (k ∷ younger))
 agrees_more t k xs younger order agree =
@@ -91,7 +91,7 @@ in_order_later : (early late : Moment) → early.ms ≤ late.ms → (notes : Lis
 in_order_later early late order [] done = tt
 in_order_later early late order (note ∷ earlier) done = (omega (arith, order, done.0), done.1)
 
--- ---- what stands in the table was noted, and had its place
+-- ---- what is in the table was noted, and had its place
 
 pub stands : (notes : List Note) (now : Moment) → AreInOrder now notes → (before : List Entry) (e : Entry) (behind : List Entry) → table_of notes ≡ before ++ e ∷ behind → Stands notes e behind
 stands [] now order before e behind split = absurd (none_round before e behind split)
@@ -148,7 +148,7 @@ stands (k ∷ earlier) now order before e behind split =
         let came = filter_split stay (table_of earlier) (take (length others + 1 - 64) others ++ before) e found.0 (whole found.0 found.2) in
         old found.0 found.1 found.2 came.0 came.1 came.3 came.4 (up came.0 came.1 came.2)
 
--- ---- what was noted and had its place stands in the table
+-- ---- what was noted and had its place is in the table
 
 pub stood : (notes : List Note) (now : Moment) → AreInOrder now notes → (e : Entry) → now.ms < e.noted.until
     → (younger older : List Note) (moment : Moment) → notes ≡ younger ++ (record { moment = moment; entry = e }) ∷ older

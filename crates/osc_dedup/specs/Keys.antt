@@ -56,7 +56,7 @@ AllLiveUntil ms es = AllByRecursion (λ e. ms ≤ e.1.until) es
 abbrev pub others : Moment → Key → List (Key × Noted) → List (Key × Noted)
 others now key es = drop (count_by (stays now (Some key)) es - 63) (filter (stays now (Some key)) es)
 
--- The entries stand in a map with this much room, behind the keys of those that went, and there is a place for a new one of this key.
+-- The entries are in a map with this much room, after the keys of those that went, and there is a place for a new one of this key.
 pub record IsReady (key : Key) (entries es : List (Key × Noted)) (room gone live : ℕ) : Type 0 where
   pub absent : lookup (same_key key) es ≡ None
   pub within : gone ≤ length es

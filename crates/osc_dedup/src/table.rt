@@ -131,14 +131,14 @@ fn let_go(table: &mut IndexMap<Key, Noted>, index: usize)
     }
 }
 
-/// Whether all entries stay where this key is noted, and there is room for it behind them.
+/// Whether all entries stay where this key is noted, and there is room for it after them.
 fn all_stay(table: &IndexMap<Key, Noted>, live_until: u64, now: Moment, key: Key) -> bool
     ensures { IsTrue result → (now.ms < live_until) × (length table.now.entries < most_keys) × (get same_key table.now key ≡ None) }
 {
     now.ms < live_until && table.len() < ROOM && !table.contains_key(&key)
 }
 
-/// Lets the oldest entry go where there are 64, and answers how many keys of those that went stand before the others.
+/// Drops the oldest entry where there are 64, and answers how many keys of those that went are before the others.
 fn make_place(table: &mut IndexMap<Key, Noted>, gone: usize) -> usize
     requires within { gone ≤ length table.old.entries }
     requires few { length table.old.entries ≤ gone + most_entries }
@@ -191,8 +191,8 @@ fn renew(
     live_until(kept)
 }
 
-/// Makes a place for a note of this key behind the entries: the dead go, what was noted of the key goes, and the oldest where 64
-/// others live. Answers how many keys of entries that went stand before the others, and a moment before which none of these dies.
+/// Makes a place for a note of this key after the entries: the dead go, what was noted of the key goes, and the oldest where 64
+/// others live. Answers how many keys of entries that went are before the others, and a moment before which none of these dies.
 fn make_ready(
     kept: &mut IndexMap<Key, Noted>,
     other: &mut IndexMap<Key, Noted>,
@@ -226,9 +226,9 @@ fn make_ready(
 /// once, so the entries move once in 64 notes.
 #[derive(Drop)]
 pub struct Duplicates {
-    // The entries, behind the keys of those that went.
+    // The entries, after the keys of those that went.
     kept: IndexMap<Key, Noted>,
-    // How many keys of entries that went stand before them.
+    // How many keys of entries that went are before them.
     gone: usize,
     // No entry dies before this moment, in ms.
     live_until: u64,
@@ -253,7 +253,7 @@ impl Model for Duplicates {
 }
 
 impl Duplicates {
-    /// An empty table, with room for 64 entries; refused only for want of memory.
+    /// An empty table, with room for 64 entries; refused only for lack of memory.
     pub fn new(alloc: Global) -> Result<Duplicates, AllocError>
         ensures { IfOk result (λ table. table ≡ []) }
     {

@@ -1,5 +1,5 @@
-//! What tests and benches are made of: who stands where, grants and their tokens, requests and resources, and nodes. Its calls answer
-//! `AllocError` for want of memory, and for what isn't lawful, since nobody here asks for that.
+//! What tests and benches are made of: who is where, grants and their tokens, requests and resources, and nodes. Its calls answer
+//! `AllocError` for lack of memory, and for what isn't lawful, since nobody here asks for that.
 #![tactic(auto)]
 
 mod grants;

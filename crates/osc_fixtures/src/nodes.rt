@@ -46,7 +46,7 @@ pub fn empty_server(alloc: Global) -> Result<Server, AllocError> {
     server(alloc, Tree::new(alloc), Scope::new(alloc))
 }
 
-/// A target of this name, which stands there.
+/// A target of this name, which is there.
 pub fn target(alloc: Global, host: &[u8], port: u16, peer: Peer) -> Result<Target, AllocError> {
     let host = Bytes::from_slice(alloc, host)?;
     Ok(Target { host, port, peer })

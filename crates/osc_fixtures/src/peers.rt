@@ -1,4 +1,4 @@
-//! Who stands where, when something happens, and with which random bytes.
+//! Who is where, when something happens, and with which random bytes.
 
 use osc_model::{Draw, Moment, Peer};
 
@@ -26,13 +26,13 @@ pub const STRANGER: Peer = Peer {
     ..SERVER
 };
 
-/// Where nobody stands.
+/// Where nobody is.
 pub const NOWHERE: Peer = Peer {
     port: 9001,
     ..SERVER
 };
 
-/// Where the client of this number stands, from 0.
+/// Where the client of this number is, from 0.
 pub fn place(client: u8) -> Peer {
     let address = CLIENT.address;
     Peer {

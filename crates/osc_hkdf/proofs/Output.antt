@@ -105,7 +105,7 @@ all_counted i n m count most least count_is same =
     let e : i ≡ count = omega arith in
     e ∙ count_is ∙ ap (λ k. div_ceil k 32) (sym same)
 
--- what stands before block i + 1 ends in T(i)
+-- what is before block i + 1 ends in T(i)
 pub previous_block : (prk info out : List ℕ) (i from : ℕ) → 32 * i < length out → from ≡ 32 * i - 32
     → take (32 * i) out ≡ take (length out) (output_blocks prk info i) → between from (32 * i) out ≡ output_block prk info i
 previous_block prk info out i from inside from_is before =
@@ -115,7 +115,7 @@ previous_block prk info out i from inside from_is before =
     ∙ ap (λ k. drop k (output_blocks prk info i)) from_is
     ∙ last_block prk info i
 
--- T(i + 1) is written behind the blocks before it, as far as there is room
+-- T(i + 1) is written after the blocks before it, as far as there is room
 pub one_more : (prk info out block : List ℕ) (i size : ℕ) → 32 * i < length out → size ≡ min (32 * i + 32) (length out) - 32 * i
     → take (32 * i) out ≡ take (length out) (output_blocks prk info i) → block ≡ output_block prk info (i + 1)
     → take (32 * (i + 1)) (put_mid (32 * i) size out (take size block)) ≡ take (length out) (output_blocks prk info (i + 1))

@@ -19,7 +19,7 @@ pub fn extract(salt: &[u8], ikm: &[u8]) -> [u8; 32]
     }
 }
 
-/// T(counter) behind T(counter - 1), which is `previous`. `start` is a code with an empty text, under the pseudorandom key.
+/// T(counter) after T(counter - 1), which is `previous`. `start` is a code with an empty text, under the pseudorandom key.
 fn next_block(start: &Mac, previous: &[u8], info: &[u8], counter: u8) -> [u8; 32]
     ensures { (prk : List ℕ) → Holds start.now prk []
         → result ≡ hmac_of prk (previous.now ++ info.now ++ counter ∷ []) }
@@ -40,7 +40,7 @@ fn fill(start: &Mac, info: &[u8], out: &mut [u8])
     for i in 0..count {
         let begin = 32 * i;
         let end = (begin + 32).min(out.len());
-        // T(i) stands just before, and nothing before T(1).
+        // T(i) is just before, and nothing before T(1).
         let previous = &out[begin.saturating_sub(32)..begin];
         let block = next_block(start, previous, info, (i + 1) as u8);
         out[begin..end].copy_from_slice(&block[..end - begin]);

@@ -44,7 +44,7 @@ fn padded(block: &[u8; 64], constant: u8) -> [u8; 64]
     padded
 }
 
-/// A code on its way: the text comes part by part. The states of both hashes stand after the key's block, so a clone of a
+/// A code on its way: the text comes part by part. The states of both hashes are after the key's block, so a clone of a
 /// code with an empty text begins another under the same key, and the key is hashed no more.
 #[derive(Clone, Drop)]
 pub(crate) struct Mac {
@@ -72,7 +72,7 @@ impl Mac {
         self.clone().unwrap()
     }
 
-    /// Adds a part behind the text so far.
+    /// Adds a part after the text so far.
     pub(crate) fn update(&mut self, part: &[u8])
         ensures { (key text : List ℕ) → Holds self.old key text → Holds self.new key (text ++ part.now) }
     {

@@ -7,7 +7,7 @@ use crate::hkdf::{expand_from, extract};
 use crate::mac::Mac;
 use std::marker::Model;
 
-/// A pseudorandom key (RFC 5869 section 2.2) that is ready for expanding: the states of HMAC's two hashes stand after the
+/// A pseudorandom key (RFC 5869 section 2.2) that is ready for expanding: the states of HMAC's two hashes are after the
 /// key's block, so a block of output hashes the key no more. Contracts see the key's 32 bytes.
 #[derive(Drop)]
 pub struct Prk {

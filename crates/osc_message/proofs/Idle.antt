@@ -6,7 +6,7 @@ use Rattle.osc_message.specs.declared.due.Due.{Due}
 use Rattle.osc_message.specs.declared.due.Due.TheVariants.{Keep, Send, GiveUp}
 use Rattle.osc_message.specs.{Open, dues, dues_of, datagram_of, given_up_of, after, ticked, tick_sends, tick_gives_up, is_kept, acts}
 
--- what comes of messages that are kept, where nothing comes of one
+-- the outcome of messages that are kept, where nothing comes from one
 none_of : {X : Type 0} (f : Open × Due → Option X) → ((message : Open) → f (message, Keep) ≡ None) → (pairs : List (Open × Due))
     → list_any (λ pair. not (is_kept pair.1)) pairs ≡ false → filter_map f pairs ≡ []
 none_of f none [] idle = refl

@@ -180,7 +180,7 @@ set_from q seen (z ∷ zs) (suc i) y d first to marks = (marks.0, set_from q (se
 pub marked_set : (xs : List Queued) (i : ℕ) (y d : Queued) → y.first ≡ (get_or xs i d).first → y.message.to ≡ (get_or xs i d).message.to → AreMarked xs → AreMarked (set xs i y)
 marked_set xs i y d first to marks = λ q. set_from q false xs i y d first to (marks q)
 
--- ---- marked anew
+-- ---- marked again
 
 same_message : (p : Peer) (seen : Bool) (x : Queued) → (marked_one p seen x).message ≡ x.message
 same_message p seen x = by (is_to p x.message)
@@ -241,7 +241,7 @@ pub marked_remove : (xs : List Queued) (i : ℕ) (x : Queued) → x ≡ get_or x
 marked_remove xs i x is marks =
     marked_anew x.message.to _ (λ q differ. remove_from q false xs i x (ap (λ y. is_to q y.message) (sym is) ∙ differ) (marks q))
 
--- what stands before the one that is taken out, and behind it
+-- what is before the one that is taken out, and after it
 pub front_removed : (p : Peer) (xs : List Queued) (i : ℕ) → messages (take i (marked p false (remove xs i))) ≡ messages (take i xs) ++ []
 front_removed p xs i =
     sym (take-map (λ x. x.message) i (marked p false (remove xs i)))

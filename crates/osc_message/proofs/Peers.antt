@@ -96,7 +96,7 @@ length_others p (x ∷ xs) apart = by (same_peer p x) refl (length_others p xs a
 pub weigh : (a b : Bool) → a ≡ b → weight a ≡ weight b
 weigh a b e = ap weight e
 
--- a message counts for one more peer where none behind it is to its peer
+-- a message counts for one more peer where none after it is to its peer
 pub length_peers : (m : Open) (later : List Open) → length (peers_of (m ∷ later)) + weight (has_open m.to later) ≡ length (peers_of later) + 1
 length_peers m later =
     let others_and = length_others m.to (peers_of later) (peers_distinct later) in

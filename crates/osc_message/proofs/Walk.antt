@@ -9,7 +9,7 @@ use Rattle.osc_message.specs.{Open, IsBounded, messages, after}
 use Rattle.osc_message.specs.declared.queued.Queued.{Queued}
 use Rattle.osc_message.specs.declared.due.Due.{Due}
 
--- the member at a place, and those behind it
+-- the member at a place, and those after it
 pub taken_at : {X : Type 0} (xs : List X) (p : ℕ) (x : X) (later : List X) → p < length xs → drop p xs ≡ x ∷ later → take (p + 1) xs ≡ take p xs ++ x ∷ []
 taken_at xs p x later inside split =
     let at : get_or xs p x ∷ drop (p + 1) xs ≡ x ∷ later = sym (drop_more xs p x inside) ∙ split in
@@ -53,7 +53,7 @@ still_bounded xs ys p q inside all back = by (drop p xs) refl all
     by [] split all = absurd (omega (arith, length-drop p xs, ap length split))
     by (queued ∷ later) split all = rw (back queued later split) (All-tail IsBounded queued.message (messages later) all)
 
--- one more is put behind what came of those before
+-- one more is put after the outcome of those before
 pub added : {Y : Type 0} (f : Open × Due → Option Y) (pair : Open × Due) (old new total : List Y) (pairs rest : List (Open × Due)) → pairs ≡ pair ∷ rest
     → old ++ filter_map f pairs ≡ total → new ≡ old ++ option_to_list (f pair) → new ++ filter_map f rest ≡ total
 added f pair old new total pairs rest split before is =

@@ -7,7 +7,7 @@ use Rattle.osc_model.specs.declared.node.Peer.{Peer}
 use Rattle.osc_message.specs.declared.confirmable.Sent.{Sent as SentMessage}
 use Rattle.osc_message.specs.declared.confirmable.Open.{Open as OpenMessage}
 
--- how a message that went out stands: when it first went out, and how often it was retransmitted since
+-- the state of a message that went out: when it first went out, and how often it was retransmitted since
 abbrev pub Sent : Type 0
 Sent = SentMessage
 

@@ -9,7 +9,7 @@ use Rattle.osc_message.specs.Bounds.{IsSound}
 abbrev pub messages : List Queued → List Open
 messages queue = map (λ queued. queued.message) queue
 
--- of the messages to the peer the first one alone is marked, where `seen` says whether one to it stands before them
+-- of the messages to the peer the first one alone is marked, where `seen` says whether one to it is before them
 abbrev pub IsMarkedFor : Peer → Bool → List Queued → Type 0
 IsMarkedFor peer seen [] = Unit {0}
 IsMarkedFor peer seen (queued ∷ later) = (is_to peer queued.message ≡ true → queued.first ≡ not seen) × IsMarkedFor peer (seen || is_to peer queued.message) later
@@ -27,7 +27,7 @@ pub record IsSoundQueue (queue : List Queued) : Type 0 where
   pub sound : IsSound (messages queue)
   pub marked : AreMarked queue
 
--- ---- marked anew, for one peer
+-- ---- marked again, for one peer
 
 abbrev pub marked_one : Peer → Bool → Queued → Queued
 marked_one peer seen queued = if is_to peer queued.message then record queued { first = not seen } else queued

@@ -25,20 +25,20 @@ first_done now ((message, Keep) ∷ dues) later = later message
 first_done now ((message, Send) ∷ dues) later = (now, Send) ∷ later (record message { sent = Some (sent_again now message.sent) })
 first_done now ((message, GiveUp) ∷ dues) later = (now, GiveUp) ∷ []
 
--- the ticks that do something with an open message, where each tick comes with what stands before and behind the message then
+-- the ticks that do something with an open message, where each tick comes with what is before and after the message then
 abbrev pub done_among : List (Moment × List Open × List Open) → Open → List (Moment × Due)
 done_among [] = λ message. []
 done_among ((now, before, behind) ∷ later) = λ message. first_done now (drop (length before) (dues_of now (before ++ message ∷ behind))) (done_among later)
 
 -- ---- what the standard wants
 
--- what is done on the first tick at or after this moment, and on those behind it
+-- what is done on the first tick at or after this moment, and on those after it
 abbrev pub on_first : ℕ → (Moment → List Moment → List (Moment × Due)) → List Moment → List (Moment × Due)
 on_first moment does [] = []
 on_first moment does (now ∷ later) = if nat_lt now.ms moment then on_first moment does later else does now later
 
 -- A message that went out at a moment goes out again on the first tick at or after (2^1 - 1) times its timeout later, and
--- so on behind that one, up to (2^4 - 1) times; on the first tick behind these at or after (2^5 - 1) times it is given up.
+-- so on after that one, up to (2^4 - 1) times; on the first tick after these at or after (2^5 - 1) times it is given up.
 abbrev pub schedule : Moment → ℕ → List Moment → List (Moment × Due)
 schedule went timeout ticks =
     let after : ℕ → ℕ = λ k. went.ms + (2 ^ k - 1) * timeout in

@@ -7,7 +7,7 @@ ghost use Rattle.osc_message.specs.Confirmables.{is_named as is_named_of, acknow
 use crate::queued::{Queued, mark};
 use osc_model::{Bytes, Draw, Moment, Peer};
 
-/// How a message that went out stands.
+/// The state of a message that went out.
 #[derive(Clone, Copy, Debug, PartialEq, Eq)]
 pub struct Sent {
     /// When it first went out.

@@ -10,7 +10,7 @@ use crate::due::{Due, due_at, due_of_waiting};
 use crate::queued::Queued;
 use osc_model::Moment;
 
-/// When something is due of a message, in ms, or none where nothing will be as things stand.
+/// When something is due of a message, in ms, or none where nothing will be as things are.
 fn deadline_of(all: &[Queued], queued: &Queued) -> Option<u64>
     requires { IsBounded queued.now.message }
     ensures none { IfNone result (IsIdle (messages all.now) queued.now) }

@@ -62,7 +62,7 @@ fn due_of_outstanding(now: Moment, message: &Open, sent: Sent) -> Due
     }
 }
 
-/// Whether a waiting message goes out, where `all` stand there and it is marked beside those that were made before it.
+/// Whether a waiting message goes out, where `all` are there and it is marked beside those that were made before it.
 pub(crate) fn due_of_waiting(all: &[Queued], queued: &Queued) -> Due
     ensures kept { result ≡ Due.Keep → queued.now.first ≡ true → has_outstanding_of queued.now.message.to (messages all.now) ≡ true }
     ensures due { (earlier : List AnyOpen) → queued.now.first ≡ not (has_open queued.now.message.to earlier)
@@ -75,7 +75,7 @@ pub(crate) fn due_of_waiting(all: &[Queued], queued: &Queued) -> Due
     }
 }
 
-/// What is due of a message, where `all` stand there and it is marked beside those that were made before it.
+/// What is due of a message, where `all` are there and it is marked beside those that were made before it.
 pub(crate) fn due_of(now: Moment, all: &[Queued], queued: &Queued) -> Due
     requires { IsBounded queued.now.message }
     ensures { (earlier : List AnyOpen) → queued.now.first ≡ not (has_open queued.now.message.to earlier)

@@ -88,7 +88,7 @@ impl<const PLACES: usize> Model for Endpoint<PLACES> {
 }
 
 impl<const PLACES: usize> Endpoint<PLACES> {
-    /// Nothing was heard yet, nothing is open, and no message was made. Refused only for want of memory.
+    /// Nothing was heard yet, nothing is open, and no message was made. Refused only for lack of memory.
     pub fn new(alloc: Global) -> Result<Endpoint<PLACES>, AllocError>
         ensures { IfOk result (λ endpoint. endpoint ≡ fresh) }
     {

@@ -63,7 +63,7 @@ pub fn within_limits()
     ensures ticked { (now : AnyMoment) (all : List AnyOpen) → IsWithinLimits all → IsWithinLimits (ticked now all) }
 {}
 
-/// What a tick does with an outstanding message, whatever stands before and behind it.
+/// What a tick does with an outstanding message, whatever is before and after it.
 pub fn ticks()
     ensures due { (now : AnyMoment) (front back : List AnyOpen) (message : AnyOpen) (sent : AnySent) → message.sent ≡ Some sent
         → dues_of now (front ++ message ∷ back) ≡ dues now (front ++ message ∷ back) [] front
@@ -84,7 +84,7 @@ pub fn ticks_at_rest()
     ensures { (now : AnyMoment) (all : List AnyOpen) → acts now all ≡ false → ticked now all ≡ all }
 {}
 
-/// Ticks do with a message that went out, whatever stands beside it at each of them, what its first going out and its timeout
+/// Ticks do with a message that went out, whatever is beside it at each of them, what its first going out and its timeout
 /// say: it is retransmitted, and given up, on the first ticks at or after its moments, as long as nobody acknowledges it; so
 /// it goes out five times at most.
 pub fn retransmissions()

@@ -1,8 +1,8 @@
 //! The message layer of CoAP (RFC 7252 section 4): what is new, what was heard before, and what goes out when.
 //!
-//! An `Endpoint` says what a datagram is and changes nothing: what no node has a say in it answers by itself, and the node decides on the
+//! An `Endpoint` says what a datagram is and changes nothing: what no node decides it answers by itself, and the node decides on the
 //! rest, and settles it. Confirmable messages are
-//! retransmitted until they are acknowledged or given up. Time is handed in. What every node sends stands here, and the room in
+//! retransmitted until they are acknowledged or given up. Time is handed in. What every node sends is here, and the room in
 //! which it is sent, taken before the node's first change.
 #![tactic(auto)]
 

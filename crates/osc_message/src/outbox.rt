@@ -77,7 +77,7 @@ impl Outbox {
         })
     }
 
-    /// Sends a datagram behind the others, in one of the places; takes no memory.
+    /// Sends a datagram after the others, in one of the places; takes no memory.
     pub fn send(&mut self, to: Peer, bytes: Bytes)
         requires { 0 < self.old.places }
         ensures { self.new ≡ record { sent = self.old.sent ++ (record { to = to; bytes = bytes }) ∷ []; places = self.old.places - 1 } }

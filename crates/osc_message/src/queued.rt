@@ -33,7 +33,7 @@ fn mark_one(queued: &mut Queued, peer: Peer, seen: bool) -> bool
     seen || to_peer
 }
 
-/// Marks the messages to the peer anew, where some of them were taken out.
+/// Marks the messages to the peer again, where some of them were taken out.
 pub(crate) fn mark(queue: &mut Vec<Queued>, peer: Peer)
     ensures items { queue.new.items ≡ marked peer false queue.old.items }
     ensures len { vec_len queue.new ≡ vec_len queue.old }

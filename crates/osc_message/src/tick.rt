@@ -118,7 +118,7 @@ fn go_out(message: &mut Open, now: Moment)
     });
 }
 
-/// Makes what is due of the message at this place, and answers the place of the next one. Behind one that is given up the next one
+/// Makes what is due of the message at this place, and answers the place of the next one. After one that is given up the next one
 /// to its peer is the first.
 fn change(sending: &mut Vec<Queued>, place: usize, due: Due, now: Moment) -> usize
     requires place { place < vec_len sending.old }

@@ -83,7 +83,7 @@ ends (segment ∷ segments) = refl
 pub spells : (text : List ℕ) → IsPath text → path_text (segments_of text) ≡ text
 spells text path = text_back (drop 1 text) ∙ sym (parts_from_is_path text path).0
 
--- where a path begins with the segments of another, its text goes on behind the other's with nothing or a `/`
+-- where a path begins with the segments of another, its text goes on after the other's with nothing or a `/`
 goes_on : (text top : List ℕ) → IsPath text → IsPath top → begins_with (segments_of text) (segments_of top) ≡ true
     → text ≡ top ++ path_text (drop (length (segments_of top)) (segments_of text))
 goes_on text top path above e =

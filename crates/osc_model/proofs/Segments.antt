@@ -31,7 +31,7 @@ segments_back segment (next ∷ segments) lawful =
     slice_split_at (λ b. b == 47) segment 47 (next ++ path_text segments) (no_slash segment (both _ _ lawful).0) refl
     ∙ ap (λ rest. segment ∷ rest) (segments_back next segments (both _ _ lawful).1)
 
--- behind its first slash a path's text is cut into its segments
+-- after its first slash a path's text is cut into its segments
 pub segments_again : (segments : List (List ℕ)) → are_segments segments ≡ true → parts (drop 1 (path_text segments)) ≡ segments
 segments_again [] lawful = cc
 segments_again (segment ∷ segments) lawful = segments_back segment segments (both _ _ lawful).1
@@ -59,7 +59,7 @@ cut_of text (segment ∷ segments) lawful e = (
   ap (λ l. are_segments (parts (drop 1 l))) e ∙ ap are_segments (segments_back segment segments (both _ _ lawful).1) ∙ lawful,
 )
 
--- a path's text begins with `/`, and its parts behind that are segments
+-- a path's text begins with `/`, and its parts after that are segments
 pub parts_from_is_path : (text : List ℕ) → IsPath text → (text ≡ 47 ∷ drop 1 text) × (are_segments (parts (drop 1 text)) ≡ true)
 parts_from_is_path text path = cut_of text path.segments path.lawful path.spelled
 
@@ -70,7 +70,7 @@ few_slashes n rest passed count few lawful = let more = length-slice_split (λ b
 pub many_slashes : (n : ℕ) (rest : List ℕ) → n ≡ count_by (λ b. b == 47) rest → 8 ≤ n → nat_lt n 8 ≡ are_segments (parts rest)
 many_slashes n rest count many = let more = length-slice_split (λ b. b == 47) rest in grind (arith, nat_tests)
 
--- so a text that begins with `/` is a path's exactly where its parts behind that are segments
+-- so a text that begins with `/` is a path's exactly where its parts after that are segments
 pub decides_path : (text rest : List ℕ) (first : ℕ) (passed : Bool) → text ≡ first ∷ rest → first ≡ 47 → passed ≡ are_segments (parts rest) → (passed ≡ true → IsPath text) × (IsPath text → passed ≡ true)
 decides_path text rest first passed e slash p = (
   (λ yes. subst IsPath (sym (e ∙ ap (λ b. b ∷ rest) slash)) (is_path_from_parts rest (sym p ∙ yes))),

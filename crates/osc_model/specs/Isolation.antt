@@ -65,11 +65,11 @@ answered grants client history = answers (entries_under (held_by client grants) 
 
 -- ---- how far the two agree
 
--- a 5.00 in the history, for want of memory, or a 5.03 in the history or alone, for want of room
+-- a 5.00 in the history, for lack of memory, or a 5.03 in the history or alone, for lack of room
 abbrev pub is_for_want : Reply → Reply → Bool
 is_for_want served alone = is_internal_server_error served.code || is_service_unavailable served.code || is_service_unavailable alone.code
 
--- the replies are the same up to, and not with, the first that is for want
+-- the replies are the same up to, and not with, the first that is for lack
 abbrev pub AgreeUpToWant : List Answer → List Answer → Type 0
 AgreeUpToWant [] [] = ⊤
 AgreeUpToWant (served ∷ more) (alone ∷ others) = is_for_want served.1 alone.1 ≡ false → (served.1 ≡ alone.1) × AgreeUpToWant more others

@@ -29,7 +29,7 @@ pub record IsPath (text : List ℕ) : Type 0 where
 abbrev pub path_of : List (List ℕ) → Option (List ℕ)
 path_of segments = cond (are_segments segments) (Some (path_text segments)) None
 
--- the segments of a path's text: what stands between its slashes
+-- the segments of a path's text: what is between its slashes
 abbrev pub segments_of : List ℕ → List (List ℕ)
 segments_of text = slice_split (λ b. b == 47) (drop 1 text)
 

@@ -24,7 +24,7 @@ bare c = record { code = c; etag = None; format = None; payload = [] }
 abbrev pub content : Resource → Reply
 content resource = record { code = code 2 5; etag = Some (etag_of resource); format = resource.format; payload = resource.payload }
 
--- 5.00 Internal Server Error, the answer for want of memory
+-- 5.00 Internal Server Error, the answer for lack of memory
 abbrev pub out_of_memory : Reply
 out_of_memory = bare (code 5 0)
 

@@ -1,4 +1,4 @@
--- Which tokens are revoked. A server may have a revocation path; a token is revoked where a resource stands at that path with the
+-- Which tokens are revoked. A server may have a revocation path; a token is revoked where a resource is at that path with the
 -- hexadecimal text of the token's id after it.
 use Rattle.std.specs.Prelude.{ℕ, zero, suc, Bool, false, List, [], ◌∷◌, ◌++◌, length, take, drop, Option, option_and_then}
 use Rattle.std.specs.Option.{option_map_or}
@@ -25,7 +25,7 @@ revoked_path root id = path_of (segments_of root ++ id_segments id)
 abbrev pub revocation_of : Option (List ℕ) → List ℕ → Option (List ℕ)
 revocation_of root id = option_and_then (λ path. revoked_path path id) root
 
--- whether a resource stands at a path, if there is one
+-- whether a resource is at a path, if there is one
 abbrev pub stands : Tree → Option (List ℕ) → Bool
 stands tree path = option_map_or (map.contains_key tree) path false
 

@@ -47,7 +47,7 @@ impl Code {
     /// 4.13
     pub const REQUEST_ENTITY_TOO_LARGE: Code = Code(141);
 
-    /// 5.00, the answer for want of memory
+    /// 5.00, the answer for lack of memory
     pub const INTERNAL_SERVER_ERROR: Code = Code(160);
 
     /// 5.02

@@ -37,7 +37,7 @@ pub struct Peer {
     pub port: u16,
 }
 
-/// Random bytes, drawn anew for each event. Each part is used for one thing: the nonce of an exchange, the token of a
+/// Random bytes, drawn again for each event. Each part is used for one thing: the nonce of an exchange, the token of a
 /// request, the timeout of a confirmable message, the first message ID of a node.
 #[derive(Clone, Copy, Debug, PartialEq, Eq)]
 pub struct Draw(pub [u8; 32]);

@@ -141,7 +141,7 @@ fn text_length(segments: &[&[u8]]) -> usize
     length
 }
 
-// Whether a path's text goes on so behind its first `/`.
+// Whether a path's text goes on so after its first `/`.
 fn are_segments(rest: &[u8]) -> bool
     ensures { result ≡ are_segments (slice_split (λ b. b == 47) rest.now) }
 {

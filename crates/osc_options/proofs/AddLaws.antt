@@ -7,7 +7,7 @@ use Rattle.osc_coap.specs.Message.{Message}
 use Rattle.osc_coap.specs.Plaintext.{Plaintext}
 use Rattle.osc_options.specs.Inner.Merging.{with_options, with_inner_options}
 
--- the last number is that of the option behind the others
+-- the last number is that of the option after the others
 pub last_number-push : (before : ℕ) (options : List NumberAndValue) (option : NumberAndValue) → last_number before (options ++ option ∷ []) ≡ option.0
 last_number-push before [] option = refl
 last_number-push before (first ∷ options) option = last_number-push first.0 options option

@@ -1,4 +1,4 @@
--- A request within what stays outside of it: the message that comes of both is split into the same parts again.
+-- A request within what stays outside of it: the message that results from both is split into the same parts again.
 use Rattle.std.proofs.Common.{◌≡◌, ℕ, ◌≤◌, Bool, true, false, ◌==◌, List, [], ◌∷◌, ◌++◌, Option, Some, None, refl, sym, ap, ap₂, subst, ◌∙◌, append_assoc, arith, inl, inr}
 use Rattle.std.specs.Prelude.{filter, not}
 use Rattle.std.proofs.lemmas.Bool.{cases_Bool}
@@ -111,7 +111,7 @@ none_outer : (before : ℕ) (options : List NumberAndValue) → AreEncrypted bef
 none_outer before [] p = refl
 none_outer before (option ∷ options) p = rw (not_outer (class_of option.0) p.1) (none_outer option.0 options p.2)
 
--- behind options of no larger number
+-- after options of no larger number
 abbrev EncryptedFrom : ℕ → List NumberAndValue → Type 0
 EncryptedFrom least rest = (before : ℕ) → before ≤ least → AreEncrypted before rest
 

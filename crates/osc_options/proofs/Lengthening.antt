@@ -10,7 +10,7 @@ use Rattle.osc_options.proofs.SplitLaws.{class_cases, inner_left, inner_taken, o
 
 -- ---- options in two lists
 
--- behind a larger number they are no longer
+-- after a larger number they are no longer
 options_length_closer : (low high : ℕ) (options : List NumberAndValue) → low ≤ high → options_length high options ≤ options_length low options
 options_length_closer low high [] le = omega arith
 options_length_closer low high (option ∷ options) le = omega (arith, option_length_closer low high option le)

@@ -10,7 +10,7 @@ use Rattle.osc_options.specs.Inner.Merging.{is_inner_next}
 
 -- ---- in order
 
--- in order behind a smaller number
+-- in order after a smaller number
 pub AreInOrder_below : (low high : ℕ) (options : List NumberAndValue) → low ≤ high → AreInOrder high options → AreInOrder low options
 AreInOrder_below low high [] le p = tt
 AreInOrder_below low high (option ∷ options) le p = (omega (arith, p.0), p.1)
@@ -54,7 +54,7 @@ AreInOrder-insert option before (first ∷ options) le p =
 
 -- ---- step by step
 
--- an outer option stands before inner ones of no smaller number
+-- an outer option is before inner ones of no smaller number
 pub merge-first : (option : NumberAndValue) (outer inner : List NumberAndValue) → AreInOrder option.0 inner → merge (option ∷ outer) inner ≡ option ∷ merge outer inner
 merge-first option outer [] behind = refl
 merge-first option outer (first ∷ inner) behind =
@@ -75,7 +75,7 @@ first_inner option first outer inner lt p =
 pub first_outer : (option first : NumberAndValue) (outer inner : List NumberAndValue) → option.0 ≤ first.0 → AreInOrder first.0 inner → merge (option ∷ outer) (first ∷ inner) ≡ option ∷ merge outer (first ∷ inner)
 first_outer option first outer inner le p = merge-first option outer (first ∷ inner) (le, p)
 
--- an outer option stands before inner ones behind it
+-- an outer option is before inner ones after it
 pub merge-outer : (option : NumberAndValue) (outer inner : List NumberAndValue) → AreOptions option.0 inner → merge (option ∷ outer) inner ≡ option ∷ merge outer inner
 merge-outer option outer inner behind = merge-first option outer inner (AreInOrder-options option.0 inner behind)
 
@@ -129,7 +129,7 @@ extension_length_rises m n le =
       ]
     ]
 
--- an option behind a larger number is no longer
+-- an option after a larger number is no longer
 pub option_length_closer : (low high : ℕ) (option : NumberAndValue) → low ≤ high → option_length high option ≤ option_length low option
 option_length_closer low high option le = omega (arith, extension_length_rises (option.0 - high) (option.0 - low) (omega arith))
 
@@ -162,7 +162,7 @@ options_length-merge before (option ∷ outer) inner p q = options_length-first 
 abbrev has : ℕ → NumberAndValue → Bool
 has number option = option.0 == number
 
--- no smaller number stands there
+-- no smaller number is there
 none_below : (number before : ℕ) (options : List NumberAndValue) → number < before → AreInOrder before options → of_number number options ≡ []
 none_below number before [] lt p = refl
 none_below number before (option ∷ options) lt p =

@@ -70,7 +70,7 @@ value_there number (option ∷ options) =
       | inr other ↦ rw other (value_there number options)
     ]
 
--- options behind one of a larger number
+-- options after one of a larger number
 pub none_behind : (number before : ℕ) (options : List NumberAndValue) → AreOptions before options → number < before → list_any (λ option. option.0 == number) options ≡ false
 none_behind number before [] order less = refl
 none_behind number before (option ∷ options) order less =

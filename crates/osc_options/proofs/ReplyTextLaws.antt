@@ -4,7 +4,7 @@ use Rattle.osc_model.specs.declared.reply.Reply.{Reply}
 use Rattle.osc_coap.specs.{NumberAndValue, option_spelling, options_spelling, payload_spelling, plaintext_spelling, last_number, payload_of}
 use Rattle.osc_options.specs.{etag_option, format_option, reply_text}
 
--- options in two parts are spelled behind one another
+-- options in two parts are spelled after one another
 options_spelling-append : (before : ℕ) (front back : List NumberAndValue) → options_spelling before (front ++ back) ≡ options_spelling before front ++ options_spelling (last_number before front) back
 unfolding options_spelling
 options_spelling-append before [] back = refl

@@ -107,7 +107,7 @@ all_outer (option ∷ options) =
       | inr not_so ↦ subst AllOuter (sym (outer_left option options not_so)) (all_outer options)
     ]
 
--- an encrypted option stands before outer ones behind it
+-- an encrypted option is before outer ones after it
 inner_first : (option : NumberAndValue) (outer inner : List NumberAndValue) → is_outer option.0 ≡ false → AllOuter outer → AreOptions option.0 outer → AreOptions option.0 inner → merge outer (option ∷ inner) ≡ option ∷ merge outer inner
 inner_first option [] inner is all are behind = merge-first option [] inner (AreInOrder-options option.0 inner behind)
 inner_first option (first ∷ outer) inner is all are behind =

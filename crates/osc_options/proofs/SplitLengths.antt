@@ -1,4 +1,4 @@
--- How long what comes of splitting and merging is.
+-- How long the outcome of splitting and merging is.
 use Rattle.std.proofs.Common.{ℕ, ◌≤◌, ◌+◌, Bool, not, ◌==◌, List, [], ◌∷◌, length, arith, inl, inr}
 use Rattle.std.specs.Prelude.{filter}
 use Rattle.std.proofs.lemmas.Bool.{cases_lt, lt-ltb, le-ltb}

@@ -22,7 +22,7 @@ each_more m number values i value at =
     ∙ ap (λ (v : List ℕ). with_inner_options m (each number (v ∷ rest))) at.1
     ∙ sym (at_drop_more (λ vs. with_inner_options m (each number vs)) values i value at.0)
 
--- behind the last of them none is left
+-- after the last of them none is left
 pub each_all : (m : Plaintext) (number : ℕ) (values : List (List ℕ)) (i : ℕ) → i ≡ length values → m ≡ with_inner_options m (each number (drop i values))
 each_all m number values i all =
     sym (ap (λ (vs : List (List ℕ)). with_inner_options m (each number vs)) (drop_all i values (omega arith)) ∙ ap (λ (options : List NumberAndValue). record m { options = options }) (append-nil m.options))
@@ -48,7 +48,7 @@ some_path text path = some_text text path.segments path.lawful path.spelled
 pub behind_first : (text : List ℕ) → take (length text - 1) (drop 1 text) ≡ drop 1 text
 behind_first text = take_all (length text - 1) (drop 1 text) (omega (arith, length-drop 1 text))
 
--- ---- options of one number behind those of others
+-- ---- options of one number after those of others
 
 pub with_options-again : (m : Plaintext) (front back : List NumberAndValue) → with_inner_options (with_inner_options m front) back ≡ with_inner_options m (front ++ back)
 with_options-again m front back = ap (λ (options : List NumberAndValue). record m { options = options }) (append_assoc m.options front back)

@@ -18,7 +18,7 @@ request_plaintext request = record { code = request.code.0; options = request_op
 
 -- ---- read
 
--- The first option that must not stand inside a request, by its number: one of class U, recognised or not, or a critical one that
+-- The first option that must not be inside a request, by its number: one of class U, recognised or not, or a critical one that
 -- isn't recognised. `before` is the number of the option before these.
 abbrev pub unheeded : ℕ → List NumberAndValue → Option ℕ
 unheeded before [] = None
@@ -36,6 +36,6 @@ request_of_plaintext p =
     if is_request_code p.code then heeded (unheeded 0 p.options) (request_in p.code p.options p.payload)
     else Err Format
 
--- the outcome is the one that is due; or, where a value is due, want of memory
+-- the outcome is the one that is due; or, where a value is due, lack of memory
 abbrev pub IsMemoryAside : {T E : Type 0} → E → Result T E → Result T E → Type 0
 IsMemoryAside memory due outcome = (outcome ≡ due) ⊎ IsOk due × (outcome ≡ Err memory)

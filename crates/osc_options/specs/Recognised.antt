@@ -4,9 +4,9 @@ use Rattle.osc_coap.specs.{NumberAndValue}
 use Rattle.osc_options.specs.declared.table.Rule.{Rule}
 use Rattle.osc_options.specs.Table.{is_critical, is_unsafe, rule_of}
 
--- Its length is right, and it is no second copy of one that doesn't repeat. Options stand in the order of their
--- numbers, so a copy stands right behind an option of its own number, here called `before`; no option of the table
--- has number 0, so that one stands before the first.
+-- Its length is right, and it is no second copy of one that doesn't repeat. Options are in the order of their
+-- numbers, so a copy is right after an option of its own number, here called `before`; no option of the table
+-- has number 0, so that one is before the first.
 abbrev pub fits : ℕ → NumberAndValue → Option Rule → Bool
 fits before option None = false
 fits before option (Some rule) =
@@ -27,7 +27,7 @@ unrecognised_critical before [] = None
 unrecognised_critical before (option ∷ options) =
     if is_critical option.0 && not (is_recognised before option) then Some option.0 else unrecognised_critical option.0 options
 
--- whether an option that isn't recognised is unsafe to forward; the options stand behind one of number `before`
+-- whether an option that isn't recognised is unsafe to forward; the options follow one of number `before`
 abbrev pub has_unrecognised_unsafe : ℕ → List NumberAndValue → Bool
 has_unrecognised_unsafe before [] = false
 has_unrecognised_unsafe before (option ∷ options) =

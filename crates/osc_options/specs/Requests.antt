@@ -43,7 +43,7 @@ request_of message = request_in message.code message.options message.payload
 abbrev pub each : ℕ → List (List ℕ) → List NumberAndValue
 each number values = map (λ value. (number, value)) values
 
--- Uri-Path, option 11, for what stands between the slashes of a path's text (section 5.10.1)
+-- Uri-Path, option 11, for what is between the slashes of a path's text (section 5.10.1)
 abbrev pub segments_of : List ℕ → List (List ℕ)
 segments_of text = slice_split (λ b. b == 47) (drop 1 text)
 

@@ -21,7 +21,7 @@ same_class U U = true
 abbrev pub of_class : Class → List NumberAndValue → List NumberAndValue
 of_class class options = filter (λ option. same_class class (class_of option.0)) options
 
--- the options that stay outside: those of class U; OSCORE's own, option 9, is written anew each time
+-- the options that stay outside: those of class U; OSCORE's own, option 9, is written again each time
 abbrev pub outer_options : List NumberAndValue → List NumberAndValue
 outer_options options = filter (λ option. not (option.0 == oscore)) (of_class U options)
 
@@ -31,12 +31,12 @@ inner_options options = of_class E options
 
 -- ---- two lists of options in one
 
--- an option put behind those of no larger number
+-- an option put after those of no larger number
 abbrev pub insert : NumberAndValue → List NumberAndValue → List NumberAndValue
 insert option [] = option ∷ []
 insert option (first ∷ options) = if nat_lt option.0 first.0 then option ∷ first ∷ options else first ∷ insert option options
 
--- the options of two lists in the order of their numbers: each inner one is put behind the others of no larger number, so
+-- the options of two lists in the order of their numbers: each inner one is put after the others of no larger number, so
 -- that of each number the outer options come first and then the inner ones (the law `merged_options`)
 abbrev pub merge : List NumberAndValue → List NumberAndValue → List NumberAndValue
 merge outer [] = outer
@@ -66,7 +66,7 @@ protected message code value payload = record message {
   payload = payload_of payload;
 }
 
--- the message that comes of a protected one and the plaintext in it: what is of class E outside, and what is of class U
+-- the message that results from a protected one and the plaintext in it: what is of class E outside, and what is of class U
 -- inside, is left out
 abbrev pub unprotected : Message → Plaintext → Message
 unprotected outer inner = record outer {

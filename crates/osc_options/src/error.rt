@@ -11,7 +11,7 @@ pub enum PlaintextError {
     /// The bytes are no plaintext, or its code is none of a request, or none of a response.
     #[error("the plaintext is no such message")]
     Format,
-    /// The first option that must not stand inside, by its number: a critical one that isn't recognised, or in a request
+    /// The first option that must not be inside, by its number: a critical one that isn't recognised, or in a request
     /// one of class U.
     #[error("the option {0} is not understood inside")]
     BadOption(u16),

@@ -1,4 +1,4 @@
-//! What must not stand in the plaintext of a request (RFC 7252 section 5.4.1, RFC 8613 section 4.1).
+//! What must not be in the plaintext of a request (RFC 7252 section 5.4.1, RFC 8613 section 4.1).
 ghost use Rattle.std.specs.Prelude.{◌≡◌, ◌||◌, ◌&&◌, None, not, IfOk, IfErr};
 ghost use Rattle.osc_options.specs.declared.table.Class.TheVariants.{U};
 ghost use Rattle.osc_options.specs.Inner.Fields.{AreFieldsOf, without_memory as without_memory_of};
@@ -14,7 +14,7 @@ use crate::table::{Class, class_of, is_critical};
 use osc_coap::PlaintextRef;
 use std::alloc::Global;
 
-/// Whether an option of this number must not stand there: it is of class U, or critical and not recognised.
+/// Whether an option of this number must not be there: it is of class U, or critical and not recognised.
 #[inline(always)]
 fn is_unheeded(number: u16, known: bool) -> bool
     ensures { result ≡ (same_class U (table.class_of number) || table.is_critical number && not known) }
@@ -22,7 +22,7 @@ fn is_unheeded(number: u16, known: bool) -> bool
     class_of(number) == Class::U || (is_critical(number) && !known)
 }
 
-/// The first option of the plaintext that must not stand there, by its number.
+/// The first option of the plaintext that must not be there, by its number.
 pub(crate) fn unheeded(plaintext: &PlaintextRef<'_>) -> Option<u16>
     ensures { result ≡ unheeded_in 0 plaintext.now.options }
 {
@@ -47,7 +47,7 @@ fn without_memory(plaintext: &PlaintextRef<'_>) -> PlaintextError
 }
 
 /// The values that a request is made of, in one pass over the options of its plaintext. The error is the first option that must
-/// not stand there; where there is none, it is `Memory`.
+/// not are there; where there is none, it is `Memory`.
 pub(crate) fn heeded_fields<'a>(
     alloc: Global,
     plaintext: &PlaintextRef<'a>,

@@ -30,7 +30,7 @@ pub fn merging_what_was_split()
     fewer_options();
 }
 
-/// What comes of splitting and merging has a spelling.
+/// The outcome of splitting and merging has a spelling.
 pub fn splitting_what_is_lawful()
     ensures plaintext { (m : Message) → HasSpelling m → HasPlaintextSpelling (plaintext_of m) }
     ensures protected { (m : Message) (code : ℕ) (value payload : List ℕ)
@@ -68,7 +68,7 @@ pub fn merged_options()
         ≤ options_length before outer + options_length before inner }
 {}
 
-/// How long what comes of splitting and merging is at most.
+/// How long the outcome of splitting and merging is at most.
 pub fn length_of_split()
     ensures plaintext { (m : Message) → HasSpelling m
         → length (plaintext_spelling (plaintext_of m)) ≤ length (spelling m) }
@@ -155,7 +155,7 @@ pub fn requests_are_encrypted()
 {}
 
 /// A request that was written into a message is encrypted whole: its options are all of class E, and in the order of their numbers.
-/// The message that comes of what stays outside and of the request's plaintext has these two parts again; with nothing outside it is the message
+/// The message that results from what stays outside and from the request's plaintext has these two parts again; with nothing outside it is the message
 /// that carries the request.
 pub fn a_written_request()
     ensures plaintext { (message : Message) (request : AnyRequest) → plaintext_of (with_request message request) ≡ request_plaintext request }

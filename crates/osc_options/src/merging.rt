@@ -23,7 +23,7 @@ fn is_inner_next(outer: &Option<(u16, &[u8])>, inner: &Option<(u16, &[u8])>) -> 
     }
 }
 
-/// Takes the first outer option, and looks at the one behind it.
+/// Takes the first outer option, and looks at the one after it.
 fn take_outer<'a>(
     front: &mut Option<(u16, &'a [u8])>,
     left: &mut OuterOptions<'a>,
@@ -51,7 +51,7 @@ fn next_inner<'a>(left: &mut Option<InnerOptions<'a>>) -> Option<(u16, &'a [u8])
     }
 }
 
-/// Takes the first inner option, and looks at the one behind it.
+/// Takes the first inner option, and looks at the one after it.
 fn take_inner<'a>(
     front: &mut Option<(u16, &'a [u8])>,
     left: &mut Option<InnerOptions<'a>>,
@@ -71,10 +71,10 @@ fn take_inner<'a>(
 /// outer option is first.
 #[derive(Drop)]
 pub struct Merged<'a> {
-    /// The first outer option, and those behind it.
+    /// The first outer option, and those after it.
     outer: Option<(u16, &'a [u8])>,
     outer_left: OuterOptions<'a>,
-    /// The first inner option, and those behind it.
+    /// The first inner option, and those after it.
     inner: Option<(u16, &'a [u8])>,
     inner_left: Option<InnerOptions<'a>>,
 }

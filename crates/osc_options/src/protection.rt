@@ -1,4 +1,4 @@
-//! Messages as they go into OSCORE's protection, and as they come of it (RFC 8613 sections 4.1 and 5.3).
+//! Messages as they go into OSCORE's protection, and as they come from it (RFC 8613 sections 4.1 and 5.3).
 ghost use Rattle.std.specs.Prelude.{◌≡◌, ◌<◌, ◌≤◌, ◌↔◌, None, length, IsOk, IfOk, OnOk};
 ghost use Rattle.osc_coap.specs.{spelling, plaintext_spelling, last_number, datagram_limit};
 ghost use Rattle.osc_options.specs.Split as spec;
@@ -112,7 +112,7 @@ pub fn protected_message(
     )
 }
 
-/// The message that comes of a protected one and the plaintext in it: kind, message ID, token and options of class U of
+/// The message that results from a protected one and the plaintext in it: kind, message ID, token and options of class U of
 /// the one, code, options of class E and payload of the other. Refused only where it is longer than a datagram may be.
 pub fn unprotected_message(
     outer: &MessageRef<'_>,

@@ -11,7 +11,7 @@ use crate::table::is_critical;
 use osc_coap::{MessageRef, Options};
 use std::marker::Model;
 
-/// Whether this option, behind one of number `before` or first behind 0, is recognised: it has a row in the table,
+/// Whether this option, after one of number `before` or first after 0, is recognised: it has a row in the table,
 /// the length that the row allows, and is no second copy of one that doesn't repeat.
 #[inline(always)]
 pub fn is_recognised(before: u16, number: u16, value: &[u8]) -> bool
@@ -59,7 +59,7 @@ pub fn unrecognised_critical(message: &MessageRef<'_>) -> Option<u16>
     unrecognised_among(message.options())
 }
 
-/// Whether an option of this number stands in the message, recognised or not. It is looked for up to a larger number, since numbers
+/// Whether an option of this number is in the message, recognised or not. It is looked for up to a larger number, since numbers
 /// don't fall.
 pub fn has_option(message: &MessageRef<'_>, number: u16) -> bool
     ensures { result ≡ list_any (λ option. option.0 == number) message.now.options }

@@ -93,7 +93,7 @@ fn etag_of(options: RecognisedOptions<'_>) -> Option<[u8; 8]>
     }
 }
 
-/// The reply of a plaintext's code, recognised options and payload; refused only for want of memory.
+/// The reply of a plaintext's code, recognised options and payload; refused only for lack of memory.
 fn reply_with(alloc: Global, plaintext: &PlaintextRef<'_>) -> Result<Reply, AllocError>
     ensures { IfOk result (λ reply. reply ≡ spec.reply_with plaintext.now) }
 {
@@ -119,7 +119,7 @@ fn heeded(alloc: Global, plaintext: &PlaintextRef<'_>) -> Result<Reply, Plaintex
 }
 
 /// The reply that these bytes are as a plaintext (RFC 8613 section 5.3). The error is `Format` where they are no
-/// plaintext or its code is none of a response, and else `BadOption` where a critical option that isn't recognised stands
+/// plaintext or its code is none of a response, and else `BadOption` where a critical option that isn't recognised is
 /// in it. What else isn't part of a reply is left out: an option of class U, and an ETag of another length than 8.
 pub fn reply_of(alloc: Global, plaintext: &[u8]) -> Result<Reply, PlaintextError>
     ensures plain { (p : Plaintext) → SpellsPlaintext plaintext.now p

@@ -55,7 +55,7 @@ fn etag_number(etag: &Option<[u8; 8]>) -> u16
     }
 }
 
-/// How many bytes the Content-Format takes, if there is one, behind an option of number `before`; its delta and its length have no
+/// How many bytes the Content-Format takes, if there is one, after an option of number `before`; its delta and its length have no
 /// extension.
 fn format_size(before: u16, format: Option<u16>) -> usize
     requires { before ≤ 4 }
@@ -90,7 +90,7 @@ pub fn reply_text_size(reply: &Reply) -> usize
     1 + etag + format + payload_size(reply.payload.as_slice())
 }
 
-/// Appends an option behind one of number `before`, whose delta and length have no extension (RFC 7252 section 3.1); there is room
+/// Appends an option after one of number `before`, whose delta and length have no extension (RFC 7252 section 3.1); there is room
 /// for it.
 #[tactic(auto, unfolding(osc_coap::specs::Message::option_spelling, osc_coap::specs::Message::nibble, osc_coap::specs::Message::extension))]
 fn append_option(text: &mut Vec<u8>, before: u16, number: u16, value: &[u8])
@@ -120,7 +120,7 @@ fn append_etag(text: &mut Vec<u8>, etag: &Option<[u8; 8]>)
     }
 }
 
-/// Appends the Content-Format, if there is one, behind an option of number `before`; there is room for it.
+/// Appends the Content-Format, if there is one, after an option of number `before`; there is room for it.
 #[tactic(auto, unfolding(osc_coap::specs::Message::options_spelling))]
 fn append_format(text: &mut Vec<u8>, before: u16, format: Option<u16>)
     requires low { before ≤ 4 }

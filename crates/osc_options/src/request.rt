@@ -103,7 +103,7 @@ fn heeded(alloc: Global, plaintext: &PlaintextRef<'_>) -> Result<Request, Plaint
 
 /// The request that these bytes are as a plaintext (RFC 8613 section 5.3). The error is `Format` where they are no
 /// plaintext or its code is none of a request, and else `BadOption` where an option of class U, or a critical one that
-/// isn't recognised, stands in it.
+/// isn't recognised, is in it.
 pub fn request_of(alloc: Global, plaintext: &[u8]) -> Result<Request, PlaintextError>
     ensures plain { (p : Plaintext) → SpellsPlaintext plaintext.now p
         → IsMemoryAside PlaintextError.Memory (request_of_plaintext p) result }

@@ -40,7 +40,7 @@ pub struct Survey<'a> {
     pub unrecognised_critical: Option<u16>,
     /// Whether an option that isn't recognised is unsafe to forward.
     pub has_unrecognised_unsafe: bool,
-    /// What stands there, recognised or not.
+    /// What is there, recognised or not.
     pub standing: Standing<'a>,
     /// The target that the recognised options name.
     pub named: Named<'a>,

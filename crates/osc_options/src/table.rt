@@ -21,7 +21,7 @@ pub struct Rule {
     pub shortest: u16,
     /// The greatest length of its value, in bytes.
     pub longest: u16,
-    /// Whether it may stand more than once.
+    /// Whether it may be more than once.
     pub repeats: bool,
     pub class: Class,
 }

@@ -4,7 +4,7 @@ use Rattle.std.proofs.lemmas.Bool.{ne_eqb}
 use Rattle.osc_coap.specs.{NumberAndValue, AreOptions}
 use Rattle.osc_options.specs.{value}
 
--- none of a smaller number stands behind an option
+-- none of a smaller number follows an option
 no_value : (number before : ℕ) (options : List NumberAndValue) → AreOptions before options → number < before → value number options ≡ None
 no_value number before [] order less = refl
 no_value number before (option ∷ options) order less =

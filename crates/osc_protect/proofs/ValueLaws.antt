@@ -65,7 +65,7 @@ partial_iv_bytes-short : (number : Option ℕ) → length (partial_iv_bytes numb
 partial_iv_bytes-short None = omega arith
 partial_iv_bytes-short (Some n) = partial_iv-short n
 
--- the parts behind the flag bits
+-- the parts after the flag bits
 abbrev parts_of : Compressed → List ℕ
 parts_of c = partial_iv_bytes c.partial_iv ++ kid_context_bytes c.kid_context ++ unwrap_or c.kid []
 

@@ -12,7 +12,7 @@ use osc_cbor::{Major, head};
 use osc_context::{algorithm_of, partial_iv_of};
 use osc_model::ContextName;
 
-/// The most bytes of the associated data: 11 stand before the external one, which has a head of one byte, and at most 20: 5
+/// The most bytes of the associated data: 11 are before the external one, which has a head of one byte, and at most 20: 5
 /// for the version and the algorithm, 8 for the ID, 6 for the Partial IV, and one for no options.
 pub(crate) const AAD_LENGTH: usize = 32;
 

@@ -1,4 +1,4 @@
-//! What stands before the options of a message that answers, and the protected response that goes with it.
+//! What is before the options of a message that answers, and the protected response that goes with it.
 
 ghost use Rattle.std.specs.Prelude.{◌≡◌, [], ◌↔◌, ◌+◌, ◌≤◌, length, replicate, IsSome, IfSome};
 ghost use Rattle.osc_coap.specs.{spelling};

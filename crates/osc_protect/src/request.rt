@@ -158,7 +158,7 @@ fn text_size<A: Ciphers>(
     })
 }
 
-/// Protects a request of the client as `protect_request` protects the message that comes of what stays outside of it and of its plaintext;
+/// Protects a request of the client as `protect_request` protects the message that results from what stays outside of it and of its plaintext;
 /// that message itself is never built. Kind, message ID, token and class U options are those of `outside`, whose code, class E options and
 /// payload are left out. Takes no memory.
 ///
@@ -295,7 +295,7 @@ fn outer_of_text<A: Ciphers>(
 
 /// Opens a protected request at the server, under the context of this name, and answers the note of the opening, whose plaintext
 /// is what was sealed. Which numbers are fresh isn't asked here, and no number is accepted: that is the caller's, once it knows
-/// that it goes on, and the right to a reply comes of it alone.
+/// that it goes on, and the right to a reply comes from it alone.
 ///
 /// # Errors
 ///

@@ -52,7 +52,7 @@ fn number_in(bytes: &[u8]) -> u64
     number
 }
 
-/// Whether there is a zero byte with others behind it.
+/// Whether there is a zero byte with others after it.
 fn has_leading_zero(bytes: &[u8]) -> bool
     ensures { result ≡ spec.has_leading_zero bytes.now }
 {

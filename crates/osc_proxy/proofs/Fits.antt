@@ -40,7 +40,7 @@ sendable_acknowledgement short to message = by (is_confirmable message.kind)
     by true = one_sendable (datagram to (empty_acknowledgement message.id)) (short message.id)
     by false = none_sendable
 
--- an acknowledgement, and what goes out behind it
+-- an acknowledgement, and what goes out after it
 pub sendable_both : (front behind : List Datagram) → AreSendable front → AreSendable behind → AreSendable (front ++ behind)
 sendable_both front behind a b = All-append (λ sent. FitsDatagram sent.bytes) front behind a b
 

@@ -7,7 +7,7 @@ use Rattle.osc_coap.specs.Message.{Message}
 use Rattle.osc_options.specs.{proxy_scheme, proxy_uri, uri_host, uri_port, recognised, value, AreInOrder, of_number}
 use Rattle.osc_proxy.specs.{forwarded, forwarded_options, has_proxy_uri, is_taken_out, HostAndPort, Names, NamesBy, by_scheme, port_in}
 
--- ---- a filter behind a filter
+-- ---- a filter after a filter
 
 first_within : {X : Type 0} (p q : X → Bool) (x : X) (kept all : List X) → (p x ≡ true → q x ≡ true) → filter p kept ≡ filter p all
     → filter p (cond (q x) (x ∷ kept) kept) ≡ filter p (x ∷ all)

@@ -14,7 +14,7 @@ use Rattle.osc_proxy.specs.Inner.Reading.{is_end, port_of, port_at, port_behind,
 
 -- ---- the digits of a port
 
--- a number doesn't fall with the digits behind it
+-- a number doesn't fall with the digits after it
 pub grows : (n : ℕ) (digits : List ℕ) → n ≤ fold (λ n digit. 10 * n + (digit - 48)) n digits
 grows n [] = omega arith
 grows n (digit ∷ digits) = omega (arith, grows (10 * n + (digit - 48)) digits)
@@ -96,7 +96,7 @@ passed false found x e = (refl, e)
 same_some : {X : Type 0} (x y : X) → Some x ≡ Some y → x ≡ y
 same_some x y e = cc
 
--- ---- behind a host
+-- ---- after a host
 
 -- nothing but the empty path
 record IsLast (bytes : List ℕ) : Type 0 where
@@ -112,7 +112,7 @@ last_again : (slash : Bool) → is_end (path_spelling slash) ≡ true
 last_again false = refl
 last_again true = refl
 
--- these bytes name this port behind a host
+-- these bytes name this port after a host
 record NamesPort (bytes : List ℕ) (port : ℕ) : Type 0 where
   pub digits : Option (List ℕ)
   pub slash : Bool
@@ -190,7 +190,7 @@ behind_stops None false = tt
 behind_stops None true = refl
 behind_stops (Some digits) slash = refl
 
--- ---- behind the scheme
+-- ---- after the scheme
 
 not_none : (n : ℕ) → 0 < n → (n == 0) ≡ false
 not_none n some = grind (arith, nat_tests)

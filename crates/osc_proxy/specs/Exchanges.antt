@@ -7,7 +7,7 @@ use Rattle.osc_coap.specs.Message.{Message as CoapMessage}
 use Rattle.osc_message.specs.{same_peer, is_acknowledgement}
 use Rattle.osc_proxy.specs.declared.exchanges.Exchange.{Exchange}
 
--- what stands under each key, from 0 on, and the key of the next exchange that is opened
+-- what is under each key, from 0 on, and the key of the next exchange that is opened
 pub record Table : Type 0 where
   pub slots : List (Option Exchange)
   pub next : ℕ

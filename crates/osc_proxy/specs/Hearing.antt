@@ -1,4 +1,4 @@
--- What a proxy does with a datagram: one definition for whoever stands above it.
+-- What a proxy does with a datagram: one definition for whoever is above it.
 use Rattle.std.specs.Prelude.{◌≡◌, ℕ, List, Option}
 use Rattle.osc_model.specs.Arrival.{Arrival}
 use Rattle.osc_model.specs.{quiet}

@@ -1,4 +1,4 @@
--- A request that goes through the proxy, and its answer: how the proxy stands before, and what comes of it (RFC 7252 section 5.7.2).
+-- A request that goes through the proxy, and its answer: how the proxy stands before, and the outcome (RFC 7252 section 5.7.2).
 use Rattle.std.specs.Prelude.{◌≡◌, ℕ, ◌+◌, ◌%◌, ◌≤◌, true, false, List, [], ◌∷◌, length, Some, None, codes}
 use Rattle.osc_model.specs.{read_as, sends}
 use Rattle.osc_model.specs.Arrival.{Arrival}
@@ -63,7 +63,7 @@ pub record TakesUp (proxy : State) (passage : Passage) : Type 0 where
 abbrev pub datagram_of : Passage → Arrival (List ℕ)
 datagram_of passage = read_as passage.came (spelling passage.came.what)
 
--- the message ID of the answer that goes back: the one behind that of the forwarded message (section 4.4)
+-- the message ID of the answer that goes back: the one after that of the forwarded message (section 4.4)
 abbrev pub answer_id : State → Draw → ℕ
 answer_id proxy draw = (next_own proxy draw + 1) % 65536
 

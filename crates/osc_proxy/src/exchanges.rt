@@ -71,7 +71,7 @@ impl fmt::Debug for FailureRoom {
 }
 
 impl FailureRoom {
-    /// Room for one answer. Refused only for want of memory.
+    /// Room for one answer. Refused only for lack of memory.
     pub fn new(alloc: Global) -> Result<FailureRoom, AllocError> {
         Ok(FailureRoom {
             sent: Buffer::new(alloc, LONGEST_FAILURE)?,
@@ -89,7 +89,7 @@ impl FailureRoom {
     }
 }
 
-/// The open exchanges, each under a key; contracts see what stands under each key, and the next key. All the room that they need
+/// The open exchanges, each under a key; contracts see what is under each key, and the next key. All the room that they need
 /// is taken when the table is made.
 pub struct Exchanges {
     open: Slab<Exchange>,
@@ -168,7 +168,7 @@ pub(crate) fn withdraw(endpoint: &mut Endpoint, exchange: &Exchange)
 }
 
 impl Exchanges {
-    /// None is open. Refused only for want of memory.
+    /// None is open. Refused only for lack of memory.
     pub fn new(alloc: Global) -> Result<Exchanges, AllocError>
         ensures { IfOk result (λ exchanges. exchanges ≡ spec.none_open) }
     {

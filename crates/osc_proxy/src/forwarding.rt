@@ -12,7 +12,7 @@ use osc_model::Draw;
 use osc_options::has_option;
 use osc_options::numbers::{PROXY_SCHEME, PROXY_URI, URI_HOST, URI_PATH, URI_PORT, URI_QUERY};
 
-/// Which options stay where a message is written anew.
+/// Which options stay where a message is written again.
 #[derive(Clone, Copy)]
 enum Rewriting {
     /// All.

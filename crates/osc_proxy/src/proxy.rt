@@ -66,7 +66,7 @@ impl Model for Proxy {
 }
 
 impl Proxy {
-    /// A proxy that forwards to these targets; it has heard nothing. Refused only for want of memory.
+    /// A proxy that forwards to these targets; it has heard nothing. Refused only for lack of memory.
     pub fn new(alloc: Global, targets: Targets) -> Result<Proxy, AllocError>
         ensures { IfOk result (λ proxy. proxy ≡ record { targets = targets; exchanges = none_open; endpoint = fresh }) }
     {

@@ -16,14 +16,14 @@ pub struct Origin<'a> {
     pub port: u16,
 }
 
-/// Whether the byte may stand in a host.
+/// Whether the byte may be in a host.
 fn is_host_byte(byte: u8) -> bool
     ensures { result ≡ is_host_byte_of byte }
 {
     byte != b':' && byte != b'/'
 }
 
-/// How many bytes at the front may stand in a host.
+/// How many bytes at the front may be in a host.
 fn host_length(bytes: &[u8]) -> usize
     ensures value { result ≡ prefix_len is_host_byte_of bytes.now }
     ensures most { result ≤ length bytes.now }
@@ -45,7 +45,7 @@ fn is_digit(byte: u8) -> bool
     b'0' <= byte && byte <= b'9'
 }
 
-/// How many digits stand at the front.
+/// How many digits are at the front.
 fn digits_length(bytes: &[u8]) -> usize
     ensures value { result ≡ prefix_len is_digit_of bytes.now }
     ensures most { result ≤ length bytes.now }
@@ -92,7 +92,7 @@ fn port_of(digits: &[u8]) -> Option<u16>
     Some(port as u16)
 }
 
-/// The port at the front of the bytes, where nothing but a '/' stands behind it.
+/// The port at the front of the bytes, where nothing but a '/' follows it.
 #[tactic(auto, unfolding(crate::specs::Inner::Reading::port_at))]
 fn port_at(bytes: &[u8]) -> Option<u16>
     ensures { result ≡ spec.port_at bytes.now }
@@ -101,7 +101,7 @@ fn port_at(bytes: &[u8]) -> Option<u16>
     if is_end(rest) { port_of(digits) } else { None }
 }
 
-/// The port that is named behind a host.
+/// The port that is named after a host.
 fn port_behind(rest: &[u8]) -> Option<u16>
     ensures { result ≡ spec.port_behind rest.now }
 {
@@ -114,7 +114,7 @@ fn port_behind(rest: &[u8]) -> Option<u16>
     }
 }
 
-/// The host and the port that stand behind the scheme.
+/// The host and the port that follow the scheme.
 #[tactic(auto, unfolding(crate::specs::Inner::Reading::authority))]
 fn authority(bytes: &[u8]) -> Option<Origin<'_>>
     ensures { option_map (λ origin. (origin.host.now, origin.port)) result ≡ spec.authority bytes.now }

@@ -84,7 +84,7 @@ pub(crate) fn has_room(endpoint: &Endpoint, confirmable: bool, to: Peer) -> bool
     !confirmable || endpoint.takes(to)
 }
 
-/// Puts a datagram, if there is one, behind the others; takes no memory.
+/// Puts a datagram, if there is one, after the others; takes no memory.
 pub(crate) fn put(out: &mut Outbox, sent: Option<Datagram>)
     requires { 0 < out.old.places }
     ensures { out.new.sent ≡ out.old.sent ++ option_to_list sent }

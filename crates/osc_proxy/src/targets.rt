@@ -55,7 +55,7 @@ impl Targets {
         }
     }
 
-    /// Adds a target behind the others; without memory all stays as it was.
+    /// Adds a target after the others; without memory all stays as it was.
     pub fn push(&mut self, target: Target) -> Result<(), AllocError>
         ensures ok { OnOk result (self.new ≡ self.old ++ target ∷ []) }
         ensures err { OnErr result (self.new ≡ self.old) }

@@ -19,7 +19,7 @@ use osc_message::{MessageName, Ticked};
 use osc_model::{Code, Datagram, Datagrams, Draw, Moment, Step};
 use std::alloc::Global;
 
-/// Puts a datagram, if there is one, behind the others where there is room for it; elsewhere it is lost. Takes no memory.
+/// Puts a datagram, if there is one, after the others where there is room for it; elsewhere it is lost. Takes no memory.
 fn put(out: &mut Vec<Datagram>, room: bool, sent: Option<Datagram>)
     requires { room ≡ true → vec_len out.old < vec_capacity out.old }
     ensures items { out.new.items ≡ out.old.items ++ (if room then option_to_list sent else []) }

@@ -1,4 +1,4 @@
--- A request that goes through a forward proxy, and its answer: how both ends stand before, and what comes of it. What the proxy makes
+-- A request that goes through a forward proxy, and its answer: how both ends stand before, and the outcome. What the proxy makes
 -- of a request is `forwarded`, and what it makes of the response is `answer` (RFC 7252 section 5.7.2).
 use Rattle.std.specs.Prelude.{◌≡◌, ℕ, ◌+◌, ◌≤◌, ◌<◌, ◌^◌, List, [], ◌∷◌, length, Some, None}
 use Rattle.osc_model.specs.{apply_read, token_drawn}
@@ -68,7 +68,7 @@ pub record RequestFromProxy : Type 0 where
   pub server : Server
   pub request : OpenedRequest
 
--- ---- behind
+-- ---- after
 
 -- `is_sealing algorithm` is the relation of the algorithm's cipher
 module _ (is_sealing : Sealings) where

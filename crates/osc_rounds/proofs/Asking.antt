@@ -199,7 +199,7 @@ module _ (is_sealing : Sealings) (laws : RequestLaws is_sealing)
       same_Some held other
       (sym awaits.means ∙ ap (λ (r : SealedRequest). meant (standing_of old now) r.kid r.kid_context old.desk.table) (sym (whatever request is.is_request)) ∙ is.is_meant)
 
-  -- none of the reasons stands
+  -- none of the reasons applies
   not_refused : (refusal : Refusal) → IsRefused is_sealing (met old) came refusal → ⊥
   not_refused Malformed is = is what is_read
   not_refused NoContext is =

@@ -31,7 +31,7 @@ use Rattle.osc_rounds.specs.{AwaitsAgreement, AwaitsPost, BegunExchange, IsAgree
 use Rattle.osc_proxy.specs.{IsCarried}
 use Rattle.osc_rounds.proofs.Agreement.{ExchangeLaws, agreement_sendable, counts_acknowledged, hears_agreement, hears_post, post_lawful}
 
--- what waits does so under a token of 8 bytes, which was drawn behind the nonce
+-- what waits does so under a token of 8 bytes, which was drawn after the nonce
 pub drawn_size : (client begun : Client) (at : Moment) (draw : Draw) (message : Message) (what : Awaited) → IsLawfulClient begun
     → begun ≡ opened client at draw message what → 16 ≤ length draw.0
 drawn_size client begun at draw message what lawful kept =

@@ -1,4 +1,4 @@
--- A request that goes straight to the server, and its answer: what comes of it.
+-- A request that goes straight to the server, and its answer: the outcome.
 use Rattle.std.specs.Prelude.{◌≡◌, ◌≢◌, ℕ, ◌+◌, List, [], ◌∷◌, Some, None}
 use Rattle.osc_model.specs.{apply_read, IsWithinLimits}
 use Rattle.osc_model.specs.declared.node.Draw.{Draw}

@@ -1,4 +1,4 @@
--- A request that goes through a forward proxy, and its answer, delivery by delivery: what comes of it at client, proxy and
+-- A request that goes through a forward proxy, and its answer, delivery by delivery: the outcome at client, proxy and
 -- server.
 use Rattle.std.specs.Prelude.{◌≡◌, ℕ, ◌+◌, List, [], ◌∷◌, Some, None}
 use Rattle.osc_model.specs.{apply_read, sends}

@@ -1,4 +1,4 @@
--- An exchange that goes straight to the server: what comes of it.
+-- An exchange that goes straight to the server: the outcome.
 use Rattle.std.specs.Prelude.{◌≡◌, List, [], ◌∷◌, length, Some, None}
 use Rattle.osc_model.specs.{nonce_drawn, quiet}
 use Rattle.osc_model.specs.declared.node.Draw.{Draw}

@@ -1,4 +1,4 @@
--- An exchange that goes through a forward proxy, delivery by delivery: what comes of it at client, proxy and server.
+-- An exchange that goes through a forward proxy, delivery by delivery: the outcome at client, proxy and server.
 use Rattle.std.specs.Prelude.{◌≡◌, ℕ, List, [], ◌∷◌, length, Some}
 use Rattle.osc_model.specs.{nonce_drawn, sends, quiet}
 use Rattle.osc_model.specs.declared.node.Draw.{Draw}

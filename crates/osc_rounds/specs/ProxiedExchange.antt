@@ -1,4 +1,4 @@
--- An exchange that goes to the server through a forward proxy: how both ends stand before, and what comes of it, whatever the proxy is,
+-- An exchange that goes to the server through a forward proxy: how both ends stand before, and the outcome, whatever the proxy is,
 -- where the server hears what was posted as a proxy forwards it, and the client hears the answer as a proxy sends it back.
 use Rattle.std.specs.Prelude.{◌≡◌, ℕ, ◌<◌, ◌≤◌, ◌^◌, List, [], ◌∷◌, length, Some, None}
 use Rattle.osc_model.specs.Arrival.{Arrival}

@@ -1,4 +1,4 @@
--- How a client, the server and the proxy between them stand before a round that ends well: the way, which is straight or through a proxy,
+-- How a client, the server and the proxy between them are before a round that ends well: the way, which is straight or through a proxy,
 -- and what the two ends have.
 use Rattle.std.specs.Prelude.{◌≡◌, ℕ, ◌≤◌, ◌<◌, false, List, length, Some, None}
 use Rattle.osc_model.specs.declared.algorithm.Algorithm.TheVariants.{EightByteTag}

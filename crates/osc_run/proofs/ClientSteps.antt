@@ -28,7 +28,7 @@ ended_keeps notes by c k = record {
 
 -- ---- kinds
 
--- a nonce that was never drawn before stands in no seal and no context
+-- a nonce that was never drawn before is in no seal and no context
 started_keeps : Laws → (minted : List Minted) (notes : List Noted) (s : Noted) (by : ℕ) (old new : ClientState) → s.actor ≡ ByClient by → IsStarted old s.notes new → HasFreshDraws (s ∷ notes) → SealPart minted notes → OneClient notes by old → OneClient (s ∷ notes) by new
 started_keeps laws minted notes s by old new its p f seals k0 =
     let q = no_seal s by (ap (λ (r : StepNotes). r.seals) p.noted) in

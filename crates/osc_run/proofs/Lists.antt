@@ -5,7 +5,7 @@ use Rattle.std.specs.List.{AllByRecursion}
 use Rattle.osc_authz.specs.{In}
 use Rattle.osc_run.specs.{Noted, collected}
 
--- what stands in a list after one place was written
+-- what is in a list after one place was written
 pub at_set : {A : Type 0} (xs : List A) (i j : ℕ) (v w : A) → slice_get (slice_set xs i v) j ≡ Some w → ((j ≡ i) × (w ≡ v)) ⊎ ((j ≢ i) × (slice_get xs j ≡ Some w))
 at_set [] i j v w e = absurd (cc)
 at_set (x ∷ xs) zero zero v w e = inl (refl, cc)
@@ -22,7 +22,7 @@ pub all_of : {A : Type 0} (P : A → Type 0) (xs : List A) → ((x : A) → In x
 all_of P [] h = tt
 all_of P (x ∷ xs) h = (h x (inl refl), all_of P xs (λ y m. h y (inr m)))
 
--- ---- two lists, one behind the other
+-- ---- two lists, one after the other
 
 in_front : {A : Type 0} (x : A) (xs ys : List A) → In x xs → In x (xs ++ ys)
 in_front x [] ys m = absurd m

@@ -70,7 +70,7 @@ next_first {A} xs i x lt is =
     ∙ reverse-append (take i xs) (get_or xs i x ∷ [])
     ∙ ap (λ (y : A). y ∷ reverse (take i xs)) (sym is)
 
--- the next one, and those behind it
+-- the next one, and those after it
 rest_from : {A : Type 0} (xs : List A) (i : ℕ) (x : A) → i < length xs → x ≡ get_or xs i x → drop i xs ≡ x ∷ drop (suc i) xs
 rest_from [] i x lt is = absurd (omega (arith, lt))
 rest_from (y ∷ xs) zero x lt is = ap (λ z. z ∷ xs) (sym is)
@@ -81,7 +81,7 @@ next_of_rest xs i x lt is =
     let same : suc i ≡ i + 1 = omega arith in
     subst (λ (n : ℕ). drop i xs ≡ x ∷ drop n xs) same (rest_from xs i x lt is)
 
--- not this one, and none behind it
+-- not this one, and none after it
 pub none_from : {A : Type 0} (P : A → Type 0) (xs : List A) (i : ℕ) (x : A) → i < length xs → x ≡ get_or xs i x → (Has P (drop (i + 1) xs) → ⊥) → (P x → ⊥) → Has P (drop i xs) → ⊥
 none_from P xs i x lt is none here r =
     ⊎_elim

@@ -79,7 +79,7 @@ not_vouched_from_first steps i opening first none =
     let is_first : i ≡ 0 = omega (arith, first) in
     subst (λ (n : ℕ). IsVouched (reverse (drop n steps)) opening → ⊥) is_first none
 
--- none stands behind the last
+-- none follows the last
 pub not_vouched_behind : (steps : List Noted) (i : ℕ) (opening : Note) → length steps ≤ i → IsVouched (reverse (drop i steps)) opening → ⊥
 not_vouched_behind steps i opening all v = subst (λ (none : List Noted). Has (Vouching opening) (reverse none) → ⊥) (sym (drop_all i steps all)) (λ r. r.1) (by_one (reverse (drop i steps)) opening v)
 

@@ -96,7 +96,7 @@ pub record IsAnswered (old : ClientState) (notes : StepNotes) (new : ClientState
   pub before : old.outstanding ≡ Ask ask
   pub is : new ≡ record old { outstanding = Nothing }
 
--- What is open ends without an answer. The context stands as it did.
+-- What is open ends without an answer. The context is as it was.
 pub record IsEnded (old : ClientState) (notes : StepNotes) (new : ClientState) : Type 0 where
   pub result : ClientResult
   pub ending : IsEnding result

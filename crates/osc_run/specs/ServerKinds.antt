@@ -36,7 +36,7 @@ reply_note context number reply = note_of context Server number (request_nonce c
 abbrev pub standing : ServerState → Moment → Standing
 standing server now = record { at = now; tree = server.tree }
 
--- The machine's reply, and the tree after it; or, where the machine answers 2.01, 2.04 or 2.05, 5.00 for want of memory, and
+-- The machine's reply, and the tree after it; or, where the machine answers 2.01, 2.04 or 2.05, 5.00 for lack of memory, and
 -- the tree as it was.
 pub data Replies (old : Tree) (outcome : Outcome) (reply : Reply) (new : Tree) : Type 0 where
   Applied : reply ≡ outcome.reply → new ≡ outcome.tree → Replies old outcome reply new
@@ -44,7 +44,7 @@ pub data Replies (old : Tree) (outcome : Outcome) (reply : Reply) (new : Tree) :
 
 -- ---- kinds
 
--- Nothing comes of it, though something may have opened: a token whose claims are then refused, say. A request may be refused.
+-- Nothing comes from it, though something may have opened: a token whose claims are then refused, say. A request may be refused.
 -- Contexts that don't live may go.
 pub record IsServerIdle (old : ServerState) (now : Moment) (notes : StepNotes) (new : ServerState) : Type 0 where
   pub opened : Option Note

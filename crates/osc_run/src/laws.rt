@@ -65,7 +65,7 @@ pub fn contexts_are_young()
 {}
 
 /// In each of these runs in which no two grants name a common path, each client's entries are answered as if they alone followed
-/// the first tree, up to the first that is for want of memory or of room; what other holders meet doesn't matter.
+/// the first tree, up to the first that is for lack of memory or of room; what other holders meet doesn't matter.
 pub fn own_answers()
     ensures { (w : WorldState) → IsReached w → Premise w.minted w.notes → HaveOwnPaths (grants_of w.minted)
         → IsIsolated read_request (grants_of w.minted) w.first (history w.notes) }

@@ -7,7 +7,7 @@ use std::fmt;
 use std::marker::Model;
 
 /// What the holder of a token may do, and until when (RFC 9200 section 5.8, RFC 8392 section 3.1). Contracts see a record in
-/// which the parts of the input material stand beside the others.
+/// which the parts of the input material are beside the others.
 pub struct Grant {
     /// What the holder's contexts are derived from (RFC 9203 section 3.2.1), with the token's id.
     pub material: InputMaterial,

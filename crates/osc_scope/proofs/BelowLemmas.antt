@@ -49,7 +49,7 @@ cut_once (b ∷ p) (c ∷ t) P Q hp ht eP eQ e =
     let more = cut_once p t P Q (or_parts (b == 47) (has_slash p) hp).1 (or_parts (c == 47) (has_slash t) ht).1 eP eQ tails in
     ((λ i. heads i ∷ more.0 i), more.1)
 
--- a text that goes on behind that of segments has these first
+-- a text that goes on after that of segments has these first
 begins : (ps ts : List (List ℕ)) (rest : List ℕ) → list_all is_segment ps ≡ true → list_all is_segment ts ≡ true → is_end rest ≡ true
     → path_text ps ≡ path_text ts ++ rest → begins_with ps ts ≡ true
 begins ps [] rest hp ht end e = refl

@@ -1,4 +1,4 @@
--- Names of methods, one after another, and the word behind them.
+-- Names of methods, one after another, and the word after them.
 use Rattle.std.proofs.Common.{◌≡◌, ◌≢◌, ℕ, zero, suc, ◌+◌, ◌<◌, Bool, true, false, List, [], ◌∷◌, ◌++◌, length, get_or, take, drop, map, refl, sym, ap, ◌∙◌, subst, append-nil, add-zero, codes, arith, Bor, Option, Some, None, IfSome, IfNone}
 use Rattle.std.specs.List.{sum_by}
 use Rattle.std.proofs.lemmas.List.{map-append, drop_more, append_cancel_right}
@@ -100,7 +100,7 @@ sub_among_names [] (m ∷ methods) e = sub_is_no_name m (sym cc)
 sub_among_names (part ∷ parts) [] e = cc
 sub_among_names (part ∷ parts) (m ∷ methods) e = sub_among_names parts methods cc
 
--- what stands before `+SUB` and is no names
+-- what is before `+SUB` and is no names
 pub no_words_below : (words names : List ℕ) → words ≡ names ++ codes "+SUB" → ((methods : List Method) → AreApart methods → ¬ (cut 43 names ≡ map name_of methods))
     → (entry : Written) → entry.methods ≢ [] → AreApart entry.methods → ¬ (cut 43 words ≡ words_of entry)
 no_words_below words names is none entry some apart e = by entry.below (sym (sub_at_end names) ∙ ap (cut 43) (sym is) ∙ e)

@@ -1,4 +1,4 @@
--- Entries in the order of their paths: where a path stands among them, and one more.
+-- Entries in the order of their paths: where a path is among them, and one more.
 use Rattle.std.proofs.Common.{◌≡◌, ℕ, zero, suc, ◌+◌, ◌≤◌, ◌<◌, Bool, true, false, List, [], ◌∷◌, ◌++◌, length, length-append, take, drop, get_or, refl, sym, ap, ◌∙◌, subst, arith}
 use Rattle.std.specs.Cmp.{IsTotalOrder}
 use Rattle.std.specs.List.{All, insert}
@@ -23,7 +23,7 @@ less Less e = refl
 less Equal e = cc
 less Greater e = cc
 
--- ---- where a path stands
+-- ---- where a path is
 
 -- what is no later than one before the path is before it too
 before_too : (top later path : List ℕ) → is_lt (path_cmp later top) ≡ false → is_lt (path_cmp later path) ≡ true → is_lt (path_cmp top path) ≡ true

@@ -57,7 +57,7 @@ entry_is text path words mask lacks is is_path w = (
 pub needs_colon : (text : List ℕ) → Lacks 58 text → (entry : Written) → IsEntry entry → text ≡ entry_text entry → ⊥
 needs_colon text lacks entry e is = not_lacking 58 entry.path (parted_by 43 (words_of entry)) (subst (Lacks 58) is lacks)
 
--- an entry's path stands before the first `:`, and its words behind it
+-- an entry's path is before the first `:`, and its words after it
 pub entry_parts : (text path words : List ℕ) → Lacks 58 path → text ≡ path ++ 58 ∷ words → (entry : Written) → IsEntry entry → text ≡ entry_text entry
     → (path ≡ entry.path) × (cut 43 words ≡ words_of entry)
 entry_parts text path words lacks is entry e said =

@@ -26,7 +26,7 @@ parted_by byte [] = []
 parted_by byte (part ∷ []) = part
 parted_by byte (part ∷ next ∷ parts) = part ++ byte ∷ parted_by byte (next ∷ parts)
 
--- the word that stands last where the paths below count, too
+-- the word that is last where the paths below count, too
 abbrev pub below_word : Bool → List (List ℕ)
 below_word true = codes "SUB" ∷ []
 below_word false = []

@@ -8,7 +8,7 @@ ghost use Rattle.osc_scope.specs.Inner.Kept.{AreInOrder, IsPlaceOf, is_before, p
 use std::alloc::{AllocError, Global};
 use std::marker::Model;
 
-/// Where the text of an entry's path stands among all texts, and its set of methods.
+/// Where the text of an entry's path is among all texts, and its set of methods.
 #[derive(Clone, Copy, Debug)]
 struct Place {
     start: usize,
@@ -82,7 +82,7 @@ impl Entries {
         self.places.len()
     }
 
-    /// The place behind the entries whose path is before this one, where all are in order; found by bisection.
+    /// The place after the entries whose path is before this one, where all are in order; found by bisection.
     pub(crate) fn place_of(&self, path: &[u8]) -> usize
         requires { AreInOrder self.now }
         ensures { IsPlaceOf path.now self.now result }
@@ -123,7 +123,7 @@ impl Entries {
     }
 }
 
-/// The text that stands at this place; none of it lies past the end.
+/// The text that is at this place; none of it lies past the end.
 fn text_at<'a>(texts: &'a [u8], place: &Place) -> &'a [u8]
     ensures { result.now ≡ (pair_at texts.now place.now).0 }
 {
@@ -132,7 +132,7 @@ fn text_at<'a>(texts: &'a [u8], place: &Place) -> &'a [u8]
     &text[..size.min(text.len())]
 }
 
-/// Whether the text that stands there is before this path.
+/// Whether the text that is there is before this path.
 fn is_before_at(texts: &[u8], place: &Place, path: &[u8]) -> bool
     ensures { result ≡ is_before path.now (pair_at texts.now place.now) }
 {

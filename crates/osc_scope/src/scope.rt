@@ -18,10 +18,10 @@ use std::marker::Model;
 /// Which methods a holder may use on which paths, as contracts see it: a set of permissions, each of a method on a path, or on that
 /// path and each path below it. It is kept as entries of a path and a set of methods (RFC 9237 section 3), in two blocks of memory.
 /// Those that were allowed one by one are in the order of their paths, so that a look-up finds them by bisection, in logarithmic time;
-/// those that were read stand as they came, and a look-up goes over them once. It takes no memory.
+/// those that were read are as they came, and a look-up goes over them once. It takes no memory.
 #[derive(Debug, Drop)]
 pub struct Scope {
-    // Each with some method; a path may stand in several.
+    // Each with some method; a path may be in several.
     entries: Entries,
     // Whether one of them counts on the paths below its own, too.
     goes_below: bool,

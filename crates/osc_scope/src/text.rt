@@ -22,7 +22,7 @@ use std::str;
 ///
 /// # Errors
 ///
-/// `BadScope` where the text says none; all stays as it was then, and for want of memory.
+/// `BadScope` where the text says none; all stays as it was then, and for lack of memory.
 pub fn text_to_cbor(alloc: Global, text: &[u8], out: &mut Vec<u8>) -> Result<(), ScopeError>
     // What is written is what the text says ..
     ensures ok { OnOk result ((entries : List Written) × IsScopeText text.now entries
@@ -67,7 +67,7 @@ fn entry(alloc: Global, text: &[u8]) -> Result<Item, ScopeError>
     Ok(Item::Array(vec![in alloc; Item::Text(path), Item::Unsigned(mask)]?))
 }
 
-/// What stands before the first `:`, and what stands behind it.
+/// What is before the first `:`, and what follows it.
 fn cut(text: &[u8]) -> Option<(&[u8], &[u8])>
     ensures { MatchOption result
         (All (λ byte. byte ≢ 58) text.now)

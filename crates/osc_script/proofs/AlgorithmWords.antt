@@ -45,7 +45,7 @@ pub algorithm_found : (words before : List (List ℕ)) (alg : Algorithm) → (be
 algorithm_found words before alg is =
     subst (λ (found : List (List ℕ) × Algorithm). (last : List (List ℕ)) × (words ≡ found.0 ++ last) × SpellsAlgorithm last found.1) (sym is) (spelled words)
 
--- the word is taken from behind any others
+-- the word is taken from after any others
 pub algorithm_last : (words : List (List ℕ)) → algorithm_in (words ++ codes "alg=30" ∷ []) ≡ (words, SixteenByteTag)
 unfolding algorithm_in
 algorithm_last [] = refl

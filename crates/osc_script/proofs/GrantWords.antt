@@ -119,7 +119,7 @@ no_algorithm words (Some n) (Some m) s =
     let is : words ≡ (codes "nbf=" ++ s.3.0) ∷ (codes "exp=" ++ s.4.0) ∷ [] = s.2 ∙ rw (s.3.1, s.4.1) refl in
     rw is refl
 
--- what is said behind dates
+-- what is said after dates
 algorithm_again : (words last : List (List ℕ)) (not_before expires : Option ℕ) (alg : Algorithm) → SpellDates words not_before expires → SpellsAlgorithm last alg → algorithm_in (words ++ last) ≡ (words, alg)
 algorithm_again words last not_before expires EightByteTag s a =
     ap (λ (ws : List (List ℕ)). algorithm_in (words ++ ws)) a ∙ ap algorithm_in (append-nil words) ∙ no_algorithm words not_before expires s

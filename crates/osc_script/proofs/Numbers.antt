@@ -32,7 +32,7 @@ number_again word n s =
     let small : nat_lt (digits_value 10 word) (2 ^ 64) ≡ true = lt-ltb (digits_value 10 word) (2 ^ 64) (rw s.value s.fits) in
     rw (some, digits, small) (ap Some s.value)
 
--- what std's parse reads, where no sign stands first
+-- what std's parse reads, where no sign is first
 pub number_parsed : {E : Type 0} (word : List ℕ) (r : Result ℕ E) → ParsesUnsigned 64 10 word r → get_or word 0 0 ≢ 43 → result_ok r ≡ number_in word
 number_parsed {E} word (Ok n) h plain =
     let p = parse_plain digits_model {E = E} 64 word (Ok n) h plain in

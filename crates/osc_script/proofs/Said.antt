@@ -351,7 +351,7 @@ one_line text line other s t =
       ]
     ]
 
--- what is found behind a first word that isn't `grant`
+-- what is found after a first word that isn't `grant`
 pub default_reads : (words args : List (Bor (List ℕ))) (d : Bor (List ℕ)) (found : Option Line) → 1 ≤ length words → args ≡ drop 1 words → ((get_or words 0 d).now ≡ codes "grant" → ⊥)
     → Gives (line_in (get_or words 0 d).now (map (λ arg. arg.now) args)) found → Reads (Say (map (λ word. word.now) words)) found
 default_reads [] args d found le a h g = absurd (omega arith)

@@ -1,4 +1,4 @@
--- How a line should be, by its first word: what is said of one that stands for nothing.
+-- How a line should be, by its first word: what is said of one that means nothing.
 use Rattle.std.specs.Prelude.{ℕ, List, codes, if◌then◌else◌}
 use Rattle.std.specs.Str.{bytes_eq}
 

@@ -4,7 +4,7 @@ use Rattle.osc_model.specs.declared.algorithm.Algorithm.{Algorithm}
 use Rattle.osc_token.specs.declared.claims.Claims.{Claims}
 use Rattle.osc_token.specs.declared.claims.InputMaterial.{InputMaterial}
 
--- the number as the id, and behind 15 zero bytes as the secret
+-- the number as the id, and after 15 zero bytes as the secret
 abbrev pub material_of : ℕ → Algorithm → InputMaterial
 material_of number alg = record { id = number ∷ []; secret = replicate 15 0 ++ number ∷ []; salt = []; id_context = None; alg = alg }
 

@@ -1,4 +1,4 @@
--- What one line of a script says, and where it may stand.
+-- What one line of a script says, and where it may be.
 use Rattle.std.specs.Prelude.{◌≡◌, ◌≢◌, ℕ, ◌<◌, ◌≤◌, ◌⊎◌, ◌==◌, Bool, true, false, List, [], ◌∷◌, ◌++◌, length, Some, None, codes, count_by}
 use Rattle.std.specs.List.{list_any}
 use Rattle.std.specs.Str.{IsUtf8, bytes_eq}
@@ -49,7 +49,7 @@ Say words (Put path resource) = (format bytes : List ℕ) × (words ≡ codes "p
     × SpellsFormat format resource.format × SpellsBytes bytes resource.payload × (length resource.payload ≤ longest_payload)
 -- open PATH: a GET on the path needs no protection
 Say words (Open path) = (words ≡ codes "open" ∷ path ∷ []) × IsPath path
--- revoked PATH: a resource that stands below the path revokes a token
+-- revoked PATH: a resource that is below the path revokes a token
 Say words (Revoked path) = (words ≡ codes "revoked" ∷ path ∷ []) × IsPath path × (length (segments_of path) ≤ most_revocation_segments)
 -- grant CLIENT SCOPE [nbf=N] [exp=N] [alg=30]: it has a token with this scope, these dates and this algorithm, whose claims can be sealed
 Say words (Grant client scope not_before expires alg) = (text : List ℕ) × (begins ends last : List (List ℕ)) × (words ≡ codes "grant" ∷ client_name client ∷ text ∷ (begins ++ ends ++ last))
@@ -73,7 +73,7 @@ Say words (Exchange client) = words ≡ codes "exchange" ∷ client_name client 
 Say words (Ask client request) = (rest : List (List ℕ)) × (words ≡ codes "ask" ∷ client_name client ∷ rest) × SpellRequest rest request
 -- tick NODE: it does what is due
 Say words (Tick worker) = (words ≡ codes "tick" ∷ name_of worker ∷ []) × (worker ≢ node.Stranger)
--- restart NODE: it starts anew
+-- restart NODE: it starts again
 Say words (Restart worker) = (words ≡ codes "restart" ∷ name_of worker ∷ []) × (worker ≢ node.Stranger)
 -- deliver K: the datagram reaches its addressee
 Say words (Deliver datagram) = (number : List ℕ) × (words ≡ codes "deliver" ∷ number ∷ []) × SpellsNumber number datagram
@@ -94,7 +94,7 @@ Say words Quiet = words ≡ codes "quiet" ∷ []
 abbrev pub Says : List ℕ → Line → Type 0
 Says text line = IsUtf8 text × ((IsSkipped text × (line ≡ Skipped)) ⊎ (¬ IsSkipped text × Say (words_of text) line))
 
--- ---- where a line may stand, behind those above it, the first of them first
+-- ---- where a line may be, after those above it, the first of them first
 
 -- all lines but those that set up or prepare
 abbrev pub is_event : Line → Bool
@@ -162,7 +162,7 @@ IsKnown above (node.Client client) = IsGranted above client
 IsKnown above (node.Proxy proxy) = IsMade above proxy
 IsKnown above node.Stranger = Unit {0}
 
--- Set-up lines stand before the first event, a path is put once, there is one revocation path at most, a client is granted once and
+-- Set-up lines are before the first event, a path is put once, there is one revocation path at most, a client is granted once and
 -- before other lines name it, it is sent by a proxy once, a proxy is made before events name it, and the moment doesn't fall.
 abbrev pub MayFollow : List Line → Line → Type 0
 MayFollow above (Put path resource) = (list_any is_event above ≡ false) × (list_any (puts path) above ≡ false) × (count_by is_put above < most_resources)

@@ -4,7 +4,7 @@ use Rattle.std.specs.List.{slice_split}
 use Rattle.osc_script.specs.Line.{StandsFor}
 use Rattle.osc_script.specs.declared.line.Line.{Line}
 
--- the lines of what stands between line feeds: nothing behind the last one is no line
+-- the lines of what is between line feeds: nothing after the last one is no line
 abbrev pub without_empty_last : List (List ℕ) → List (List ℕ)
 without_empty_last [] = []
 without_empty_last ([] ∷ []) = []
@@ -25,7 +25,7 @@ StandFor above (text ∷ texts) (line ∷ lines) = StandsFor above text line × 
 abbrev pub IsScript : List ℕ → List Line → Type 0
 IsScript text lines = StandFor [] (lines_of text) lines
 
--- the text n of these, counted from 1, is the first that stands for nothing
+-- the text n of these, counted from 1, is the first that applies for nothing
 pub record IsFirstBadIn (texts : List (List ℕ)) (n : ℕ) : Type 0 where
   pub before : List (List ℕ)
   pub bad : List ℕ

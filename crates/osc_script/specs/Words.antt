@@ -42,7 +42,7 @@ abbrev pub SpellsBytes : List ℕ → List ℕ → Type 0
 SpellsBytes word bytes = ((word ≡ codes "-") × (bytes ≡ [])) ⊎ SpellParts (slice_split (λ b. b == 43) word) bytes
 
 -- How many bytes of a datagram or a payload are kept: a datagram has at most 1,152 of them (RFC 7252 section 4.6), so one more says that it is too
--- long, and nothing that a script does depends on what stands behind.
+-- long, and nothing that a script does depends on what follows.
 abbrev pub most_kept : ℕ
 most_kept = 1153
 

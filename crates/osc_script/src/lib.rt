@@ -1,4 +1,4 @@
-//! Scripts of the simulation: what each line says, and where it may stand.
+//! Scripts of the simulation: what each line says, and where it may be.
 #![tactic(auto)]
 
 mod client_name;

@@ -52,7 +52,7 @@ impl Changes {
 /// and a count: `68+69*2` is `hii`. METHOD is `GET`, `POST`, `PUT` or `DELETE`. CLIENT is `c1` to `c9`, PROXY `p1` to `p9`; NODE,
 /// FROM and TO are `s`, a client, a proxy, or `x`. J and K count the datagrams from 1, as they are sent.
 ///
-/// Of a datagram's bytes and of a payload's the first 1,153 stand here: with so many it is too long, whatever comes after them.
+/// Of a datagram's bytes and of a payload's the first 1,153 are here: with so many it is too long, whatever comes after them.
 #[derive(Debug, Drop)]
 pub enum Line {
     /// Nothing: the line is empty, or begins with `#`.
@@ -66,14 +66,14 @@ pub enum Line {
     Open {
         path: Path,
     },
-    /// `revoked PATH`: a token is revoked where a resource stands at this path with the digits of the token's id after it. The path has at
+    /// `revoked PATH`: a token is revoked where a resource is at this path with the digits of the token's id after it. The path has at
     /// most 4 segments.
     Revoked {
         path: Path,
     },
     /// `grant CLIENT SCOPE [nbf=N] [exp=N] [alg=30]`: the client has a token of this scope, such as `/log:GET+POST,/t:GET`, which counts
     /// from the second `nbf` on and from the second `exp` on no more, and whose contexts have the algorithm AES-CCM-16-128-128, or
-    /// without `alg=30` AES-CCM-16-64-128. The scope stands here as its bytes.
+    /// without `alg=30` AES-CCM-16-64-128. The scope is here as its bytes.
     Grant {
         client: ClientName,
         scope: Bytes,
@@ -120,7 +120,7 @@ pub enum Line {
     Tick {
         node: Node,
     },
-    /// `restart NODE`: a node, which isn't `x`, starts anew.
+    /// `restart NODE`: a node, which isn't `x`, starts again.
     Restart {
         node: Node,
     },

@@ -1,4 +1,4 @@
-//! Where a line may stand.
+//! Where a line may be.
 
 ghost use Rattle.std.specs.Prelude.{◌≡◌, ◌<◌, ◌+◌, ◌||◌, ◌&&◌, ◌↔◌, ◌++◌, ◌∷◌, [], cond, false, IsTrue, IfSome, IfNone, slice_index_or, count_by};
 ghost use Rattle.std.specs.List.{list_any};
@@ -47,7 +47,7 @@ impl Place {
         routed: [false; 10],
     };
 
-    /// The place behind this line, if it may stand here, behind the lines above it. A line that puts, of which a script has
+    /// The place after this line, if it may be here, after the lines above it. A line that puts, of which a script has
     /// at most 1024, goes over those lines; no other does.
     pub(crate) fn behind(self, above: &[Line], line: &Line) -> Option<Place>
         requires { IsPlace above.now self }
@@ -60,7 +60,7 @@ impl Place {
         Some(self.with(above, line))
     }
 
-    // Whether the line may stand here.
+    // Whether the line may be here.
     fn lets(self, above: &[Line], line: &Line) -> bool
         requires { IsPlace above.now self }
         ensures { IsTrue result ↔ MayFollow above.now line.now }
@@ -148,7 +148,7 @@ impl Place {
         }
     }
 
-    // The place behind a line that may stand here.
+    // The place after a line that may be here.
     fn with(self, above: &[Line], line: &Line) -> Place
         requires is { IsPlace above.now self }
         requires may { MayFollow above.now line.now }
@@ -235,7 +235,7 @@ fn is_revocation(line: &Line) -> bool
     matches!(line, Line::Revoked { .. })
 }
 
-// The moment behind the line.
+// The moment after the line.
 fn moment_behind(moment: Moment, line: &Line) -> Moment
     ensures { result.ms ≡ moment_behind moment.ms line.now }
 {

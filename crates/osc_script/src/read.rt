@@ -16,7 +16,7 @@ use std::alloc::{AllocError, AllocFailed, Global};
 /// Why a text is no script.
 #[derive(Clone, Copy, Debug, PartialEq, Eq)]
 pub enum ScriptError {
-    /// The line of this number, counted from 1, is the first that stands for nothing.
+    /// The line of this number, counted from 1, is the first that applies for nothing.
     BadLine(u64),
     OutOfMemory,
 }
@@ -40,9 +40,9 @@ impl<T: Drop> From<AllocFailed<T>> for ScriptError {
 /// The lines that the text says, one for each of its lines. Lines end with a line feed, which the last may lack,
 /// and are words parted by one space each.
 ///
-/// Set-up lines (`put`, `open`, `revoked`, `grant`, `proxy`, `via`) stand before the first event, which is any line but those and `at`, `draw`,
+/// Set-up lines (`put`, `open`, `revoked`, `grant`, `proxy`, `via`) are before the first event, which is any line but those and `at`, `draw`,
 /// `drop` and `skip`. A path is put once, and at most 1024 are. At most one line says the revocation path. A client is granted once, and a
-/// line that names it stands after its grant; at most one says by which proxy it sends. An event that names a proxy stands after a line
+/// line that names it is after its grant; at most one says by which proxy it sends. An event that names a proxy is after a line
 /// that makes it. The moment doesn't fall.
 ///
 /// `OutOfMemory` says nothing of the text.
@@ -71,7 +71,7 @@ fn read_lines(alloc: Global, texts: &[&[u8]]) -> Result<Vec<Line>, ScriptError>
     Ok(lines)
 }
 
-// Behind a last line feed there is no line.
+// After a last line feed there is no line.
 fn without_empty_last<'a, 'b>(parts: &'b [&'a [u8]]) -> &'b [&'a [u8]]
     ensures { map (λ part. part.now) result.now ≡ without_empty_last (map (λ part. part.now) parts.now) }
 {
@@ -81,7 +81,7 @@ fn without_empty_last<'a, 'b>(parts: &'b [&'a [u8]]) -> &'b [&'a [u8]]
     }
 }
 
-// What the text stands for, behind the lines above it, whose place goes on where it stands for something.
+// What the text stands for, after the lines above it, whose place goes on where it stands for something.
 fn next_line(
     alloc: Global,
     place: &mut Place,

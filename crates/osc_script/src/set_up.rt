@@ -1,4 +1,4 @@
-//! Lines that stand before the first event.
+//! Lines that are before the first event.
 
 ghost use Rattle.std.specs.Prelude.{◌≡◌, ◌≤◌, ◌==◌, ◌↔◌, ◌∷◌, codes, length, IfOk, IsTrue, map, Some};
 ghost use Rattle.osc_cbor.specs.{spelling};

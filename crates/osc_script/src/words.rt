@@ -189,7 +189,7 @@ fn one_date(begins: Option<u64>, ends: Option<u64>) -> Option<(Option<u64>, Opti
     }
 }
 
-// The number behind this name.
+// The number after this name.
 #[tactic(auto, unfolding(crate::specs::Inner::Reading::date_in))]
 fn date(name: &[u8], word: &[u8]) -> Option<u64>
     ensures { result ≡ date_in name.now word.now }

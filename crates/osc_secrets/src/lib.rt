@@ -1,5 +1,5 @@
 //! What `bench/secrets` calls with keys and texts that valgrind holds for undefined: each function does one thing under a key that
-//! its caller gives, so no compiler sees the bytes beforehand.
+//! its caller gives, so no compiler sees the bytes sooner.
 #![tactic(auto)]
 
 use osc_aes::Aes128;

@@ -74,7 +74,7 @@ refused_for why reason = record quiet { refused = Some (record { code = why; rea
 abbrev pub Refuses : State → Arrival Message → Code → Step → State → Type 0
 Refuses old came why step new = Sends old came (reply_to old.endpoint came (bare why)) (refused_for why None) step new
 
--- a GET on an open path is answered as the machine answers it under the open scope, or for want of memory with 5.00
+-- a GET on an open path is answered as the machine answers it under the open scope, or for lack of memory with 5.00
 pub record AnswersGet (old : State) (came : Arrival Message) (request : Request) (step : Step) (new : State) : Type 0 where
   pub reply : Reply
   pub may : MayReply (apply old.tree old.open_scope request) reply
@@ -180,7 +180,7 @@ module _ (is_sealing : Sealings) where
   IsSealed held request text =
       is_sealing (algorithm_of held.name) (key_of held.name Client) (request_nonce held.name request.number) (aad_of held.name request.number) text request.sealed
 
-  -- why a protected request isn't served: the first of these that stands (RFC 8613 section 8.2)
+  -- why a protected request isn't served: the first of these that applies (RFC 8613 section 8.2)
   abbrev pub IsRefused : Met → Arrival Message → Refusal → Type 0
   IsRefused server came Malformed = (request : SealedRequest) → ¬ IsRequest came.what request
   IsRefused server came NoContext =

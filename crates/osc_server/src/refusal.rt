@@ -4,7 +4,7 @@ ghost use Rattle.osc_server.specs.Table.{refusal_age, refusal_code, refusal_numb
 
 use osc_model::{Code, RefusedRequest, StepNotes, refusals};
 
-/// Why a protected request isn't served: the first of these that stands.
+/// Why a protected request isn't served: the first of these that applies.
 #[derive(Clone, Copy, Debug, PartialEq, Eq)]
 pub enum Refusal {
     /// Its OSCORE option or its payload is malformed.

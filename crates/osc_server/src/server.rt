@@ -454,7 +454,7 @@ fn drawn(draw: &Draw)
     let _ = &draw.0;
 }
 
-/// The reply to a GET on an open path: 5.00 for want of memory.
+/// The reply to a GET on an open path: 5.00 for lack of memory.
 fn open_reply(alloc: Global, tree: &mut Tree, open_scope: &Scope, request: &Request) -> Reply
     requires { request.now.code.0 ≡ 1 }
     ensures reply { MayReply (apply tree.old open_scope.now request.now) result }

@@ -124,7 +124,7 @@ fn read_length(tree: &Tree, path: &Path) -> usize
     }
 }
 
-/// What an opened request does to the tree, and its reply: 5.00 for want of memory.
+/// What an opened request does to the tree, and its reply: 5.00 for lack of memory.
 fn applied(alloc: Global, tree: &mut Tree, scope: &Scope, read: &Result<Request, Code>) -> Reply
     requires { IfErr read.now (λ code. 0 < code.0) }
     ensures applied { AppliesTo tree.old (apply_read tree.old scope.now read.now) result tree.new }

@@ -39,7 +39,7 @@ too_long path resource row reals none is never = elim (cases_lt (10 ^ 9) (54 + l
   | inr short ↦ absurd (never (rw (none, is) (storable path resource short)))
 ]
 
--- the cause of a call is one of all that it stands in
+-- the cause of a call is one of all that it is in
 pub excused : (v : View) (a b c d : ℕ) (Long Longer : Type 0) (e : StoreError) → v.is_broken ≡ false → a ≤ b → c ≤ d → (Long → Longer)
     → HasCause v (MoreFaults b c) Long e → Excuses (MoreFaults a d) Longer e
 excused v a b c d Long Longer OutOfMemory sound p q more h = tt

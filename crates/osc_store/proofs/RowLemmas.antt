@@ -25,7 +25,7 @@ use Rattle.osc_store.specs.{key_of, row_of, format_value, rows_of}
 abbrev pub Entry : Type 0
 Entry = List ℕ × Resource
 
--- the columns behind the first
+-- the columns after the first
 abbrev rest_of : Entry → Row
 rest_of e = format_value e.1.format ∷ Blob e.1.payload ∷ []
 
@@ -114,7 +114,7 @@ module _ (total : IsTotalOrder path_cmp) (exact : IsAntisymmetric path_cmp) wher
         | Greater ↦ λ p g. ap (λ o. cond (not (is_eq o)) (row_of e ∷ less) less) (turned e k v ∙ ap (λ o. ordering_then (ordering_reverse o) (rest_cmp e (k, v))) p) ∙ ap (λ rs. row_of e ∷ rs) (removed k v es rising.1 g)
       ] refl h
 
-  -- a row in order stands at the path's place, if the path has something
+  -- a row in order is at the path's place, if the path has something
   abbrev text_of : Value → List ℕ
   text_of (Text t) = t
   text_of _ = []
@@ -256,7 +256,7 @@ module _ (total : IsTotalOrder path_cmp) (exact : IsAntisymmetric path_cmp) wher
 
   -- ---- rows in order, read one after another
 
-  -- an entry above all others stands last
+  -- an entry above all others is last
   last_put : (k : List ℕ) (v : Resource) (es : List Entry) → AllByRecursion (λ e. entry_cmp plain (row_of e) (row_of (k, v)) ≡ Less) es → find path_cmp k es ≡ None
       → put path_cmp k v es ≡ es ++ (k, v) ∷ []
   last_put k v [] below h = refl
@@ -271,7 +271,7 @@ module _ (total : IsTotalOrder path_cmp) (exact : IsAntisymmetric path_cmp) wher
   mapped [] x = refl
   mapped (e ∷ es) x = ap (λ rs. row_of e ∷ rs) (mapped es x)
 
-  -- in a list in order, what stands before a row is below it
+  -- in a list in order, what is before a row is below it
   before : (es : List Entry) (x : Entry) (left : List Row) → IsIndex plain (map row_of es ++ row_of x ∷ left) → AllByRecursion (λ e. entry_cmp plain (row_of e) (row_of x) ≡ Less) es
   before [] x left rises = tt
   before (e ∷ es) x left rises = (first (map row_of es) rises.0, before es x left rises.1)

@@ -11,7 +11,7 @@ use Rattle.osc_cose.specs.declared.encrypt0.Encrypt0.{Encrypt0}
 use Rattle.osc_token.specs.declared.claims.Claims.{Claims}
 use Rattle.osc_token.specs.declared.claims.InputMaterial.{InputMaterial}
 
--- without the tag 61 of a CWT, which may stand round the tag 16 of the object (RFC 8392 section 6)
+-- without the tag 61 of a CWT, which may be round the tag 16 of the object (RFC 8392 section 6)
 abbrev pub without_cwt_tag : DataItem → DataItem
 without_cwt_tag (tag n (tag m d)) = if n == 61 then (if m == 16 then tag m d else tag n (tag m d)) else tag n (tag m d)
 without_cwt_tag d = d

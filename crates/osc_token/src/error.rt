@@ -8,7 +8,7 @@ use osc_model::refusals;
 use std::alloc::AllocError;
 use thiserror::Error;
 
-/// Why a token is refused: the first of these that stands, in this order, but for `BadClaims`, which answers in the place
+/// Why a token is refused: the first of these that applies, in this order, but for `BadClaims`, which answers in the place
 /// of the claims and in that of their input material. Want of memory is no refusal: calls say it beside these.
 #[derive(Clone, Copy, Debug, PartialEq, Eq, Error)]
 pub enum TokenError {

@@ -33,7 +33,7 @@ pub(crate) struct Dates {
 ///
 /// The first check that fails, in this order: the text is a map, whose dates are numbers (`BadClaims`); its time has begun
 /// (`NotYet`) and isn't over (`Expired`); it is for the audience (`Audience`); it has input material (`BadClaims`) and a
-/// scope (`BadScope`). The outer error is want of memory, and comes only where the text is one whole item of CBOR.
+/// scope (`BadScope`). The outer error is lack of memory, and comes only where the text is one whole item of CBOR.
 pub fn judge(
     alloc: Global,
     text: &[u8],
@@ -202,7 +202,7 @@ fn is_for(claims: &ClaimsRef<'_>, audience: &Audience) -> bool
     }
 }
 
-/// The scope, where one was read. An error is want of memory, which is the answer there alone.
+/// The scope, where one was read. An error is lack of memory, which is the answer there alone.
 fn scope_found(read: Result<Scope, ScopeError>) -> Result<Option<Scope>, AllocError>
     ensures answer { IfOk result (λ scope. scope ≡ answer_of read) }
     ensures memory { IsErr result ↔ (read ≡ Err ScopeError.Memory) }

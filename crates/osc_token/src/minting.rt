@@ -59,7 +59,7 @@ pub fn mint<A: Aead>(
     Ok(write0(alloc, object, out)?)
 }
 
-/// The object of a text that isn't too long, so that only memory can be wanting.
+/// The object of a text that isn't too long, so that only memory can run out.
 fn seal<A: Aead>(
     alloc: Global,
     key: &[u8; 16],

@@ -23,7 +23,7 @@ const ENCRYPT0_TAG: u64 = 16;
 /// is the text of the claims; none where the token isn't genuine. A token is a COSE_Encrypt0 object, with or without the
 /// tag 16, and that with or without the tag 61 round it, whose protected header has the algorithm AES-CCM-16-64-128 and
 /// whose IV has 13 bytes, and whose ciphertext is the sealing of a text. Other header parameters are ignored. An error is
-/// want of memory, and comes only where the bytes are one whole item of CBOR.
+/// lack of memory, and comes only where the bytes are one whole item of CBOR.
 pub fn open_token<A: Aead>(
     alloc: Global,
     bytes: &[u8],
@@ -57,7 +57,7 @@ fn object_in(alloc: Global, bytes: &[u8]) -> Result<Option<Encrypt0>, AllocError
     }
 }
 
-/// The object, where one was found. An error is want of memory, which is the answer there alone.
+/// The object, where one was found. An error is lack of memory, which is the answer there alone.
 fn object_found(found: Result<Encrypt0, ParseError>) -> Result<Option<Encrypt0>, AllocError>
     ensures answer { IfOk result (λ object. object ≡ answer_of found) }
     ensures memory { IsErr result ↔ (found ≡ Err ParseError.Memory) }
@@ -69,7 +69,7 @@ fn object_found(found: Result<Encrypt0, ParseError>) -> Result<Option<Encrypt0>,
     }
 }
 
-/// The item without the tag of a CWT, where that stands round the tag of COSE_Encrypt0.
+/// The item without the tag of a CWT, where that is round the tag of COSE_Encrypt0.
 fn without_cwt_tag<'a>(item: &ItemRef<'a>) -> ItemRef<'a>
     ensures { result ≡ unwrapped item.now }
 {
@@ -138,7 +138,7 @@ fn open_text<A: Aead>(
     text_opened(open0::<A>(alloc, object, key, iv, b""))
 }
 
-/// The text, where one was opened. An error is want of memory, which is the answer there alone.
+/// The text, where one was opened. An error is lack of memory, which is the answer there alone.
 fn text_opened(opened: Result<Bytes, OpenError>) -> Result<Option<Bytes>, AllocError>
     ensures answer { IfOk result (λ text. text ≡ answer_of opened) }
     ensures memory { IsErr result ↔ (opened ≡ Err OpenError.Memory) }

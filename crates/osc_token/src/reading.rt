@@ -19,7 +19,7 @@ use std::alloc::{AllocError, Global};
 ///
 /// # Errors
 ///
-/// `NotGenuine` where the token doesn't open, else as [`judge`] says. The outer error is want of memory, and comes only where the
+/// `NotGenuine` where the token doesn't open, else as [`judge`] says. The outer error is lack of memory, and comes only where the
 /// bytes are one whole item of CBOR.
 pub fn read<A: Aead>(
     alloc: Global,

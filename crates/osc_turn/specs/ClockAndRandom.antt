@@ -11,7 +11,7 @@ use Rattle.osc_model.specs.declared.node.Moment.{Moment}
 abbrev pub not_before : ℕ → ℕ → ℕ
 not_before last reading = if nat_lt (reading / 1000000) (2 ^ 63) && nat_le last (reading / 1000000) then reading / 1000000 else last
 
--- one reading more, behind those that were told, where contracts see any
+-- one reading more, after those that were told, where contracts see any
 abbrev pub one_more : Option (List ℕ) → ℕ → Option (List ℕ)
 one_more told reading = option_map (λ readings. readings ++ reading ∷ []) told
 

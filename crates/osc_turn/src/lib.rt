@@ -1,5 +1,5 @@
 //! Turns of a running node: a port takes what came, the node makes one step of it, and the port sends what the step sends. No socket is known
-//! here: what a port is stands in its contract. The moment and the draw of each turn are handed in, and `ClockAndRandom` has both, by a clock and a generator.
+//! here: its contract says what a port is. The moment and the draw of each turn are handed in, and `ClockAndRandom` has both, by a clock and a generator.
 #![tactic(auto)]
 
 mod clock_and_random;

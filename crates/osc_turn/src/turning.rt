@@ -17,7 +17,7 @@ pub struct Turned {
     pub received: bool,
     /// The step.
     pub step: Step,
-    /// Of the sends that failed, the first one's fault. Their datagrams are lost; the step stands, and all others were sent.
+    /// Of the sends that failed, the first one's fault. Their datagrams are lost; the step is kept, and all others were sent.
     pub fault: Option<PortFault>,
 }
 

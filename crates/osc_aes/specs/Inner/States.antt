@@ -5,7 +5,7 @@ use Rattle.std.specs.List.{range_with_len}
 use Rattle.osc_aes.specs.Cipher.{sub_bytes, shift_rows, mix_columns}
 use Rattle.osc_aes.specs.Inner.Tower.{byte_of}
 
--- the form at place i of a state that is turned by n stands at place (4 n + 1) i
+-- the form at place i of a state that is turned by n is at place (4 n + 1) i
 unfoldable pub turned : ℕ → List ℕ → List ℕ
 turned n v = map (λ i. slice_index v ((4 * n + 1) * i % 16)) (range_with_len 0 16)
 

@@ -36,7 +36,7 @@ byte_of x = sum_of BYTE_LOWER BYTE_UPPER (lower x) (upper x)
 abbrev pub both : ℕ → ℕ
 both x = bit_xor (upper x) (lower x)
 
--- where the two inverses stand that the places are made of
+-- where the two inverses are that the places are made of
 abbrev pub one : ℕ → ℕ
 one x = sum_of INVERSES QUOTIENTS (upper x) (lower x)
 

@@ -1,4 +1,4 @@
--- Where each recipient ID stands in a table: for each byte, which stands for the ID that is this one byte, the place of the token id that has
+-- Where each recipient ID is in a table: for each byte, which stands for the ID that is this one byte, the place of the token id that has
 -- the context, or 255. No public contract rests on this.
 use Rattle.std.specs.Prelude.{◌≡◌, ℕ, ◌<◌, ◌==◌, if◌then◌else◌, List, [], ◌∷◌, Option, Some, None, position, slice_index_or}
 use Rattle.osc_authz.specs.Table.{holds_id}

@@ -1,4 +1,4 @@
--- What a pass over the bytes notes: spellings with the shortest heads, and where the keys of maps stand among them. No public
+-- What a pass over the bytes notes: spellings with the shortest heads, and where the keys of maps are among them. No public
 -- contract rests on this.
 use Rattle.std.specs.Prelude.{◌≡◌, ℕ, ◌+◌, ◌*◌, ◌≤◌, List, [], ◌∷◌, ◌++◌, length, get_or, take, drop, map, count_by, Result, Ok, Err}
 use Rattle.std.specs.Str.{bytes_eq}
@@ -19,7 +19,7 @@ abbrev pub Noted : {X : Type 0} → List ℕ → List ℕ → List ℕ → Resul
 Noted old bytes new (Ok x) = new ≡ old ++ bytes
 Noted old bytes new (Err e) = (e ≡ Unsure) × (new ≡ old)
 
--- a key was noted that stands from an index to the end of what is spelled
+-- a key was noted that is from an index to the end of what is spelled
 abbrev pub KeyNoted : {X : Type 0} → ℕ → List ℕ → List Key → List Key → Result X Stop → Type 0
 KeyNoted start spelled old new (Ok x) = (key : Key) × (new ≡ old ++ key ∷ []) × (key.start ≡ start) × (key.end ≡ length spelled)
 KeyNoted start spelled old new (Err e) = (e ≡ Unsure) × (new ≡ old)

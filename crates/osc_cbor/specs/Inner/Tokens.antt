@@ -1,4 +1,4 @@
--- An item as its heads, each with the string behind it: how items are passed over and compared in their bytes. No public
+-- An item as its heads, each with the string after it: how items are passed over and compared in their bytes. No public
 -- contract rests on this.
 use Rattle.std.specs.Prelude.{◌≡◌, ℕ, ◌*◌, ◌/◌, ◌%◌, ◌==◌, ◌||◌, if◌then◌else◌, List, [], ◌∷◌, ◌++◌, length, Result, Ok, Err}
 use Rattle.osc_cbor.specs.Data.{DataItem, unsigned, negative, byte_string, text_string, array, map, tag, bool, null, Items, no_items, item, Pairs, no_pairs, pair, item_count, pair_count}
@@ -12,7 +12,7 @@ use Rattle.osc_cbor.specs.declared.error.ReadError.TheVariants.{Truncated}
 abbrev pub Token : Type 0
 Token = ℕ × ℕ × List ℕ
 
--- behind a head with an argument
+-- after a head with an argument
 unfoldable pub token_behind : ℕ → ℕ → List ℕ → Result (Token × List ℕ) ReadError
 token_behind major n bytes =
     if (major == 2) || (major == 3) then (string_at n bytes >>= λ x. Ok ((major, n, x.0), x.1)) else Ok ((major, n, []), bytes)
@@ -28,7 +28,7 @@ abbrev pub Stream : List ℕ → List Token → Type 0
 Stream bytes [] = bytes ≡ []
 Stream bytes (t ∷ ts) = (rest : List ℕ) × (token_at bytes ≡ Ok (t, rest)) × Stream rest ts
 
--- those of an item, and others behind
+-- those of an item, and others after
 abbrev mutual
   pub tokens : DataItem → List Token → List Token
   tokens (unsigned n) ts = (0, n, []) ∷ ts
@@ -49,7 +49,7 @@ abbrev mutual
   pairs_tokens no_pairs ts = ts
   pairs_tokens (pair k v ps) ts = tokens k (tokens v (pairs_tokens ps ts))
 
--- how many items stand inside
+-- how many items are inside
 unfoldable pub inside : ℕ → ℕ → ℕ
 inside major n = if major == 4 then n else if major == 5 then 2 * n else if major == 6 then 1 else 0
 
@@ -62,7 +62,7 @@ pub record Alike (ts us : List Token) (a b : List ℕ) : Type 0 where
   pub same : ts ≡ us → more ≡ others
   pub back : more ≡ others → ts ≡ us
 
--- so many items stand before the rest
+-- so many items are before the rest
 pub record Pending (count : ℕ) (bytes rest : List ℕ) : Type 0 where
   pub items : Items
   pub front : List ℕ
@@ -70,7 +70,7 @@ pub record Pending (count : ℕ) (bytes rest : List ℕ) : Type 0 where
   pub counted : item_count items ≡ count
   pub whole : bytes ≡ front ++ rest
 
--- so many pairs stand before the rest, and this key is one of theirs exactly where it was one of all
+-- so many pairs are before the rest, and this key is one of theirs exactly where it was one of all
 pub record Keys (k : DataItem) (ps : Pairs) (count : ℕ) (bytes rest : List ℕ) : Type 0 where
   pub more : Pairs
   pub front : List ℕ

@@ -1,4 +1,4 @@
--- What comes of what was opened of a protected response.
+-- The outcome of what was opened of a protected response.
 use Rattle.std.specs.Prelude.{◌≡◌, Option, Some, None}
 use Rattle.osc_model.specs.declared.reply.Reply.{Reply}
 use Rattle.osc_model.specs.declared.step.Note.{Note}

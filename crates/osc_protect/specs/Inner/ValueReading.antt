@@ -11,7 +11,7 @@ None >>= f = None
 abbrev pub number_in : List ℕ → ℕ
 number_in bytes = fold (λ n byte. 256 * n + byte) 0 bytes
 
--- a zero byte, and others behind it
+-- a zero byte, and others after it
 abbrev pub has_leading_zero : List ℕ → Bool
 has_leading_zero [] = false
 has_leading_zero (b ∷ []) = false

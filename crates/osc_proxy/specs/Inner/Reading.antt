@@ -22,7 +22,7 @@ port_at bytes =
     let count = prefix_len is_digit bytes in
     if is_end (drop count bytes) then port_of (take count bytes) else None
 
--- the port behind a host
+-- the port after a host
 abbrev pub port_behind : List ℕ → Option ℕ
 port_behind [] = Some default_port
 port_behind (byte ∷ rest) = if is_end (byte ∷ rest) then Some default_port else if byte == 58 then port_at rest else None
@@ -31,7 +31,7 @@ abbrev pub with_port : List ℕ → Option ℕ → Option HostAndPort
 with_port host None = None
 with_port host (Some port) = Some (host, port)
 
--- host and port, behind the scheme
+-- host and port, after the scheme
 unfoldable pub authority : List ℕ → Option HostAndPort
 authority bytes =
     let count = prefix_len is_host_byte bytes in

@@ -1,4 +1,4 @@
--- Messages written anew option by option: the way from the code to the definitions.
+-- Messages written again option by option: the way from the code to the definitions.
 use Rattle.std.specs.Prelude.{ℕ, Bool, true, not, List, filter}
 use Rattle.osc_coap.specs.{NumberAndValue}
 use Rattle.osc_coap.specs.Message.{Message}

@@ -1,4 +1,4 @@
--- Entries as a scope keeps them: the texts of all paths one after the other, and where each entry's stands. No public contract rests on this.
+-- Entries as a scope keeps them: the texts of all paths one after the other, and where each entry's is. No public contract rests on this.
 use Rattle.std.specs.Prelude.{◌≡◌, ℕ, ◌-◌, ◌≤◌, Bool, true, false, List, [], ◌∷◌, length, take, drop, map}
 use Rattle.std.specs.List.{AllByRecursion}
 use Rattle.std.specs.List.Sorted.{IsPartitionPoint}

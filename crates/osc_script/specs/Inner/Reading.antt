@@ -214,7 +214,7 @@ abbrev pub with_three : (List ℕ → List ℕ → List ℕ → Option Line) →
 with_three f (a ∷ b ∷ c ∷ []) = f a b c
 with_three f args = None
 
--- one argument, and those behind it
+-- one argument, and those after it
 abbrev pub with_more : (List ℕ → List (List ℕ) → Option Line) → List (List ℕ) → Option Line
 with_more f (a ∷ args) = f a args
 with_more f args = None

@@ -121,7 +121,7 @@ abbrev pub noted_by : EndpointState → Arrival Message → Bytes → EndpointSt
 noted_by endpoint came reply =
     settled (replied came.draw came.what endpoint) came.at came.from (heard.Message came.what) (Answered (Some reply))
 
--- the parts of a server that serve a protected request, as they stand before it
+-- the parts of a server that serve a protected request, as they are before it
 pub record Standing : Type 0 where
   pub tree : Tree
   pub desk : DeskState

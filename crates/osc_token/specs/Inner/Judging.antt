@@ -1,4 +1,4 @@
--- How far claims stand the checks, by their item. No public contract rests on this.
+-- How far claims pass the checks, by their item. No public contract rests on this.
 use Rattle.std.specs.Prelude.{◌≡◌, ℕ, List, Some, option_and_then}
 use Rattle.osc_model.specs.{HasBegun, IsNotOver}
 use Rattle.osc_model.specs.declared.node.Moment.{Moment}

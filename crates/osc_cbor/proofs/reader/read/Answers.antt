@@ -7,7 +7,7 @@ use Rattle.osc_cbor.proofs.RefuseLaws.{item_refuses}
 use Rattle.osc_cbor.proofs.ExtentLaws.{never_refused, one_fault}
 use Rattle.osc_cbor.proofs.reader.read.Goals as goal
 
--- ---- no item stands there
+-- ---- no item is there
 
 pub returns-in_err-behind_first-clause-only : goal.returns-in_err-behind_first-clause-only
 returns-in_err-behind_first-clause-only c d front rest spelled shallow whole =
@@ -26,7 +26,7 @@ returns-in_err-behind_first-clause-memory c is =
     let fails = item_refuses 9 c.args.bytes.now c.in_err-behind_first.field-0.0 (λ i. omega (arith, c.type_inv.bytes i)) c.in_err-behind_first.ensures in
     absurd (never_memory 9 c.args.bytes.now (subst (Fails 9 c.args.bytes.now) (same_err (sym p.2) (sym p.1 ∙ is)) fails))
 
--- ---- one does, and memory is wanting
+-- ---- one does, and memory runs out
 
 pub returns-in_err-item-clause-only : goal.returns-in_err-item-clause-only
 returns-in_err-item-clause-only c d front rest spelled shallow whole =

@@ -1,4 +1,4 @@
--- How a turn stands, by what became of its step.
+-- What holds of a turn, by what became of its step.
 use Rattle.std.proofs.Common.{[], ap, refl, subst, sym, ◌∙◌}
 use Rattle.osc_turn.specs.{grown}
 use Rattle.osc_kept.specs.Turns.{Stands}

@@ -30,7 +30,7 @@ end-sent-requires c =
     let there = first_is_there (is_over c.args.tick.at c.args.tick.given_up.now) c.loop.exchanges c.in-Some.key (sym c.find_over.ensures ∙ c.in-Some.is) in
     record { exchange = there.exchange; is = there.is }
 
--- one more goes behind the others, or is lost as they are
+-- one more goes after the others, or is lost as they are
 one_more : (room : Bool) (front so_far sent out : List Datagram) → sent ≡ out
     → (front ++ (if room then so_far else [])) ++ (if room then sent else []) ≡ front ++ (if room then so_far ++ out else [])
 one_more true front so_far sent out is = append_assoc front so_far sent ∙ ap (λ xs. front ++ (so_far ++ xs)) is
