@@ -1,4 +1,4 @@
--- Nodes that stand apart: each is found where it stands, and steps move none.
+-- Nodes that are apart: each is found where it is, and steps move none.
 use Rattle.std.proofs.Common.{◌≡◌, ◌∙◌, sym, ap, subst, refl, ℕ, zero, suc, Bool, true, false, ◌||◌, List, [], ◌∷◌, ◌++◌, length, map, Option, Some, None, arith}
 use Rattle.std.specs.Prelude.{slice_get, slice_set}
 use Rattle.std.specs.List.{AllByRecursion, IsDistinct, list_any, position_or_len}
@@ -25,7 +25,7 @@ of_client placed = placed.at
 abbrev of_proxy : Placed Proxy → Peer
 of_proxy placed = placed.at
 
--- ---- one of a list is another that stands where it stood
+-- ---- one of a list is another that is where it stood
 
 same_places : {A : Type 0} (at : A → Peer) (xs : List A) (k : ℕ) (x y : A) → slice_get xs k ≡ Some x → at y ≡ at x → map at (slice_set xs k y) ≡ map at xs
 same_places at [] k x y e same = refl
@@ -171,7 +171,7 @@ among_places it server_at clients proxies =
     ∙ ap (λ (b : Bool). b || list_any (λ (place : Peer). same_peer place it) (map of_proxy proxies)) (any_place of_client it clients)
     ∙ ap (λ (b : Bool). list_any (λ (p : Placed Client). same_peer p.at it) clients || b) (any_place of_proxy it proxies))
 
--- no node but a proxy can stand there
+-- no node but a proxy can be there
 pub at_a_proxy_alone : (it server_at : Peer) (clients : List (Placed Client)) (proxies : List (Placed Proxy)) (result : Bool) → same_peer server_at it ≡ false
     → list_any (λ (p : Placed Client). same_peer p.at it) clients ≡ false → result ≡ list_any (λ (p : Placed Proxy). same_peer p.at it) proxies
     → result ≡ is_among it (places server_at clients proxies)

@@ -1,4 +1,4 @@
--- A request is asked: what waits then, and what stands.
+-- A request is asked: what waits then, and what holds.
 use Rattle.std.proofs.Common.{◌≡◌, ◌∙◌, sym, ap, subst, refl, ℕ, ◌≤◌, false, List, [], ◌∷◌, ◌++◌, map, Option, Some, None, arith}
 use Rattle.std.specs.Prelude.{◌≢◌, slice_get, slice_set, ◌==◌}
 use Rattle.std.proofs.lemmas.Bool.{ne_eqb}
@@ -23,7 +23,7 @@ use Rattle.osc_world.proofs.Taking.{ItTakes, it_takes}
 
 module _ (is_sealing : Sealings) (tag : Tags) where
   module _ (deliveries : Deliveries) (count : ℕ) (asked : State) (it : AskedRequest is_sealing tag deliveries count asked) where
-    -- the client's step, and what is so behind it
+    -- the client's step, and what is so after it
     pub record IsAsked : Type 0 where
       pub step : Step
       pub client : Client

@@ -161,7 +161,7 @@ module _ (is_sealing : Sealings) (tag : Tags) (deliveries : Deliveries) where
         let node_is : node_at old.nodes first.to ≡ whose.Proxy number = ap (node_at old.nodes) to ∙ proxy_stands_there itself old.nodes number placed apart there in
         (next.0, to_proxy is_sealing tag one old next.0 it apart next.1 number placed node_is there, next.2)
 
--- ---- what an event sends that delivers nothing waits behind the others
+-- ---- what an event sends that delivers nothing waits after the others
 
 sent_wait : (taken : Option Taken) → filter waits (sent_by taken) ≡ sent_by taken
 sent_wait None = refl
@@ -192,7 +192,7 @@ module _ (is_sealing : Sealings) (tag : Tags) (deliveries : Deliveries) where
       by None later it = ap (λ (w : State). w.minted) it.1
       by (Some datagram) later it = later it.0 it.2 ∙ happens_minted old it.0 (delivery deliveries.at (next_draw deliveries old) datagram) it.1
 
-  -- behind an event and a quiet round
+  -- after an event and a quiet round
   pub still_minted : (left : ℕ) (old begun : State) (is_quiet : Bool) (new : State) (event : Event)
       → Happens is_sealing tag old event begun → Rounds (Happens is_sealing tag) deliveries left begun is_quiet new → new.minted ≡ old.minted
   still_minted left old begun is_quiet new event happens rounds = rounds_minted left begun is_quiet new rounds ∙ happens_minted old begun event happens

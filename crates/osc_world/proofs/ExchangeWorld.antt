@@ -68,7 +68,7 @@ module _ (is_sealing : Sealings) (tag : Tags) where
       → made ≡ record quiet { result = Some result.Made }
       → AreNotesOfExchange server.desk.key (claims_text claims) (record { client = draw; server = server_draw }) first.notes second.notes made
 
-  -- what the server has heard of the client behind it
+  -- what the server has heard of the client after it
   abbrev pub HearsNoOther : Type 0
   HearsNoOther = (client begun : Client) (server agreed : Server) (begun_at now later : Moment) (draw server_draw : Draw) (at server_at : Peer) (claims : Claims) (entries : List Entry) (message : Message) (first second : Step) (id : ℕ)
       → IsLawfulClient begun → IsStraight client server now draw at server_at → MayExchange is_sealing client server now draw claims entries

@@ -1,4 +1,4 @@
--- Behind an exchanged round the client may ask, and behind an answered one.
+-- After an exchanged round the client may ask, and after an answered one.
 use Rattle.std.proofs.Common.{◌≡◌, ◌∙◌, sym, ap, subst, refl, ℕ, ◌+◌, ◌≤◌, ◌%◌, Bool, List, Some, None, arith}
 use Rattle.std.specs.Prelude.{◌≢◌, slice_get}
 use Rattle.std.proofs.lemmas.List.Elements.{All-nil}
@@ -69,7 +69,7 @@ pub ready_to_ask : (begun old new : State) (quiet : Bool) (client : ℕ) (before
 ready_to_ask begun old new quiet client before now draw entries made next round here direct next_hop leaves unheard =
     ready_again begun old new quiet client before made.placed draw next round made.is_there (made.way before here) made.server_at direct next_hop leaves unheard
 
--- ---- behind an answered one
+-- ---- after an answered one
 
 pub may_ask_again : (old new : State) (client : ℕ) (now later : Moment) (request : OpenedRequest) (answered : HasAnswered old client now request new)
     → IsLive (standing_of new.nodes.server later) answered.after → request.number + 1 ≤ greatest_number → IsFresh request.held.window (request.number + 1)

@@ -1,4 +1,4 @@
--- An exchange is begun: what waits then, and what stands.
+-- An exchange is begun: what waits then, and what holds.
 use Rattle.std.proofs.Common.{◌≡◌, ◌∙◌, ap, refl, ℕ, false, List, [], ◌∷◌, ◌++◌, map, Option, Some, None}
 use Rattle.std.specs.Prelude.{◌≢◌, slice_set}
 use Rattle.osc_model.specs.declared.node.Draw.{Draw}
@@ -19,7 +19,7 @@ use Rattle.osc_world.proofs.Deliveries.{at_rest, sent_behind}
 use Rattle.osc_world.proofs.Taking.{ItTakes, it_takes}
 
 module _ (is_sealing : Sealings) (tag : Tags) (deliveries : Deliveries) (count : ℕ) (begun : State) (it : BegunExchange is_sealing tag deliveries count begun) where
-  -- the client's step, and what is so behind it
+  -- the client's step, and what is so after it
   pub record IsPosted : Type 0 where
     pub step : Step
     pub client : Client

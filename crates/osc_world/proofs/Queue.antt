@@ -1,4 +1,4 @@
--- Which datagram waits first, and which wait behind it.
+-- Which datagram waits first, and which wait after it.
 use Rattle.std.proofs.Common.{◌≡◌, ◌∙◌, ap, sym, subst, refl, ℕ, suc, ◌+◌, Bool, true, false, cond, not, List, [], ◌∷◌, length, map, Some, None, arith}
 use Rattle.std.specs.Prelude.{filter, position, slice_get, slice_set}
 use Rattle.std.specs.List.{position_or_len}
@@ -17,14 +17,14 @@ done one = record one { waits = false }
 
 -- ---- the first
 
--- this datagram waits first, and those behind it
+-- this datagram waits first, and those after it
 pub record IsFirst (sent : List SentDatagram) (first : SentDatagram) (later : List SentDatagram) : Type 0 where
   pub number : ℕ
   pub place : position_or_len waits sent ≡ number
   pub here : slice_get sent number ≡ Some first
   pub left : filter waits (slice_set sent number (done first)) ≡ later
 
--- behind one that doesn't wait
+-- after one that doesn't wait
 behind : (one : SentDatagram) (sent : List SentDatagram) (first : SentDatagram) (later : List SentDatagram) → one.waits ≡ false → IsFirst sent first later → IsFirst (one ∷ sent) first later
 behind one sent first later is it =
     let rest : List SentDatagram = filter waits (slice_set sent it.number (done first)) in

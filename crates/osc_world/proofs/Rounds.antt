@@ -45,7 +45,7 @@ module _ (is_sealing : Sealings) (tag : Tags) (deliveries : Deliveries) where
       by (Some datagram) later it =
           omega (arith, one_record is_sealing tag old it.0 (delivery deliveries.at (next_draw deliveries old) datagram) it.1, later it.0 it.2)
 
--- what is true is true behind an Err
+-- what is true is true after an Err
 pub on_err : {A E : Type 0} (r : Result A E) (P : Type 0) → P → OnErr r P
 on_err (Ok a) P p = tt
 on_err (Err e) P p = p

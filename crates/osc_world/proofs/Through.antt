@@ -1,4 +1,4 @@
--- A datagram that waits alone goes from a client through a proxy to the server, and what comes of it the same way back: a quiet round of
+-- A datagram that waits alone goes from a client through a proxy to the server, and the outcome the same way back: a quiet round of
 -- six deliveries.
 use Rattle.std.proofs.Common.{◌≡◌, ◌∙◌, ap, sym, subst, ℕ, suc, ◌+◌, ◌≤◌, Bool, true, false, List, [], ◌∷◌, ◌++◌, length, map, Some, None, refl, inl, inr, arith}
 use Rattle.std.specs.Prelude.{slice_get, slice_set}
@@ -26,7 +26,7 @@ use Rattle.osc_world.proofs.Rounds.{none_lost}
 use Rattle.osc_world.proofs.Slots.{got_back, set_same, set_twice}
 use Rattle.osc_world.proofs.Straight.{IsWhole, coming_from, from_to}
 
--- ---- what each step sends, and what comes of it where that comes
+-- ---- what each step sends, and the outcome where that comes
 
 module _ (is_sealing : Sealings) (now : Moment) (at proxy_at server_at : Peer) where
   -- the client took the answer: one datagram goes to the proxy, which sends nothing
@@ -63,7 +63,7 @@ module _ (is_sealing : Sealings) (now : Moment) (at proxy_at server_at : Peer) w
 
 -- ---- one delivery, among these nodes
 
--- a client and a proxy of these numbers, each where it stands
+-- a client and a proxy of these numbers, each where it is
 pub record Route : Type 0 where
   pub nodes : NodeStates
   pub number : ℕ

@@ -11,7 +11,7 @@ use Rattle.osc_world.specs.declared.log.SentDatagram.{SentDatagram}
 abbrev waits : SentDatagram → Bool
 waits datagram = datagram.waits
 
--- what is sent comes behind what waits
+-- what is sent comes after what waits
 pub first_stays : (at : Peer) (sent : List SentDatagram) (out : List Datagram) → first_waiting (sent ++ map (sent_from at) out) ≡ first_waiting sent
 first_stays at [] [] = refl
 first_stays at [] (datagram ∷ out) = refl

@@ -10,7 +10,7 @@ use Rattle.osc_world.specs.declared.log.Record.{Record}
 use Rattle.osc_world.specs.declared.log.SentDatagram.{SentDatagram}
 use Rattle.osc_world.specs.declared.nodes.Taken.{Taken}
 
--- each datagram ever sent; what the steps noted, the newest first; what came of each event; and the room that was taken for more
+-- each datagram ever sent; what the steps noted, the newest first; the outcome of each event; and the room that was taken for more
 pub record LogState : Type 0 where
   pub sent : List SentDatagram
   pub steps : List Noted

@@ -21,14 +21,14 @@ use Rattle.osc_world.specs.declared.nodes.Placed.{Placed}
 use Rattle.osc_world.specs.declared.nodes.Whose.{Whose}
 use Rattle.osc_world.specs.declared.nodes.Whose.TheVariants as whose
 
--- the server, where it stands, and the clients and the proxies, each with where it stands
+-- the server, where it is, and the clients and the proxies, each with where it is
 pub record NodeStates : Type 0 where
   pub server_at : Peer
   pub server : Server
   pub clients : List (Placed Client)
   pub proxies : List (Placed Proxy)
 
--- ---- where they stand
+-- ---- where they are
 
 -- the address of the server, those of the clients, and those of the proxies
 abbrev pub places : Peer → List (Placed Client) → List (Placed Proxy) → List Peer
@@ -38,11 +38,11 @@ places server_at clients proxies = server_at ∷ (map (λ placed. placed.at) cli
 abbrev pub is_among : Peer → List Peer → Bool
 is_among at places = list_any (λ place. same_peer place at) places
 
--- no two of the nodes stand at one address
+-- no two of the nodes are at one address
 abbrev pub StandApart : NodeStates → Type 0
 StandApart nodes = IsDistinct same_peer (places nodes.server_at nodes.clients nodes.proxies)
 
--- ---- who stands where
+-- ---- who is where
 
 -- the client of this number, if one was found, or else the proxy of that number
 abbrev pub found : Option ℕ → Option ℕ → Whose
@@ -50,11 +50,11 @@ found None None = whose.Nobody
 found None (Some number) = whose.Proxy number
 found (Some number) proxy = whose.Client number
 
--- the first of these that stands there, by its number
+-- the first of these that applies there, by its number
 abbrev pub number_at : {S : Type 0} → List (Placed S) → Peer → Option ℕ
 number_at all at = position (λ placed. same_peer placed.at at) all
 
--- who stands there: the server, or the first client that does, or the first proxy
+-- who is there: the server, or the first client that does, or the first proxy
 abbrev pub node_at : NodeStates → Peer → Whose
 node_at nodes at = if same_peer nodes.server_at at then whose.Server else found (number_at nodes.clients at) (number_at nodes.proxies at)
 
@@ -92,7 +92,7 @@ deed_by (whose.Client number) task = OfClient number (Do task)
 deed_by (whose.Proxy number) task = OfProxy number task
 deed_by whose.Nobody task = Nothing
 
--- bytes that come from an address are for whom stands where they come to
+-- bytes that come from an address are for whom is where they come to
 abbrev pub arriving : NodeStates → Event → Peer → Peer → List ℕ → Deed
 arriving nodes event from to bytes =
     deed_by (node_at nodes to) (Take (Came (record { at = event.moment; from = from; draw = event.draw; what = bytes })))

@@ -1,4 +1,4 @@
--- What waits in a world, in order of sending, and what comes of the delivery of the first.
+-- What waits in a world, in order of sending, and the outcome of the delivery of the first.
 use Rattle.std.specs.Prelude.{◌≡◌, ℕ, ◌+◌, false, List, ◌∷◌, ◌++◌, filter, length, map, slice_set}
 use Rattle.osc_model.specs.Arrival.{Arrival}
 use Rattle.osc_model.specs.StepNotes.{StepNotes}
@@ -35,7 +35,7 @@ pub record Delivery : Type 0 where
 abbrev pub came_by : Delivery → Arrival (List ℕ)
 came_by delivery = record { at = delivery.at; from = delivery.first.from; draw = delivery.draw; what = delivery.first.bytes }
 
--- The hearer, who stands there, took this step: what it sends waits after the others, and no node moves.
+-- The hearer, who is there, took this step: what it sends waits after the others, and no node moves.
 pub record IsKeptOf (delivery : Delivery) (at : Peer) (noted : StepNotes → Noted) (old : State) (step : Step) (next : State) : Type 0 where
   pub waits : queue next ≡ delivery.later ++ map (sent_from at) step.out
   pub steps : next.steps ≡ noted step.notes ∷ old.steps

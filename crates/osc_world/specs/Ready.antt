@@ -1,4 +1,4 @@
--- Quiet rounds that end well: what comes of an exchange, and of a request, where nothing is lost.
+-- Quiet rounds that end well: the outcome of an exchange, and of a request, where nothing is lost.
 use Rattle.std.specs.Prelude.{◌≡◌, ◌≢◌, ◌≤◌, ◌<◌, ◌+◌, ◌%◌, ℕ, Bool, true, false, length, List, [], ◌∷◌, ◌++◌, Some, None, slice_get}
 use Rattle.osc_model.specs.Refusals as refusal
 use Rattle.osc_model.specs.{apply_read}
@@ -58,7 +58,7 @@ pub data Way (world : State) (placed : Placed Client) (round : ClientRound) (del
       → IsThrough placed.node proxy.node world.nodes.server round.draw (hops_through proxy world placed round)
       → Way world placed round deliveries
 
--- The world is ready for a client's round: no datagram waits, this is the client of this number, and where it stands, and the round goes
+-- The world is ready for a client's round: no datagram waits, this is the client of this number, and where it is, and the round goes
 -- this way.
 pub record IsReady (world : State) (client : ℕ) (placed : Placed Client) (round : ClientRound) (deliveries : ℕ) : Type 0 where
   pub still : waiting_first world ≡ None
@@ -79,13 +79,13 @@ IsNotRefused number old new = (noted : Noted) → new.steps ≡ noted ∷ old.st
 abbrev pub KeepsThePremise : State → State → Type 0
 KeepsThePremise old new = Premise old.minted old.steps → Premise new.minted new.steps
 
--- a client that stands where it stood, and reaches the server the same way
+-- a client that is where it stood, and reaches the server the same way
 pub record GoesTheSameWay (before after : Placed Client) : Type 0 where
   pub at : after.at ≡ before.at
   pub next_hop : after.node.next_hop ≡ before.node.next_hop
   pub origin : after.node.origin ≡ before.node.origin
 
--- Of the message IDs that the client takes behind that of its post, or of its request, the server has heard none that it hadn't heard
+-- Of the message IDs that the client takes after that of its post, or of its request, the server has heard none that it hadn't heard
 -- before.
 pub record LeavesUnheard (old new : State) (draw : Draw) (before after : Placed Client) : Type 0 where
   pub next_id : after.node.endpoint.next_id ≡ Some ((own_id draw before.node.endpoint.next_id + 1) % 65536)
@@ -128,7 +128,7 @@ abbrev pub asking : ℕ → Asked → Event
 asking client asked = record { moment = asked.at; draw = asked.draw; what = Ask client asked.request }
 
 -- The server still holds the context under which it accepted a number: with the name, the scope and the time that it had; and of the
--- numbers behind the accepted one each that was fresh is fresh.
+-- numbers after the accepted one each that was fresh is fresh.
 pub record HoldsStill (server : Server) (held : SecurityContext) (number : ℕ) (after : SecurityContext) : Type 0 where
   pub here : In after (contexts server.desk.table)
   pub name : after.name ≡ held.name
@@ -139,8 +139,8 @@ pub record HoldsStill (server : Server) (held : SecurityContext) (number : ℕ) 
   pub fresh : (later : ℕ) → number < later → IsFresh held.window later → IsFresh after.window later
 
 -- The client asked, the server served it as one entry, under this context and number, and the client took the answer: the entry's
--- plaintext is the one that was asked, the reply with the tree behind it is what the machine makes of the tree before, under the
--- context's scope, or 5.00 for want of memory and the tree as it was, and that reply is what the client learnt. Both still have their
+-- plaintext is the one that was asked, the reply with the tree after it is what the machine makes of the tree before, under the
+-- context's scope, or 5.00 for lack of memory and the tree as it was, and that reply is what the client learnt. Both still have their
 -- contexts, the client's with the next number; and the client waits for nothing more.
 pub record HasAnswered (old : State) (client : ℕ) (now : Moment) (request : OpenedRequest) (new : State) : Type 0 where
   pub reply : Reply
@@ -165,7 +165,7 @@ pub record HasAnswered (old : State) (client : ℕ) (now : Moment) (request : Op
   pub way : (before : Placed Client) → slice_get old.nodes.clients client ≡ Some before → GoesTheSameWay before placed
   pub server_at : new.nodes.server_at ≡ old.nodes.server_at
 
--- ---- what a quiet round behind them comes to
+-- ---- what a quiet round after them comes to
 
 -- what a quiet round ends with: whether nothing waits any more, and the world
 pub record QuietEnd : Type 0 where

@@ -40,7 +40,7 @@ pub record IsLawful (claims : Claims) : Type 0 where
   pub salt : IsShort claims.material.salt
   pub id_context : ForSome claims.material.id_context IsShort
 
--- Why its claims can't be: the scope, then the length, then the input material; memory may be wanting whatever the claims are.
+-- Why its claims can't be: the scope, then the length, then the input material; memory may run out whatever the claims are.
 abbrev pub IsRefusal : Claims → EnrollError → Type 0
 IsRefusal claims enroll.AddressTaken = ⊥
 IsRefusal claims enroll.BadScope = ¬ (HasScope claims)
@@ -50,7 +50,7 @@ IsRefusal claims enroll.Memory = ⊤
 
 -- ---- addresses
 
--- a node stands there, or none does
+-- a node is there, or none does
 abbrev pub IsTaken : Beginning → Peer → Type 0
 IsTaken start at = is_among at (places_of start) ≡ true
 

@@ -27,8 +27,8 @@ use Rattle.osc_world.specs.declared.nodes.Placed.{Placed}
 use Rattle.osc_world.specs.declared.start.Holder.{Holder}
 
 -- the resources; what needs no protection; the key of tokens, the former key, if tokens under that are taken, and for whom they are; what
--- the server rules for its contexts, and where it stands; the grants with the texts of their tokens; and the
--- clients and the proxies, each with where it stands
+-- the server rules for its contexts, and where it is; the grants with the texts of their tokens; and the
+-- clients and the proxies, each with where it is
 pub record Beginning : Type 0 where
   pub first : Tree
   pub open_scope : Scope
@@ -41,7 +41,7 @@ pub record Beginning : Type 0 where
   pub clients : List (Placed Client)
   pub proxies : List (Placed Proxy)
 
--- where its nodes stand
+-- where its nodes are
 abbrev pub places_of : Beginning → List Peer
 places_of start = places start.server_at start.clients start.proxies
 
@@ -77,7 +77,7 @@ pub record IsDeskOf (material : InputMaterial) (token : List ℕ) (desk : Client
   pub id_context : desk.id_context ≡ material.id_context
   pub alg : desk.alg ≡ material.alg
 
--- a client that stands there and reaches its server that way, with this token, with no context, waiting for nothing, and having heard nothing
+-- a client that is there and reaches its server that way, with this token, with no context, waiting for nothing, and having heard nothing
 pub record IsPlaced (holder : Holder) (token : List ℕ) (placed : Placed Client) : Type 0 where
   pub at : placed.at ≡ holder.at
   pub next_hop : placed.node.next_hop ≡ holder.way.next_hop
@@ -106,7 +106,7 @@ module _ (is_sealing : Sealings) where
 
 -- ---- a proxy is added
 
--- a proxy that stands there and forwards to these targets; it has heard nothing, and no exchange is open
+-- a proxy that is there and forwards to these targets; it has heard nothing, and no exchange is open
 abbrev pub new_proxy : Peer → List Target → Placed Proxy
 new_proxy at targets = record { at = at; node = record { targets = targets; exchanges = none_open; endpoint = fresh } }
 

@@ -58,7 +58,7 @@ pub record ServerTakes (does : Server → Step → Server → Type 0) (old : Nod
   pub taken_is : taken ≡ Some (record { at = old.server_at; noted = by_server step.notes; out = step.out })
   pub is : new ≡ record old { server = server }
 
--- of these nodes the one of this number takes a step of this kind, where it stands, which is noted so; where none is there, nobody does
+-- of these nodes the one of this number takes a step of this kind, where it is, which is noted so; where none is there, nobody does
 pub data NodeTakes {S : Type 0} (does : S → Step → S → Type 0) (noted : StepNotes → Noted) (old : List (Placed S)) (number : ℕ) (taken : Option Taken) (new : List (Placed S)) : Type 0 where
   no_node : slice_get old number ≡ None → taken ≡ None → new ≡ old → NodeTakes does noted old number taken new
   a_node : (placed : Placed S) (step : Step) (node : S) → slice_get old number ≡ Some placed → does placed.node step node

@@ -14,7 +14,7 @@ use Rattle.osc_world.specs.declared.log.SentDatagram.{SentDatagram}
 use Rattle.osc_world.specs.declared.nodes.Taken.{Taken}
 
 -- The grants and the resources that it began with; the nodes; each datagram ever sent; what the steps noted, the newest first; and
--- what came of each event.
+-- the outcome of each event.
 pub record State : Type 0 where
   pub minted : List Minted
   pub first : Tree

@@ -11,10 +11,10 @@ use osc_token::MintError;
 use std::alloc::{AllocError, AllocFailed};
 use thiserror::Error;
 
-/// Why a client can't be enrolled: the first of these that stands, or want of memory.
+/// Why a client can't be enrolled: the first of these that applies, or lack of memory.
 #[derive(Clone, Copy, Debug, PartialEq, Eq, Error)]
 pub enum EnrollError {
-    /// A node stands at its address.
+    /// A node is at its address.
     #[error("another node stands at this address")]
     AddressTaken,
     /// The scope of the claims is none.
@@ -34,7 +34,7 @@ pub enum EnrollError {
 /// Why a proxy can't be added.
 #[derive(Clone, Copy, Debug, PartialEq, Eq, Error)]
 pub enum PlaceError {
-    /// A node stands at its address.
+    /// A node is at its address.
     #[error("another node stands at this address")]
     AddressTaken,
     /// There was no memory.

@@ -48,7 +48,7 @@ use osc_rounds::laws::{
     what_an_exchange_notes,
 };
 
-/// Where no two nodes stand at one address, what is sent to a node's address comes to that node.
+/// Where no two nodes share an address, what is sent to a node's address comes to that node.
 pub fn who_stands_there()
     ensures server { (nodes : NodeStates) → node_at nodes nodes.server_at ≡ whose.Server }
     ensures client { (nodes : NodeStates) (number : ℕ) (placed : AnyPlaced AnyClient) → StandApart nodes → slice_get nodes.clients number ≡ Some placed
@@ -59,8 +59,8 @@ pub fn who_stands_there()
     one_peer();
 }
 
-/// What waits, in order of sending, is a queue. What an event sends waits behind the others. A quiet round is over where nothing waits;
-/// else the first datagram that waits is delivered, where no two nodes stand at one address, to the node at the address that it was
+/// What waits, in order of sending, is a queue. What an event sends waits after the others. A quiet round is over where nothing waits;
+/// else the first datagram that waits is delivered, where no two nodes share an address, to the node at the address that it was
 /// sent to, and the round goes on from there.
 pub fn a_round_delivers<A: Ciphers>()
     ensures at_rest { (world : State) → waiting_first world ≡ None → queue world ≡ [] }
@@ -94,7 +94,7 @@ pub fn a_round_delivers<A: Ciphers>()
 }
 
 /// In a world that is ready for it, an exchange of a client whose token is welcome at the server, and a quiet round of as many deliveries as
-/// its way has, or more, behind it: both ends have a context of one name, which is live at the server, with the token's scope; the client is
+/// its way has, or more, after it: both ends have a context of one name, which is live at the server, with the token's scope; the client is
 /// told that it is made; and nothing waits. What is assumed of a run goes on, if the token is one that the world began with and the nonces
 /// that were drawn are fresh. Straight, the server hears one message ID of the client's alone.
 pub fn an_exchanged_round<A: Ciphers>()
@@ -117,7 +117,7 @@ pub fn an_exchanged_round<A: Ciphers>()
 }
 
 /// In a world that is ready for it, a request of a client that may ask, and a quiet round of as many deliveries as its way has, or more,
-/// behind it: one entry is served, with the plaintext that was asked; tree and reply are those of the machine, or the reply is 5.00 for want
+/// after it: one entry is served, with the plaintext that was asked; tree and reply are those of the machine, or the reply is 5.00 for lack
 /// of memory and the tree as before; the client's answer is that reply; and nothing waits. What is assumed of a run goes on. Straight, the
 /// server hears one message ID of the client's alone.
 pub fn an_asked_round<A: Ciphers>()
@@ -139,8 +139,8 @@ pub fn an_asked_round<A: Ciphers>()
     a_request_keeps_the_premise();
 }
 
-/// Behind an exchanged round the client may ask, under its first number, at any moment at which the context is live. Where the way is
-/// straight, the world is ready for it, if the server had noted no message from there of the ID behind that of the post.
+/// After an exchanged round the client may ask, under its first number, at any moment at which the context is live. Where the way is
+/// straight, the world is ready for it, if the server had noted no message from there of the ID after that of the post.
 pub fn after_an_exchange_one_may_ask()
     ensures may_ask { (old new : State) (client : ℕ) (now later : AnyMoment) (entries : List Entry) (made : HasMade old client now entries new)
         → IsLive (standing_of new.nodes.server later) made.held
@@ -154,9 +154,9 @@ pub fn after_an_exchange_one_may_ask()
         → IsReady new client made.placed next 2 }
 {}
 
-/// Behind an answered round the client may ask again, under its next number, at any moment at which the context is live, if that number is
+/// After an answered round the client may ask again, under its next number, at any moment at which the context is live, if that number is
 /// one that may be taken, and was fresh. Where the way is straight, the world is ready for it, if the server had noted no message from there
-/// of the ID behind that of the request.
+/// of the ID after that of the request.
 pub fn after_an_answer_one_may_ask()
     ensures may_ask { (old new : State) (client : ℕ) (now later : AnyMoment) (request : OpenedRequest)
         (answered : HasAnswered old client now request new)
@@ -171,7 +171,7 @@ pub fn after_an_answer_one_may_ask()
         → IsReady new client answered.placed next 2 }
 {}
 
-/// The claims of a client are minted once it is enrolled; what is minted stays so, whoever is enrolled behind it and whatever happens.
+/// The claims of a client are minted once it is enrolled; what is minted stays so, whoever is enrolled after it and whatever happens.
 pub fn what_is_minted<A: Ciphers>()
     ensures enrolled { (old new : Beginning) (holder : AnyHolder) → Enrols A.is_sealing old holder new
         → IsMinted new.minted (spelling (claims_item holder.claims)) }

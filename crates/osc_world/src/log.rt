@@ -32,8 +32,8 @@ impl Drop for SentDatagram {
     }
 }
 
-/// What came of an event: the number of the step that a node took, from 0, where one did; and the numbers of the datagrams that it
-/// sent, from the first to that behind the last.
+/// The outcome of an event: the number of the step that a node took, from 0, where one did; and the numbers of the datagrams that it
+/// sent, from the first to that after the last.
 #[derive(Clone, Copy, Debug, PartialEq, Eq)]
 pub struct Record {
     /// Which step was taken.
@@ -44,7 +44,7 @@ pub struct Record {
     pub end: usize,
 }
 
-/// What is kept of the events: each datagram ever sent, what each step noted, and what came of each event.
+/// What is kept of the events: each datagram ever sent, what each step noted, and the outcome of each event.
 pub(crate) struct Log {
     sent: Vec<SentDatagram>,
     // The number of the first that waits; that of all that were sent, where none does.
@@ -134,7 +134,7 @@ impl Log {
         &self.notes
     }
 
-    /// What came of each event.
+    /// The outcome of each event.
     pub fn records(&self) -> &[Record]
         ensures { result.now ≡ self.now.records }
     {
@@ -153,7 +153,7 @@ impl Log {
         self.records.reserve(1)
     }
 
-    /// Keeps what came of an event, for which there is room; takes no memory.
+    /// Keeps the outcome of an event, for which there is room; takes no memory.
     pub fn keep(&mut self, what: &What, taken: Option<Taken>)
         requires { HasRoom self.old (length (sent_by taken)) }
         ensures { IsKept self.old what.now taken self.new }

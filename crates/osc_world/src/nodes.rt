@@ -25,7 +25,7 @@ use osc_server::Server;
 use std::alloc::{AllocError, Global};
 use std::marker::Model;
 
-/// A node, and where it stands.
+/// A node, and where it is.
 pub struct Placed<N> {
     /// Its address.
     pub at: Peer,
@@ -39,7 +39,7 @@ impl<N: Drop> Drop for Placed<N> {
     }
 }
 
-/// Who stands somewhere, or whose step something is.
+/// Who is somewhere, or whose step something is.
 #[derive(Clone, Copy, Debug, PartialEq, Eq)]
 pub enum Whose {
     /// The server's.
@@ -52,7 +52,7 @@ pub enum Whose {
     Nobody,
 }
 
-/// A step that a node took: where the node stands, what is noted of the step, and the datagrams that it sends.
+/// A step that a node took: where the node is, what is noted of the step, and the datagrams that it sends.
 #[derive(Drop)]
 pub struct Taken {
     /// From where its datagrams come.
@@ -63,7 +63,7 @@ pub struct Taken {
     pub out: Datagrams,
 }
 
-/// A server, its clients and the proxies, each where it stands: what a world has beside its network, and a lab beside its ports. One of
+/// A server, its clients and the proxies, each where it is: what a world has beside its network, and a lab beside its ports. One of
 /// them takes a step at a time.
 pub struct Nodes {
     server_at: Peer,
@@ -95,7 +95,7 @@ impl Model for Nodes {
     ghost view = { λ n. record { server_at = n.server_at; server = n.server; clients = n.clients.items; proxies = n.proxies.items } };
 }
 
-/// The number of the first of these that stands there.
+/// The number of the first of these that applies there.
 fn number_at<N>(all: &[Placed<N>], at: Peer) -> Option<usize>
     ensures { result ≡ number_at all.now at }
 {
@@ -168,14 +168,14 @@ impl Nodes {
         &self.server
     }
 
-    /// The client of this number, from 0, and where it stands, if there is one.
+    /// The client of this number, from 0, and where it is, if there is one.
     pub fn client(&self, number: usize) -> Option<&Placed<Client>>
         ensures { option_map (λ placed. placed.now) result ≡ slice_get self.now.clients number }
     {
         self.clients.get(number)
     }
 
-    /// The proxy of this number, from 0, and where it stands, if there is one.
+    /// The proxy of this number, from 0, and where it is, if there is one.
     pub fn proxy(&self, number: usize) -> Option<&Placed<Proxy>>
         ensures { option_map (λ placed. placed.now) result ≡ slice_get self.now.proxies number }
     {
@@ -257,7 +257,7 @@ impl Nodes {
         are_lawful_proxies(&self.proxies);
     }
 
-    /// Who stands there: the server, or the first client that does, or the first proxy.
+    /// Who is there: the server, or the first client that does, or the first proxy.
     pub fn at(&self, at: Peer) -> Whose
         ensures { result ≡ node_at self.now at }
     {

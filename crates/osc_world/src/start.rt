@@ -33,7 +33,7 @@ use osc_tree::Tree;
 use std::alloc::{AllocError, Global};
 use std::marker::Model;
 
-/// A client that is to be enrolled: where it stands, the way to the server, what its token claims, and the IV under which the token is
+/// A client that is to be enrolled: where it is, the way to the server, what its token claims, and the IV under which the token is
 /// sealed.
 #[derive(Drop)]
 pub struct Holder {
@@ -48,8 +48,8 @@ pub struct Holder {
 }
 
 /// A world before its first event: the resources, what needs no protection, the key that the issuer of tokens and the server share, for
-/// whom tokens are, the former key, what the server rules for its contexts, where it stands, the clients that were enrolled,
-/// and the proxies that were added. No two nodes stand at one address.
+/// whom tokens are, the former key, what the server rules for its contexts, where it is, the clients that were enrolled,
+/// and the proxies that were added. No two nodes share an address.
 #[derive(Drop)]
 pub struct Start {
     first: Tree,
@@ -70,7 +70,7 @@ pub struct Start {
 pub struct Parts {
     /// The grants.
     pub minted: Vec<Minted>,
-    /// The server, which stands where the start said, the clients, in the order in which they were enrolled, and the proxies, in the order
+    /// The server, which is where the start said, the clients, in the order in which they were enrolled, and the proxies, in the order
     /// in which they were added.
     pub nodes: Nodes,
 }
@@ -146,7 +146,7 @@ impl Start {
         self.rules = rules;
     }
 
-    /// Whether a node stands there.
+    /// Whether a node is there.
     pub fn is_taken(&self, at: Peer) -> bool
         ensures { result ≡ is_among at (places_of self.now) }
     {
@@ -157,7 +157,7 @@ impl Start {
     ///
     /// # Errors
     ///
-    /// The first that stands: `AddressTaken` where a node stands at its address, `BadScope` where the scope of its claims is none,
+    /// The first that applies: `AddressTaken` where a node is at its address, `BadScope` where the scope of its claims is none,
     /// `TooLong` where its claims have more than 65535 bytes, `Grant` where its input material has a length that no token may have; or,
     /// where its address is free, `Memory`, whatever its claims are. Then nothing has changed.
     pub fn enroll<A: Ciphers>(&mut self, alloc: Global, holder: Holder) -> Result<(), EnrollError>
@@ -191,11 +191,11 @@ impl Start {
         Ok(())
     }
 
-    /// Adds a proxy that stands there and forwards to these targets. Its number is that of the proxies before it.
+    /// Adds a proxy that is there and forwards to these targets. Its number is that of the proxies before it.
     ///
     /// # Errors
     ///
-    /// `AddressTaken` where a node stands there, `Memory` where none does and there was no memory. Then nothing has changed.
+    /// `AddressTaken` where a node is there, `Memory` where none does and there was no memory. Then nothing has changed.
     pub fn add_proxy(&mut self, alloc: Global, at: Peer, targets: Targets) -> Result<(), PlaceError>
         ensures added { OnOk result (self.new ≡ record self.old { proxies = self.old.proxies ++ new_proxy at targets ∷ [] }) }
         ensures free { OnOk result (IsFree self.old at) }
@@ -228,29 +228,8 @@ impl Start {
         ensures reached { IfOk result (λ world. IsReached (run_of world)) }
         ensures apart { IfOk result (λ world. StandApart world.nodes) }
     {
-        let Start {
-            first,
-            open_scope,
-            key,
-            old_key,
-            audience,
-            rules,
-            server_at,
-            minted,
-            clients,
-            proxies,
-        } = self;
-        let desk = ServerDesk::of(
-            alloc,
-            DeskParts {
-                key,
-                old_key,
-                audience,
-                rules,
-            },
-        );
-        let server = Server::new(alloc, first.copy(alloc)?, desk, open_scope)?;
-        let nodes = Nodes::new(server_at, server, clients, proxies);
+        let first = self.first.copy(alloc)?;
+        let Parts { minted, nodes } = self.into_parts(alloc)?;
         Ok(World::begun(alloc, minted, first, nodes))
     }
 
@@ -285,7 +264,7 @@ impl Start {
     }
 }
 
-/// Whether one of the clients stands there.
+/// Whether one of the clients is there.
 fn stands_at(clients: &[Placed<Client>], at: Peer) -> bool
     ensures { result ≡ list_any (λ placed. same_peer placed.at at) clients.now }
 {

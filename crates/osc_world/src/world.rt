@@ -31,7 +31,7 @@ use osc_tree::Tree;
 use std::alloc::{AllocError, Global};
 use std::marker::Model;
 
-/// A server, its clients and proxies, each datagram that was ever sent, and what is noted of each step. No two nodes stand at one
+/// A server, its clients and proxies, each datagram that was ever sent, and what is noted of each step. No two nodes are at one
 /// address.
 ///
 /// Whatever happens in it, there is one history, where what is assumed holds: that whatever opened was sealed before by the other end
@@ -122,7 +122,7 @@ impl World {
         Ok(())
     }
 
-    /// Events in order, up to the first for which memory is wanting; those before it stand.
+    /// Events in order, up to the first for which memory runs out; those before it are kept.
     ///
     /// Where what is assumed holds ([`World::premise_holds`]), there is one history after them: no two entries share context and
     /// number, each was asked by its client and is answered by its token's scope and the tree, their effects give the server's tree,
@@ -132,7 +132,7 @@ impl World {
     /// holds.
     ///
     /// Where, besides, no two grants name a common path, each client's entries are answered as if they alone followed the first
-    /// resources, up to the first that is for want of memory or of room ([`World::alone`]).
+    /// resources, up to the first that is for lack of memory or of room ([`World::alone`]).
     pub fn run<A: Ciphers>(&mut self, alloc: Global, events: &[Event]) -> Result<(), AllocError>
         ensures happen { (done rest : List AnyEvent) × (events.now ≡ done ++ rest) × Happen A.is_sealing A.TAG self.old done self.new
             × OnOk result (rest ≡ []) × OnErr result (rest ≢ []) }
@@ -164,10 +164,10 @@ impl World {
     }
 
     /// A quiet round: each datagram that was neither delivered nor dropped is delivered, in order of sending, until none is left, or so
-    /// many were. Whether none is left; an `AllocError` at the first for whose delivery memory is wanting: the deliveries before it stand,
+    /// many were. Whether none is left; an `AllocError` at the first for whose delivery memory runs out: the deliveries before it are kept,
     /// and it waits.
     ///
-    /// Behind an exchange or a request, in a world that was ready for it, two deliveries are the whole round, or six through a proxy: the
+    /// After an exchange or a request, in a world that was ready for it, two deliveries are the whole round, or six through a proxy: the
     /// exchange makes a context of one name at both ends, with the token's scope; and the request is served once, by what the
     /// machine makes of it, or by 5.00 where the server lacks memory for that, and what it is answered is what the client learns.
     /// What is assumed of a run goes on over such a round: over a request always, and over an exchange where its token is one that the
@@ -278,7 +278,7 @@ impl World {
     /// order. Without memory there is no list.
     ///
     /// Where what is assumed holds and no two grants name a common path, the history has the same answers, up to the first that is for
-    /// want of memory or of room.
+    /// lack of memory or of room.
     pub fn alone(&self, alloc: Global, client: usize) -> Result<Vec<(u64, Reply)>, AllocError>
         ensures alone { IfOk result (λ answers. answers.items
             ≡ answers_alone read_request (grants_of self.now.minted) client self.now.first (history_of self.now.steps)) }
@@ -346,7 +346,7 @@ impl World {
         self.nodes.server()
     }
 
-    /// The client of this number, and where it stands, if there is one.
+    /// The client of this number, and where it is, if there is one.
     pub fn client(&self, number: usize) -> Option<&Placed<Client>>
         ensures client { option_map (λ placed. placed.now) result ≡ slice_get self.now.nodes.clients number }
         ensures apart { StandApart self.now.nodes }
@@ -354,7 +354,7 @@ impl World {
         self.nodes.client(number)
     }
 
-    /// The proxy of this number, and where it stands, if there is one.
+    /// The proxy of this number, and where it is, if there is one.
     pub fn proxy(&self, number: usize) -> Option<&Placed<Proxy>>
         ensures proxy { option_map (λ placed. placed.now) result ≡ slice_get self.now.nodes.proxies number }
         ensures apart { StandApart self.now.nodes }
@@ -401,7 +401,7 @@ impl World {
         self.log.notes().steps()
     }
 
-    /// What came of each event, the oldest first.
+    /// The outcome of each event, the oldest first.
     pub fn records(&self) -> &[Record]
         ensures { result.now ≡ self.now.records }
     {

@@ -19,7 +19,7 @@ use Rattle.osc_world.specs.declared.nodes.Whose.TheVariants as whose
 
 -- ---- whose step an event is
 
--- a datagram that was sent is for whom stands where it comes to
+-- a datagram that was sent is for whom is where it comes to
 abbrev pub hearer : NodeStates → Option SentDatagram → Whose
 hearer nodes None = whose.Nobody
 hearer nodes (Some datagram) = node_at nodes datagram.to
