@@ -59,13 +59,13 @@ asked_by asked = record { at = asked.at; draw = asked.draw; request = asked.requ
 
 -- `is_sealing algorithm` is the relation of the algorithm's cipher
 module _ (is_sealing : Sealings) where
-  -- the server hears what was sent; or it is lost, since nothing was sent or memory is wanting
+  -- the server hears what was sent; or it is lost, since nothing was sent or memory runs out
   pub data Reaches (old : Server) (sent : Arrival (List Datagram)) (step : Option Step) (new : Server) : Type 0 where
     lost : ((one : Datagram) → IsOne sent.what one → ServerTakesMemory old (read_as sent one.bytes)) → IsLost old step new → Reaches old sent step new
     heard : (one : Datagram) (made : Step) → IsOne sent.what one → step ≡ Some made → IsServerStep is_sealing old (Came (read_as sent one.bytes)) made new
         → Reaches old sent step new
 
-  -- the device hears what came back, whatever is drawn; or it is lost, since nothing came back or memory is wanting
+  -- the device hears what came back, whatever is drawn; or it is lost, since nothing came back or memory runs out
   pub data ComesBack (old : Client) (now : Moment) (served step : Option Step) (new : Client) : Type 0 where
     lost : ((answer : Step) (one : Datagram) → served ≡ Some answer → IsOne answer.out one → ClientTakesMemory old now one.bytes) → IsLost old step new
         → ComesBack old now served step new

@@ -27,7 +27,7 @@ pub record AreOthers (minted : List Minted) (clients : List ClientState) : Type 
   pub texts : (m : Minted) → In m minted → IsTextOf m.grant m.text
   pub holders : (number : ℕ) (client : ClientState) → slice_get clients number ≡ Some client → IsNewClient minted number client
 
--- a run before its first step, in which the device comes behind these others, with a grant of its own
+-- a run before its first step, in which the device comes after these others, with a grant of its own
 abbrev pub first_run : List Minted → List ClientState → Minted → Tree → State → WorldState
 first_run others clients own first device = record {
   minted = others ++ own ∷ [];
@@ -74,7 +74,7 @@ AllGoOn old steps new = (number : ℕ) (v : WorldState) → IsReached v → IsIn
 -- ---- what is promised of them
 
 -- Where what is assumed holds, there is one history; and where, besides, no two grants name a common path, each holder, the device as well,
--- is answered as if alone, up to the first answer that is for want of memory or of room. Where contexts have a greatest age, each entry came
+-- is answered as if alone, up to the first answer that is for lack of memory or of room. Where contexts have a greatest age, each entry came
 -- less than that after the post that made its context.
 pub record KeepsItsPromises (w : WorldState) : Type 0 where
   pub one_history : Premise w.minted w.notes → OneHistory w

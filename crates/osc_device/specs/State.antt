@@ -8,7 +8,7 @@ pub record State : Type 0 where
   pub server : Server
   pub own : Client
 
--- where the two stand to each other: no datagram goes there on a network
+-- the address of each of the two for the other: no datagram goes there on a network
 abbrev pub own_address : Peer
 own_address = record { address = 0 ∷ 0 ∷ 0 ∷ 0 ∷ []; port = 0 }
 

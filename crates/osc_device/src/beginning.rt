@@ -17,13 +17,13 @@ use osc_token::{Audience, Claims, InputMaterial};
 use osc_world::{EnrollError, Holder, Parts, Placed, Start};
 use std::alloc::{AllocError, Global};
 
-/// Where the device stands to its server.
+/// The address of the device, for its server.
 pub(crate) const OWN: Peer = Peer {
     address: [0, 0, 0, 0],
     port: 0,
 };
 
-/// Where the server stands to the device.
+/// The address of the server, for the device.
 pub(crate) const SERVER: Peer = Peer {
     address: [0, 0, 0, 0],
     port: 1,

@@ -119,9 +119,9 @@ impl Device {
     ///
     /// # Errors
     ///
-    /// The first that stands: `Id` where the token's id has more than 64 bytes, `Token` where its scope is none, its claims have more than
+    /// The first that applies: `Id` where the token's id has more than 64 bytes, `Token` where its scope is none, its claims have more than
     /// 65535 bytes, or its secret doesn't have 1 to 64, and `TooLong` where its post, which [`Device::open`] sends, would be longer than a datagram
-    /// may be: 1152 bytes; or `Token` for want of memory, whatever they are.
+    /// may be: 1152 bytes; or `Token` for lack of memory, whatever they are.
     pub fn new<A: Ciphers>(
         alloc: Global,
         parts: ServerParts,
@@ -212,7 +212,7 @@ impl Device {
         self.own.node.next_deadline()
     }
 
-    /// Starts again: the server as [`Server::restart`] says, and the device without its context, so that it posts its token anew.
+    /// Starts again: the server as [`Server::restart`] says, and the device without its context, so that it posts its token again.
     pub fn restart(&mut self)
         ensures server { self.new.server ≡ again self.old.server }
         ensures own { self.new.own ≡ restarted self.old.own }
@@ -274,7 +274,7 @@ impl Device {
         self.ask::<A>(alloc, now, &request, draws)
     }
 
-    /// Appends this to the value at the path, or makes it anew.
+    /// Appends this to the value at the path, or makes it new.
     pub fn append<A: Ciphers>(
         &mut self,
         alloc: Global,

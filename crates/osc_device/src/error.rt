@@ -7,7 +7,7 @@ use osc_world::EnrollError;
 use std::alloc::AllocError;
 use thiserror::Error;
 
-/// Why a device can't be made: the first of these that stands, or want of memory.
+/// Why a device can't be made: the first of these that applies, or lack of memory.
 #[derive(Clone, Copy, Debug, PartialEq, Eq, Error)]
 pub enum NewError {
     /// Its token's id has more than 64 bytes.

@@ -1,9 +1,9 @@
-//! What comes of what a device begins.
+//! The outcome of what a device begins.
 
 use osc_model::Step;
 
-/// What came of what the device began: the step that began it, the server's step for the datagram that it sent, and the device's for the
-/// datagram that came back. A later one is missing where nothing was sent, and where memory was wanting for it: then the datagram is lost, as it
+/// The outcome of what the device began: the step that began it, the server's step for the datagram that it sent, and the device's for the
+/// datagram that came back. A later one is missing where nothing was sent, and where memory ran out for it: then the datagram is lost, as it
 /// may be on any way, and what was begun stays open until a tick sends it again.
 #[derive(Debug, Drop)]
 pub struct Round {
