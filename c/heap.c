@@ -1,9 +1,9 @@
 /* The heap of the library: the three functions by which its nodes take memory, change the size of a block and give it back.
  *
  * Each block is cleared before it is given back or moved, so that no key, no secret and no payload stays in memory that a node has let go of.
- * How many bytes are in use, and how many were at most, is counted: osc_heap_used, osc_heap_most.
+ * How many bytes are in use, and how many were at most, is counted: nzf_heap_used, nzf_heap_most.
  *
- * By default blocks come from malloc and free of the program. With OSC_POOL defined as a number of bytes they come from one array of that
+ * By default blocks come from malloc and free of the program. With NZF_POOL defined as a number of bytes they come from one array of that
  * size, by first fit, and malloc isn't called. The array is shared by all nodes, which one thread at a time may then use.
  *
  * A block has 16 bytes before it, for its size: each alignment that is asked for divides 16. */
@@ -12,7 +12,7 @@
 #include <stdint.h>
 #include <string.h>
 
-#include "osc_heap.h"
+#include "nozzlefern_heap.h"
 
 /* What the first two functions answer: whether there is memory, and the block. Where there is none the pointer points to a byte that is kept
  * here, and nothing may be read or written there. */
@@ -59,19 +59,19 @@ static void count(size_t more, size_t less) {
     }
 }
 
-size_t osc_heap_used(void) { return __atomic_load_n(&used_now, __ATOMIC_RELAXED); }
+size_t nzf_heap_used(void) { return __atomic_load_n(&used_now, __ATOMIC_RELAXED); }
 
-size_t osc_heap_most(void) { return __atomic_load_n(&used_most, __ATOMIC_RELAXED); }
+size_t nzf_heap_most(void) { return __atomic_load_n(&used_most, __ATOMIC_RELAXED); }
 
 /* Sizes are whole multiples of 16, so that each head is aligned. */
 static size_t rounded(size_t size) { return size == 0 ? HEAD : (size + HEAD - 1) / HEAD * HEAD; }
 
-#ifdef OSC_POOL
+#ifdef NZF_POOL
 
-_Static_assert(OSC_POOL % HEAD == 0 && OSC_POOL >= 2 * HEAD, "OSC_POOL is a multiple of 16, and at least 32");
+_Static_assert(NZF_POOL % HEAD == 0 && NZF_POOL >= 2 * HEAD, "NZF_POOL is a multiple of 16, and at least 32");
 
 static union {
-    unsigned char bytes[OSC_POOL];
+    unsigned char bytes[NZF_POOL];
     _Alignas(16) head first;
 } pool;
 
@@ -79,7 +79,7 @@ static bool is_laid_out;
 
 static head *after(head *it) { return (head *)(void *)((unsigned char *)block_of(it) + it->size); }
 
-static bool is_end(const head *it) { return (const unsigned char *)(const void *)it == pool.bytes + OSC_POOL; }
+static bool is_end(const head *it) { return (const unsigned char *)(const void *)it == pool.bytes + NZF_POOL; }
 
 /* Joins a free block with the free ones that follow it. */
 static void join(head *it) {
@@ -101,7 +101,7 @@ static void cut(head *it, size_t size) {
 
 static head *take(size_t size) {
     if (!is_laid_out) {
-        pool.first.size = OSC_POOL - HEAD;
+        pool.first.size = NZF_POOL - HEAD;
         pool.first.used = 0;
         is_laid_out = true;
     }

@@ -19,11 +19,11 @@
 #include <time.h>
 #include <unistd.h>
 
-enum { DATAGRAM = 1152, SECOND = 1000, CREATED = 0x41, DELETED = 0x42, CHANGED = 0x44, TOO_LARGE = 0x8d };
+enum { SECOND = 1000, CREATED = 0x41, DELETED = 0x42, CHANGED = 0x44, TOO_LARGE = 0x8d };
 
 static const char WANTED[] = "/lock/wanted", ACTUAL[] = "/lock/actual", LOG[] = "/log";
 
-static osc_device device;
+static nzf_device device;
 static int udp = -1;
 
 /* How the bolt stands, whether /lock/actual says so by now, and the newest line, where /log hasn't got it yet. */
@@ -43,9 +43,9 @@ static void fail(const char *what, const char *why) {
     exit(1);
 }
 
-/* A line where the library answered another number than OSC_DONE, or another code than was hoped for. */
+/* A line where the library answered another number than NZF_DONE, or another code than was hoped for. */
 static void complain(const char *what, int32_t number, uint8_t code) {
-    fprintf(stderr, "lock: %s: number %" PRId32 ", code %d.%02d\n", what, number, code >> 5, code & 31);
+    fprintf(stderr, "lock: %s: %s, code %d.%02d\n", what, nzf_outcome_text(number), code >> 5, code & 31);
 }
 
 /* Milliseconds since 1970. Where the clock is set back, the last moment stands until the clock has come there again. */
@@ -59,8 +59,8 @@ static uint64_t now(void) {
 }
 
 /* 32 bytes that nobody can guess. Without them the lock stops: it must not go on with bytes that came before. */
-static osc_draw draw(void) {
-    osc_draw it;
+static nzf_draw draw(void) {
+    nzf_draw it;
     size_t filled = 0;
     while (filled < sizeof it.bytes) {
         ssize_t more = getrandom(it.bytes + filled, sizeof it.bytes - filled, 0);
@@ -70,8 +70,8 @@ static osc_draw draw(void) {
     return it;
 }
 
-static osc_draws two_draws(void) {
-    osc_draws it = {draw(), draw()};
+static nzf_draws two_draws(void) {
+    nzf_draws it = {draw(), draw()};
     return it;
 }
 
@@ -89,63 +89,73 @@ static void listen_on(uint16_t port) {
 
 /* What can't be sent is lost, as on the way: the client asks again. */
 static void send_all(void) {
-    osc_peer to;
-    uint8_t bytes[DATAGRAM];
+    nzf_peer to;
+    uint8_t bytes[NZF_DATAGRAM_MAX];
     size_t length;
     int32_t number;
-    while ((number = osc_device_next(&device, &to, bytes, sizeof bytes, &length)) == OSC_DONE) {
+    while ((number = nzf_device_next(&device, &to, bytes, sizeof bytes, &length)) == NZF_DONE) {
         struct sockaddr_in there = {0};
         there.sin_family = AF_INET;
         there.sin_port = htons(to.port);
         memcpy(&there.sin_addr, to.address, sizeof to.address);
         if (sendto(udp, bytes, length, 0, (struct sockaddr *)&there, sizeof there) < 0) fprintf(stderr, "lock: sendto: %s\n", strerror(errno));
     }
-    if (number != OSC_NOTHING) complain("next", number, 0);
+    if (number != NZF_NOTHING) complain("next", number, 0);
 }
 
 /* ---- the bolt, and what the lock says of itself */
 
 static int open_context(void) {
-    osc_draws draws = two_draws();
+    nzf_draws draws = two_draws();
     uint8_t code = 0;
-    int32_t number = osc_device_open(&device, now(), &draws, &code);
-    if (number == OSC_LOST) left_open = OPEN;
-    if (number != OSC_DONE) complain(DOING[OPEN], number, code);
-    return number == OSC_DONE;
+    int32_t number = nzf_device_open(&device, now(), &draws, &code);
+    if (number == NZF_LOST) left_open = OPEN;
+    if (number != NZF_DONE) complain(DOING[OPEN], number, code);
+    return number == NZF_DONE;
+}
+
+/* A text (Content-Format 0) for a path. */
+static nzf_resource text_at(const char *path, const char *text) {
+    nzf_resource it = NZF_RESOURCE;
+    it.path = nzf_text(path);
+    it.format = 0;
+    it.payload = nzf_text(text);
+    return it;
 }
 
 static int32_t put_actual(uint8_t *code) {
-    osc_draws draws = two_draws();
-    const char *text = is_open ? "open" : "shut";
-    return osc_device_put(&device, now(), (const uint8_t *)ACTUAL, strlen(ACTUAL), 0, (const uint8_t *)text, strlen(text), &draws, code);
+    nzf_draws draws = two_draws();
+    nzf_resource it = text_at(ACTUAL, is_open ? "open" : "shut");
+    return nzf_device_put(&device, now(), &it, &draws, code);
 }
 
 static int32_t append_line(uint8_t *code) {
-    osc_draws draws = two_draws();
-    return osc_device_append(&device, now(), (const uint8_t *)LOG, strlen(LOG), 0, (const uint8_t *)line, strlen(line), &draws, code);
+    nzf_draws draws = two_draws();
+    nzf_resource it = text_at(LOG, line);
+    return nzf_device_append(&device, now(), &it, &draws, code);
 }
 
 static int32_t remove_log(uint8_t *code) {
-    osc_draws draws = two_draws();
-    return osc_device_remove(&device, now(), (const uint8_t *)LOG, strlen(LOG), &draws, code);
+    nzf_draws draws = two_draws();
+    return nzf_device_remove(&device, now(), LOG, strlen(LOG), &draws, code);
 }
 
 /* Whether it is done. Where the context is gone or used up, a new one is opened, and the write is made at the next call. */
 static int is_done(doing what, int32_t number, uint8_t code) {
-    if (number == OSC_DONE && (what == OPEN || code == CREATED || code == CHANGED || code == DELETED)) return 1;
-    complain(DOING[what], number, number == OSC_DONE || number == OSC_UNVERIFIED ? code : 0);
-    if (number == OSC_LOST) {
+    if (number == NZF_DONE && (what == OPEN || code == CREATED || code == CHANGED || code == DELETED)) return 1;
+    complain(DOING[what], number, number == NZF_DONE || number == NZF_UNVERIFIED ? code : 0);
+    if (number == NZF_LOST) {
         left_open = what;
         has_moved = 0;
     }
-    if (number == OSC_NO_CONTEXT || number == OSC_EXHAUSTED || number == OSC_UNVERIFIED) open_context();
+    if (number == NZF_NO_CONTEXT || number == NZF_EXHAUSTED || number == NZF_UNVERIFIED) open_context();
     return 0;
 }
 
 static void write_line(void) {
     uint8_t code = 0;
     int32_t number = append_line(&code);
-    if (number == OSC_DONE && code == TOO_LARGE) {
+    if (number == NZF_DONE && code == TOO_LARGE) {
         number = remove_log(&code);
         if (!is_done(REMOVE, number, code)) return;
         number = append_line(&code);
@@ -166,8 +176,8 @@ static void tell(void) {
 /* What came of what was left open. It says nothing of how the bolt stands where that has moved since. */
 static void heed_learnt(void) {
     uint8_t code = 0;
-    int32_t number = osc_device_learnt(&device, &code);
-    if (number == OSC_NOTHING) return;
+    int32_t number = nzf_device_learnt(&device, &code);
+    if (number == NZF_NOTHING) return;
     doing what = left_open;
     left_open = NONE;
     if (!is_done(what, number, code) || has_moved) return;
@@ -193,25 +203,26 @@ static int is_text(const uint8_t *bytes, size_t length, const char *text) { retu
 
 /* A PUT of /lock/wanted that was done moves the bolt: the library has judged by then that its holder may, and that it is no repeat. */
 static void heed_served(void) {
-    osc_served it;
-    uint8_t path[8 * 33], payload[DATAGRAM], holder[64];
-    int32_t number = osc_device_served(&device, &it, path, sizeof path, payload, sizeof payload, holder, sizeof holder);
-    if (number == OSC_NOTHING) return;
-    if (number != OSC_DONE) {
+    nzf_served it;
+    uint8_t bytes[NZF_PATH_MAX + NZF_DATAGRAM_MAX + NZF_CONTEXT_MAX];
+    int32_t number = nzf_device_served(&device, &it, bytes, sizeof bytes);
+    if (number == NZF_NOTHING) return;
+    if (number != NZF_DONE) {
         complain("served", number, 0);
         return;
     }
-    int is_put = it.method == 3 && (it.code == CREATED || it.code == CHANGED);
-    if (!is_put || !is_text(path, it.path_length, WANTED)) return;
+    const uint8_t *payload = bytes + it.path_length, *holder = payload + it.payload_length;
+    int is_put = it.method == NZF_METHOD_PUT && (it.code == CREATED || it.code == CHANGED);
+    if (!is_put || !is_text(bytes, it.path_length, WANTED)) return;
     if (is_text(payload, it.payload_length, "open")) move(1, holder, it.context_length);
     if (is_text(payload, it.payload_length, "shut")) move(0, holder, it.context_length);
 }
 
 static void heed_refused(void) {
-    osc_refused it;
-    int32_t number = osc_device_refused(&device, &it);
-    if (number == OSC_NOTHING) return;
-    if (number != OSC_DONE) complain("refused", number, 0);
+    nzf_refused it;
+    int32_t number = nzf_device_refused(&device, &it);
+    if (number == NZF_NOTHING) return;
+    if (number != NZF_DONE) complain("refused", number, 0);
     else printf("refused: %d.%02d, reason %d\n", it.code >> 5, it.code & 31, it.reason);
     fflush(stdout);
 }
@@ -219,7 +230,7 @@ static void heed_refused(void) {
 /* Behind a call that was done: what its step left is taken before the lock writes for itself, which is a step of its own. Behind any other number the
  * last step still stands, and was heeded by then: to look again would move the bolt twice. */
 static void heed(const char *what, int32_t number) {
-    if (number == OSC_DONE) {
+    if (number == NZF_DONE) {
         send_all();
         heed_served();
         heed_refused();
@@ -231,33 +242,37 @@ static void heed(const char *what, int32_t number) {
 }
 
 static void tick(void) {
-    osc_draw it = draw();
-    heed("tick", osc_device_on_tick(&device, now(), &it));
+    nzf_draw it = draw();
+    heed("tick", nzf_device_on_tick(&device, now(), &it));
 }
 
 static void receive(void) {
     struct sockaddr_in there;
     socklen_t size = sizeof there;
-    uint8_t bytes[DATAGRAM + 1]; /* one more, so that a longer datagram isn't taken for one that fits */
+    uint8_t bytes[NZF_DATAGRAM_MAX + 1]; /* one more, so that a longer datagram isn't taken for one that fits */
     ssize_t length = recvfrom(udp, bytes, sizeof bytes, MSG_DONTWAIT, (struct sockaddr *)&there, &size);
     if (length < 0) {
         if (errno != EAGAIN && errno != EINTR) fprintf(stderr, "lock: recvfrom: %s\n", strerror(errno));
         return;
     }
-    osc_peer from;
-    osc_draw it = draw();
+    nzf_peer from;
+    nzf_draw it = draw();
     memcpy(from.address, &there.sin_addr, sizeof from.address);
     from.port = ntohs(there.sin_port);
-    heed("datagram", osc_device_on_datagram(&device, now(), &from, bytes, (size_t)length, &it));
+    heed("datagram", nzf_device_on_datagram(&device, now(), &from, bytes, (size_t)length, &it));
 }
 
 /* ---- the whole */
 
 static void begin(void) {
-    osc_draw it = draw();
-    int32_t number = osc_device_new(&device, &LOCK_KEY, (const uint8_t *)LOCK_AUDIENCE, strlen(LOCK_AUDIENCE), (const uint8_t *)LOCK_OPEN,
-                                    strlen(LOCK_OPEN), (const uint8_t *)LOCK_OWN, strlen(LOCK_OWN), &it);
-    if (number != OSC_DONE) {
+    nzf_device_settings settings = NZF_DEVICE_SETTINGS;
+    nzf_draw it = draw();
+    settings.key = LOCK_KEY;
+    settings.audience = nzf_text(LOCK_AUDIENCE);
+    settings.unprotected = nzf_text(LOCK_OPEN);
+    settings.own = nzf_text(LOCK_OWN);
+    int32_t number = nzf_device_new(&device, &settings, &it);
+    if (number != NZF_DONE) {
         complain("new", number, 0);
         exit(1);
     }
@@ -300,7 +315,7 @@ int main(int count, char **words) {
     printf("listening on port %d\n", (int)port);
     fflush(stdout);
     run(now() + seconds * SECOND);
-    osc_device_free(&device);
+    nzf_device_free(&device);
     close(udp);
     return 0;
 }

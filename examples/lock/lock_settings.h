@@ -2,10 +2,10 @@
 #ifndef LOCK_SETTINGS_H
 #define LOCK_SETTINGS_H
 
-#include <osc.h>
+#include <nozzlefern.h>
 
 /* The key of tokens: whoever issues them has it, too. */
-static const osc_key LOCK_KEY = {
+static const nzf_key LOCK_KEY = {
     {0x40, 0x41, 0x42, 0x43, 0x44, 0x45, 0x46, 0x47, 0x48, 0x49, 0x4a, 0x4b, 0x4c, 0x4d, 0x4e, 0x4f}};
 
 /* Tokens for this audience are for this lock. */

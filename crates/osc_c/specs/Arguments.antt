@@ -1,5 +1,6 @@
 -- What numbers and bytes stand for, as arguments.
-use Rattle.std.specs.Prelude.{◌≡◌, ℕ, ◌⊎◌, ℤ, ◌<ℤ◌, pos, negsuc, Option, Some, None, MatchOption}
+use Rattle.std.specs.Prelude.{◌≡◌, ℕ, ◌⊎◌, ℤ, ◌<ℤ◌, pos, negsuc, List, Option, Some, None, MatchOption}
+use Rattle.osc_model.specs.{IsPath}
 use Rattle.osc_c.specs.declared.calls.outcome.Outcome.{Outcome}
 use Rattle.osc_c.specs.declared.calls.outcome.Outcome.TheVariants.{BadArgument, Done, NoMemory, Nothing}
 
@@ -17,6 +18,10 @@ IsNoFormat number = (number <ℤ negsuc 0) ⊎ (pos 65535 <ℤ number)
 -- an argument is out of its range, for this reason; or there was no memory
 abbrev pub IsUnfit : Type 0 → Outcome → Type 0
 IsUnfit Why outcome = ((outcome ≡ BadArgument) × Why) ⊎ (outcome ≡ NoMemory)
+
+-- the text is no path, whatever memory there is; or it is one, and there was no memory for it
+abbrev pub IsNoPath : List ℕ → Outcome → Type 0
+IsNoPath text outcome = ((outcome ≡ BadArgument) × ¬ (IsPath text)) ⊎ ((outcome ≡ NoMemory) × IsPath text)
 
 -- a number is told, where there is one
 abbrev pub Tells : Option ℕ → ℕ → Outcome → ℕ → Type 0

@@ -5,16 +5,18 @@ use Rattle.osc_model.specs.declared.node.Moment.{Moment}
 use Rattle.osc_model.specs.declared.node.Peer.{Peer}
 use Rattle.osc_model.specs.declared.request.Request.{Request}
 use Rattle.osc_model.specs.declared.step.Step.{Step}
-use Rattle.osc_message.specs.{fresh}
+use Rattle.osc_message.specs.{fresh, heard, Receives}
+use Rattle.osc_message.specs.declared.received.Received.{Received}
+use Rattle.osc_authz.specs.{ClientContextState}
 use Rattle.osc_authz.specs.declared.granted.ClientDesk.{ClientDesk}
 use Rattle.osc_ccm.specs.{Sealings, Tags}
-use Rattle.osc_client.specs.{Begins, Requests, Ticks, Asked, acts_at, core, IsStep}
+use Rattle.osc_client.specs.{Begins, Requests, Ticks, Asked, IsFree, TakesMemory, acts_at, core, IsStep}
 use Rattle.osc_client.specs.State.{State}
 use Rattle.osc_run.specs.{ClientStep, Came}
 use Rattle.osc_client.specs.declared.route.Route.{Route}
 use Rattle.osc_c.specs.Arguments.{IsUnfit, Tells}
 use Rattle.osc_c.specs.Ends.{At, DoneAt, Ends}
-use Rattle.osc_c.specs.Given.{GivenDatagram, GivenGrant, GivenRequest}
+use Rattle.osc_c.specs.Given.{GivenDatagram, GivenGrant, GivenRequest, client_settings_size, request_size}
 use Rattle.osc_c.specs.Granted.{IsDesk, IsLawfulGrant, IsWay, id_context_of, origin_of}
 use Rattle.osc_c.specs.Requests.{AreOptions, IsNoRequest, IsRequest}
 use Rattle.osc_model.specs.{algorithm_number}
@@ -31,12 +33,13 @@ IsFresh desk way node = node ≡ record {
   last = nothing;
 }
 
--- It was granted this, and has done nothing. Its way and its input material are such as can be, and the flag is 0 or 1.
+-- It was granted this, and has done nothing. Its way and its input material are such as can be, the flag is 0 or 1, and the size is that of the struct.
 pub record IsNewClient (given : GivenGrant) (node : ClientNode) : Type 0 where
   pub desk : ClientDesk
   pub alg : Algorithm
   pub is_desk : IsDesk given.token given.secret given.salt (id_context_of given.has_context given.context) alg desk
   pub is_alg : given.algorithm ≡ algorithm_number alg
+  pub is_size : given.size ≡ client_settings_size
   pub is_flag : given.has_context ≤ 1
   pub is_way : IsWay given.host
   pub is_lawful : IsLawfulGrant given.secret given.salt (id_context_of given.has_context given.context)
@@ -54,7 +57,7 @@ abbrev pub BegunAt : ClientNode → Moment → Draw → ClientNode → Type 0
 BegunAt old now draw new = Makes old (λ s step t. Begins s now draw step t × IsOfRun s step t) new
 
 abbrev pub BegunBy : ClientNode → ℕ → Draw → Outcome → ClientNode → Type 0
-BegunBy old ms draw outcome new = At ms old outcome new (λ now. BegunAt old now draw new)
+BegunBy old ms draw outcome new = At ms old outcome new (λ now. old.client.waiting ≡ None) (λ now. BegunAt old now draw new)
 
 abbrev pub TickedAt : ClientNode → Moment → ClientNode → Type 0
 TickedAt old now new = Makes old (λ s step t. Ticks s now step t × IsOfRun s step t) new
@@ -62,18 +65,26 @@ TickedAt old now new = Makes old (λ s step t. Ticks s now step t × IsOfRun s s
 abbrev pub TickedBy : ClientNode → ℕ → Outcome → ClientNode → Type 0
 TickedBy old ms outcome new = DoneAt ms old outcome new (λ now. TickedAt old now new)
 
+-- it answers these bytes, or reads them, which takes memory
+abbrev pub AnswersOrReads : ClientNode → Moment → Peer → List ℕ → Type 0
+AnswersOrReads old now from bytes = (received : Received) × Receives bytes received × TakesMemory old.client from (heard old.client.endpoint.seen now from received)
+
 -- `is_sealing algorithm` is the relation of the algorithm's cipher
 module _ (is_sealing : Sealings) where
   abbrev pub AskedAt : Tags → ClientNode → Asked → ClientNode → Type 0
   AskedAt tag old asked new = Makes old (λ s step t. Requests is_sealing tag s asked step t × IsOfRun s step t) new
 
+  -- nothing hinders the request
+  abbrev pub IsBegun : Tags → ClientNode → Request → Draw → Type 0
+  IsBegun tag old request draw = (context : ClientContextState) × IsFree is_sealing tag old.client request draw context
+
   -- A request of these numbers and bytes is asked, or there was no memory for the step; or it is none, or there was no memory for it.
   abbrev pub AskedBy : Tags → ClientNode → GivenRequest → Outcome → ClientNode → Type 0
   AskedBy tag old given outcome new =
-      ((now : Moment) × (request : Request) × (now.ms ≡ given.ms) × IsRequest given.method given.path given.options given.payload request
-      × Ends old outcome new (AskedAt tag old (record { at = now; draw = given.draw; request = request }) new)
+      ((now : Moment) × (request : Request) × (given.size ≡ request_size) × (now.ms ≡ given.ms) × IsRequest given.method given.path given.options given.payload request
+      × Ends old outcome new (IsBegun tag old request given.draw) (AskedAt tag old (record { at = now; draw = given.draw; request = request }) new)
       × (0 < request.code.0) × (given.method ≤ 4) × AreOptions given.options)
-      ⊎ (IsUnfit (¬ (given.ms < 2 ^ 63) ⊎ IsNoRequest given.method given.path given.options) outcome × (new ≡ old))
+      ⊎ (IsUnfit (¬ (given.size ≡ request_size) ⊎ ¬ (given.ms < 2 ^ 63) ⊎ IsNoRequest given.method given.path given.options) outcome × (new ≡ old))
 
   -- it hears this, whatever is drawn
   abbrev pub HeardAt : ClientNode → Moment → Peer → List ℕ → ClientNode → Type 0
@@ -81,7 +92,7 @@ module _ (is_sealing : Sealings) where
       Makes old (λ s step t. (draw : Draw) → IsStep is_sealing s (Came (record { at = now; from = from; draw = draw; what = bytes })) step t) new
 
   abbrev pub HeardBy : ClientNode → GivenDatagram → Outcome → ClientNode → Type 0
-  HeardBy old given outcome new = At given.ms old outcome new (λ now. HeardAt old now given.from given.bytes new)
+  HeardBy old given outcome new = At given.ms old outcome new (λ now. AnswersOrReads old now given.from given.bytes) (λ now. HeardAt old now given.from given.bytes new)
 
 -- the first moment is told at which a tick does anything, if one does
 abbrev pub TellsDeadline : ClientNode → ℕ → Outcome → ℕ → Type 0

@@ -10,7 +10,7 @@ use Rattle.osc_ccm.specs.{Sealings}
 use Rattle.osc_client.specs.{acts_at, restarted, IsStep as IsOwnStep}
 use Rattle.osc_client.specs.State.{State as Own}
 use Rattle.osc_server.specs.{IsStep}
-use Rattle.osc_device.specs.{Carries, AllGoOn, IsOfAnEntry, noted, restarts}
+use Rattle.osc_device.specs.{Carries, AllGoOn, IsOfAnEntry, ServerTakesMemory, noted, restarts}
 use Rattle.osc_device.specs.State.{State}
 use Rattle.osc_run.specs.{Came, Due, by_server}
 use Rattle.osc_device.specs.declared.round.Round.{Round}
@@ -51,9 +51,11 @@ module _ (is_sealing : Sealings) where
     pub last : new.last ≡ since step
     pub run : AllGoOn old.device (λ number. by_server step.notes ∷ []) new.device
 
+  -- What the server doesn't answer takes no memory.
   abbrev pub HeardBy : DeviceNode → GivenDatagram → Draw → Outcome → DeviceNode → Type 0
   HeardBy old given draw outcome new =
-      UnlessNowhere (is_nowhere given.from) old outcome new (At given.ms old outcome new (λ now. HeardAt old (came_at given now draw) new))
+      UnlessNowhere (is_nowhere given.from) old outcome new
+      (At given.ms old outcome new (λ now. ServerTakesMemory old.device.server (came_at given now draw)) (λ now. HeardAt old (came_at given now draw) new))
 
   -- The device itself ticks, what it sends is carried to its server and back, and nothing goes to others; what it learns is kept to be told. Each
   -- run goes on by these steps, and a reply that it learns is that of an entry of the history.

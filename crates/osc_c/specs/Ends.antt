@@ -12,13 +12,13 @@ Stays why old outcome new = (outcome ≡ why) × (new ≡ old)
 abbrev pub IsNoMoment : {A : Type 0} → ℕ → A → Outcome → A → Type 0
 IsNoMoment ms old outcome new = (ms < 2 ^ 63 → ⊥) × Stays BadArgument old outcome new
 
--- It is done so; or there was no memory, and nothing changes.
-abbrev pub Ends : {A : Type 0} → A → Outcome → A → Type 0 → Type 0
-Ends old outcome new Does = ((outcome ≡ Done) × Does) ⊎ Stays NoMemory old outcome new
+-- It is done so; or it takes memory, of which there was none, and nothing changes.
+abbrev pub Ends : {A : Type 0} → A → Outcome → A → Type 0 → Type 0 → Type 0
+Ends old outcome new Takes Does = ((outcome ≡ Done) × Does) ⊎ (Stays NoMemory old outcome new × Takes)
 
 -- So at this moment; or it is no moment, and nothing changes.
-abbrev pub At : {A : Type 0} → ℕ → A → Outcome → A → (Moment → Type 0) → Type 0
-At ms old outcome new Does = ((now : Moment) × (now.ms ≡ ms) × Ends old outcome new (Does now)) ⊎ IsNoMoment ms old outcome new
+abbrev pub At : {A : Type 0} → ℕ → A → Outcome → A → (Moment → Type 0) → (Moment → Type 0) → Type 0
+At ms old outcome new Takes Does = ((now : Moment) × (now.ms ≡ ms) × Ends old outcome new (Takes now) (Does now)) ⊎ IsNoMoment ms old outcome new
 
 -- So at this moment, whatever memory there is; or it is no moment, and nothing changes.
 abbrev pub DoneAt : {A : Type 0} → ℕ → A → Outcome → A → (Moment → Type 0) → Type 0

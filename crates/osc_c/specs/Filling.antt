@@ -1,4 +1,4 @@
--- What a caller's room has after bytes were written to it: they stand at its front, where they fit, and else it is as it was.
+-- What a caller's room has after bytes were written to it: they are at its front, where they fit, and else it is as it was.
 use Rattle.std.specs.Prelude.{ℕ, List, ◌++◌, length, drop, nat_le, if◌then◌else◌}
 use Rattle.osc_c.specs.declared.calls.outcome.Outcome.{Outcome}
 use Rattle.osc_c.specs.declared.calls.outcome.Outcome.TheVariants.{Done, TooShort}

@@ -6,7 +6,7 @@ use Rattle.osc_model.specs.declared.algorithm.Algorithm.{Algorithm}
 use Rattle.osc_authz.specs.{IsSecret, IsShort}
 use Rattle.osc_authz.specs.declared.granted.ClientDesk.{ClientDesk}
 use Rattle.osc_client.specs.{HostAndPort, IsHost}
-use Rattle.osc_c.specs.Given.{GivenGrant}
+use Rattle.osc_c.specs.Given.{GivenGrant, client_settings_size}
 
 -- it is no algorithm's number
 abbrev pub IsNoAlgorithm : ℕ → Type 0
@@ -35,5 +35,5 @@ IsWay host = (host ≡ []) ⊎ IsHost host
 -- why there is no client for these numbers and bytes
 abbrev pub IsNoClient : GivenGrant → Type 0
 IsNoClient given =
-    IsNoAlgorithm given.algorithm ⊎ ¬ (IsWay given.host) ⊎ (1 < given.has_context)
+    ¬ (given.size ≡ client_settings_size) ⊎ IsNoAlgorithm given.algorithm ⊎ ¬ (IsWay given.host) ⊎ (1 < given.has_context)
     ⊎ ¬ (IsLawfulGrant given.secret given.salt (id_context_of given.has_context given.context))

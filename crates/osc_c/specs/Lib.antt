@@ -30,13 +30,13 @@ pub use Ciphers.{sealing, tags}
 pub use Client.{AskedBy, IsFresh, IsNewClient}
 pub use Device.{HeardAt, UnlessNowhere}
 pub use Ends.{At}
-pub use Given.{GivenDatagram, GivenDevice, GivenGrant, GivenRequest, GivenRules, GivenValue, came_at}
+pub use Given.{GivenDatagram, GivenDevice, GivenGrant, GivenRequest, GivenRules, GivenValue, came_at, claims_given, device_given, grant_given, request_given, rules_given, value_given}
 pub use Granted.{IsLawfulGrant, IsNoClient}
 pub use Held.{holds}
 pub use Last.{LastStep, nothing}
-pub use Making.{IsNewDevice, IsNoNewDevice, IsNoNewDeviceWith, IsOwnToken, rules_of}
+pub use Making.{AreParts, IsNewDevice, IsNoNewDevice, IsOwnToken, rules_of}
 pub use Nodes.{ClientType, DeviceType, ProxyType}
 pub use Outcome.{number_of}
-pub use Own.{Asks, AsksBy, ComesTo, IsRefusal, Writing, asked_for, is_refused_by, last_after, revoked_by}
+pub use Own.{Asks, AsksBy, ComesTo, IsBegun, IsRefusal, Writing, asked_for, is_refused_by, last_after, revoked_by}
 pub use Plain.{draw_of, peer_of}
 pub use Told.{begun_as, learnt_as, refused_as, told_by, told_of}

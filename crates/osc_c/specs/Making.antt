@@ -15,20 +15,19 @@ use Rattle.osc_device.specs.declared.own_token.OwnToken.{OwnToken}
 use Rattle.osc_device.specs.declared.own_token.ServerParts.{ServerParts}
 use Rattle.osc_world.specs.declared.error.EnrollError.TheVariants as enroll
 use Rattle.osc_c.specs.Arguments.{IsUnfit}
-use Rattle.osc_c.specs.Given.{GivenDevice, GivenRules}
+use Rattle.osc_c.specs.Given.{GivenDevice, GivenRules, device_settings_size}
 use Rattle.osc_c.specs.Last.{nothing}
 use Rattle.osc_c.specs.Tokens.{IsNoScope, IsNoScopeText, IsScopeOf}
 use Rattle.osc_c.specs.declared.calls.device.DeviceNode.{DeviceNode}
 use Rattle.osc_c.specs.declared.calls.making.Rules.{Rules}
 use Rattle.osc_c.specs.declared.calls.outcome.Outcome.{Outcome}
 use Rattle.osc_c.specs.declared.calls.outcome.Outcome.TheVariants.{BadArgument, BadScope, NoMemory, TooLong}
-use Rattle.osc_c.specs.declared.calls.plain.PlainRules.{PlainRules}
 
 -- ---- what its server rules
 
 -- a key, where the flag is 1
-abbrev pub old_key_of : PlainRules → Option (List ℕ)
-old_key_of plain = if plain.has_old_key == 1 then Some plain.old_key.bytes else None
+abbrev pub old_key_of : GivenRules → Option (List ℕ)
+old_key_of given = if given.has_old_key == 1 then Some given.old_key else None
 
 -- how many seconds a context counts; 0 is no limit
 abbrev pub limit_of : ℕ → Option ℕ
@@ -40,11 +39,7 @@ revoked_of [] = None
 revoked_of (byte ∷ text) = Some (byte ∷ text)
 
 abbrev pub rules_of : GivenRules → Rules
-rules_of given = record { old_key = old_key_of given.plain; revoked = revoked_of given.revoked; seconds = limit_of given.plain.context_seconds }
-
--- no former key, no revocation path, and no limit
-abbrev pub no_rules : Rules
-no_rules = record { old_key = None; revoked = None; seconds = None }
+rules_of given = record { old_key = old_key_of given; revoked = revoked_of given.revoked; seconds = limit_of given.context_seconds }
 
 -- an empty text, or that of a path of at most 4 segments: those of a token's id, of at most 64 bytes, are four more, and a path has at most 8
 abbrev pub IsRevocationText : List ℕ → Type 0
@@ -52,11 +47,11 @@ IsRevocationText text = (text ≡ []) ⊎ (IsPath text × (length (segments_of t
 
 -- the flag is 0 or 1, and the text says a revocation path, or none
 abbrev pub AreRules : GivenRules → Type 0
-AreRules given = (given.plain.has_old_key ≤ 1) × IsRevocationText given.revoked
+AreRules given = (given.has_old_key ≤ 1) × IsRevocationText given.revoked
 
 -- why these are no rules
 abbrev pub AreNoRules : GivenRules → Type 0
-AreNoRules given = (1 < given.plain.has_old_key) ⊎ ¬ (IsRevocationText given.revoked)
+AreNoRules given = (1 < given.has_old_key) ⊎ ¬ (IsRevocationText given.revoked)
 
 -- ---- what it is made of
 
@@ -72,7 +67,7 @@ AreParts given rules parts =
     (parts.tree ≡ map.empty) × IsOpenScope given.free parts.open_scope × (parts.key ≡ given.key) × (parts.old_key ≡ rules.old_key)
     × (parts.audience ≡ given.audience) × (parts.revoked ≡ rules.revoked) × (parts.context_seconds ≡ rules.seconds)
 
--- the device's own token: its secret are the first 16 bytes of the draw, and its IV the 13 behind them
+-- the device's own token: its secret are the first 16 bytes of the draw, and its IV the 13 after them
 abbrev pub IsOwnToken : List ℕ → List ℕ → OwnToken → Type 0
 IsOwnToken scope draw own =
     (own.id ≡ codes "device") × (own.secret ≡ take 16 draw) × IsScopeOf scope own.scope × (own.iv ≡ take 13 (drop 16 draw))
@@ -98,28 +93,29 @@ unmade_as (Token enroll.TooLong) = TooLong
 unmade_as device.TooLong = TooLong
 unmade_as other = BadArgument
 
-abbrev pub IsNoNewDevice : GivenDevice → Rules → Outcome → Type 0
-IsNoNewDevice given rules outcome =
-    IsNoServer given.audience given.free outcome ⊎ IsNoScope given.own outcome
-    ⊎ ((parts : ServerParts) × (token : OwnToken) × (error : NewError) × AreParts given rules parts
-    × IsOwnToken given.own given.draw token × IsNoDevice parts token error × (outcome ≡ unmade_as error))
+-- the size is that of the struct, and the rules are some
+abbrev pub AreSettings : GivenDevice → Type 0
+AreSettings given = (given.size ≡ device_settings_size) × AreRules given.rules
 
--- the same where the rules are given: they are none, or there was no memory for them; or no device is made with them
-abbrev pub IsNoNewDeviceWith : GivenDevice → GivenRules → Outcome → Type 0
-IsNoNewDeviceWith given rules outcome = IsUnfit (AreNoRules rules) outcome ⊎ IsNoNewDevice given (rules_of rules) outcome
+-- the size is another, or the rules are none
+abbrev pub AreNoSettings : GivenDevice → Type 0
+AreNoSettings given = ¬ (given.size ≡ device_settings_size) ⊎ AreNoRules given.rules
+
+abbrev pub IsNoNewDevice : GivenDevice → List ℕ → Outcome → Type 0
+IsNoNewDevice given draw outcome =
+    IsUnfit (AreNoSettings given) outcome ⊎ IsNoServer given.audience given.free outcome ⊎ IsNoScope given.own outcome
+    ⊎ ((parts : ServerParts) × (token : OwnToken) × (error : NewError) × AreParts given (rules_of given.rules) parts
+    × IsOwnToken given.own draw token × IsNoDevice parts token error × (outcome ≡ unmade_as error))
 
 -- `is_sealing algorithm` is the relation of the algorithm's cipher
 module _ (is_sealing : Sealings) where
   -- It begins with these parts and this token, which counts at its server, and has made no step.
-  pub record IsNewDevice (given : GivenDevice) (rules : Rules) (node : DeviceNode) : Type 0 where
+  pub record IsNewDevice (given : GivenDevice) (draw : List ℕ) (node : DeviceNode) : Type 0 where
     pub parts : ServerParts
     pub token : OwnToken
-    pub are_parts : AreParts given rules parts
-    pub is_token : IsOwnToken given.own given.draw token
+    pub are_settings : AreSettings given
+    pub are_parts : AreParts given (rules_of given.rules) parts
+    pub is_token : IsOwnToken given.own draw token
     pub begun : IsBegun is_sealing parts token node.device
     pub granted : (entries : List Entry) × IsScope token.scope entries × IsGranted is_sealing node.device (own_claims parts token) entries
     pub last : node.last ≡ nothing
-
-  -- the same with the rules that these are
-  abbrev pub IsNewDeviceWith : GivenDevice → GivenRules → DeviceNode → Type 0
-  IsNewDeviceWith given rules node = AreRules rules × IsNewDevice given (rules_of rules) node

@@ -1,4 +1,4 @@
--- The numbers of what calls answer, as include/osc.h has them.
+-- The numbers of what calls answer, as include/nozzlefern.h has them.
 use Rattle.std.specs.Prelude.{ℕ}
 use Rattle.osc_model.specs.Refusals as refusal
 use Rattle.osc_c.specs.declared.calls.outcome.Outcome.{Outcome}

@@ -1,5 +1,5 @@
 -- What a device does at its own server, by calls.
-use Rattle.std.specs.Prelude.{◌≡◌, ℕ, ◌<◌, ◌^◌, ◌⊎◌, Bool, true, false, if◌then◌else◌, List, [], Option, Some, None, ⊤}
+use Rattle.std.specs.Prelude.{◌≡◌, ℕ, ◌<◌, ◌^◌, ◌⊎◌, Bool, true, false, if◌then◌else◌, List, [], Option, Some, None, IsSome, ⊤}
 use Rattle.osc_model.specs.{IsPath, revocation_of}
 use Rattle.osc_model.specs.declared.code.Method.{Method}
 use Rattle.osc_model.specs.declared.code.Method.TheVariants.{Delete}
@@ -7,7 +7,8 @@ use Rattle.osc_model.specs.declared.node.Moment.{Moment}
 use Rattle.osc_model.specs.declared.request.Request.{Request}
 use Rattle.osc_model.specs.declared.step.ClientResult.{ClientResult}
 use Rattle.osc_model.specs.declared.step.ClientResult.TheVariants.{Refused}
-use Rattle.osc_client.specs.{Begins}
+use Rattle.osc_authz.specs.{ClientContextState}
+use Rattle.osc_client.specs.{Begins, IsFree}
 use Rattle.osc_client.specs.State.{State as Own}
 use Rattle.osc_ccm.specs.{Sealings, Tags}
 use Rattle.osc_scope.specs.{Entry}
@@ -15,7 +16,7 @@ use Rattle.osc_token.specs.declared.claims.Claims.{Claims}
 use Rattle.osc_device.specs.{IsAnsweredWhereReady, IsOpen, IsWhole, MayOpen, own_request, AskedOfServer, AsksItsServer, Carries, asked_by, AllGoOn, IsOfAnEntry, noted}
 use Rattle.osc_device.specs.declared.round.Round.{Round}
 use Rattle.osc_c.specs.Arguments.{IsFormat, IsNoFormat, IsUnfit}
-use Rattle.osc_c.specs.Given.{GivenId, GivenPath, GivenValue}
+use Rattle.osc_c.specs.Given.{GivenId, GivenPath, GivenValue, resource_size}
 use Rattle.osc_c.specs.Last.{LastStep, nothing}
 use Rattle.osc_c.specs.Plain.{draw_of}
 use Rattle.osc_c.specs.Told.{bare, told_of}
@@ -42,26 +43,27 @@ IsRefusal outcome.Exhausted = ⊤
 IsRefusal outcome.TooLong = ⊤
 IsRefusal other = ⊥
 
--- It comes to a round of this kind, of which the caller is told; where nothing was begun, nothing changes. Or there was no memory, and nothing
--- changes.
-abbrev pub ComesTo : DeviceNode → Told → DeviceNode → (Round → Type 0) → Type 0
-ComesTo old told new Does =
+-- It comes to a round of this kind, of which the caller is told; where nothing was begun, nothing changes. Or it takes memory, of which there was none,
+-- and nothing changes.
+abbrev pub ComesTo : DeviceNode → Told → DeviceNode → Type 0 → (Round → Type 0) → Type 0
+ComesTo old told new Takes Does =
     ((round : Round) × Does round × (told ≡ told_of round) × (new.last ≡ last_after round old.last)
     × (IsRefusal told.outcome → new ≡ old))
-    ⊎ ((told ≡ bare outcome.NoMemory) × (new ≡ old))
+    ⊎ ((told ≡ bare outcome.NoMemory) × (new ≡ old) × Takes)
 
--- it is no moment, no path, or no format
+-- it isn't of the struct's size, or it is no moment, no path, or no format
 abbrev pub IsNoValue : GivenValue → Type 0
-IsNoValue given = ¬ (given.ms < 2 ^ 63) ⊎ ¬ (IsPath given.path) ⊎ IsNoFormat given.format
+IsNoValue given = ¬ (given.size ≡ resource_size) ⊎ ¬ (given.ms < 2 ^ 63) ⊎ ¬ (IsPath given.path) ⊎ IsNoFormat given.format
 
 -- the path whose resource revokes the tokens of this id, where the device has a revocation path and the id isn't too long for it
 abbrev pub revoked_by : DeviceNode → List ℕ → Option (List ℕ)
 revoked_by node id = revocation_of node.device.server.desk.rules.revoked id
 
--- a value, which is put at its path, or appended to what is there
+-- a value, which is put at its path, or appended to what is there, with these draws
 pub record Writing : Type 0 where
   pub method : Method
   pub value : GivenValue
+  pub draws : PlainDraws
 
 -- the request that says so, with this format
 abbrev pub request_of : Writing → Option ℕ → Request
@@ -89,7 +91,8 @@ module _ (is_sealing : Sealings) where
 
   abbrev pub OpensBy : DeviceNode → ℕ → PlainDraws → Told → DeviceNode → Type 0
   OpensBy old ms draws told new =
-      ((now : Moment) × (now.ms ≡ ms) × ComesTo old told new (λ round. Opens old now draws round new)) ⊎ IsRejected (¬ (ms < 2 ^ 63)) old told new
+      ((now : Moment) × (now.ms ≡ ms) × ComesTo old told new (old.device.own.waiting ≡ None) (λ round. Opens old now draws round new))
+      ⊎ ((told ≡ bare outcome.BadArgument) × ¬ (ms < 2 ^ 63) × (new ≡ old))
 
   module _ (tag : Tags) where
     -- The device asks its server so; where it may, and no step wants memory, it is answered. Each run goes on by these steps, and a reply that
@@ -101,16 +104,21 @@ module _ (is_sealing : Sealings) where
         × AllGoOn old.device (λ number. noted number round) new.device
         × IsOfAnEntry old.device round
 
+    -- nothing hinders the request
+    abbrev pub IsBegun : DeviceNode → PlainDraws → Request → Type 0
+    IsBegun old draws request = (context : ClientContextState) × IsFree is_sealing tag old.device.own request (draw_of draws.own) context
+
     abbrev pub AsksBy : DeviceNode → Writing → Told → DeviceNode → Type 0
     AsksBy old writing told new =
-        ((now : Moment) × (format : Option ℕ) × (now.ms ≡ writing.value.ms) × IsFormat writing.value.format format
-        × ComesTo old told new (λ round. Asks old (asked_for writing.value.draws now (request_of writing format)) round new))
+        ((now : Moment) × (format : Option ℕ) × (writing.value.size ≡ resource_size) × (now.ms ≡ writing.value.ms) × IsFormat writing.value.format format
+        × ComesTo old told new (IsBegun old writing.draws (request_of writing format)) (λ round. Asks old (asked_for writing.draws now (request_of writing format)) round new))
         ⊎ IsRejected (IsNoValue writing.value) old told new
 
     abbrev pub RemovesBy : DeviceNode → GivenPath → Told → DeviceNode → Type 0
     RemovesBy old given told new =
         ((now : Moment) × (now.ms ≡ given.ms)
-        × ComesTo old told new (λ round. Asks old (asked_for given.draws now (own_request Delete given.path None [])) round new))
+        × ComesTo old told new (IsBegun old given.draws (own_request Delete given.path None []))
+        (λ round. Asks old (asked_for given.draws now (own_request Delete given.path None [])) round new))
         ⊎ IsRejected (¬ (given.ms < 2 ^ 63) ⊎ ¬ (IsPath given.path)) old told new
 
     -- The device asks for nothing but this method, at the path that revokes the tokens of this id: PUT revokes them, and DELETE lets them in again.
@@ -118,5 +126,6 @@ module _ (is_sealing : Sealings) where
     abbrev pub AsksOfId : Method → DeviceNode → GivenId → Told → DeviceNode → Type 0
     AsksOfId method old given told new =
         ((now : Moment) × (path : List ℕ) × (now.ms ≡ given.ms) × (revoked_by old given.id ≡ Some path)
-        × ComesTo old told new (λ round. Asks old (asked_for given.draws now (own_request method path None [])) round new))
+        × ComesTo old told new (IsSome old.device.server.desk.rules.revoked)
+        (λ round. Asks old (asked_for given.draws now (own_request method path None [])) round new))
         ⊎ IsRejected (¬ (given.ms < 2 ^ 63) ⊎ (revoked_by old given.id ≡ None)) old told new

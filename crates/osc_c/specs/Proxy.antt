@@ -1,5 +1,5 @@
 -- A proxy by calls.
-use Rattle.std.specs.Prelude.{◌≡◌, ℕ, ◌⊎◌, true, false, ◌↔◌, ◌≤◌, List, [], ◌∷◌, ◌++◌}
+use Rattle.std.specs.Prelude.{◌≡◌, ℕ, ◌⊎◌, true, false, ◌↔◌, ◌≤◌, List, [], ◌∷◌, ◌++◌, ⊤}
 use Rattle.osc_model.specs.Arrival.{Arrival}
 use Rattle.osc_model.specs.declared.node.Draw.{Draw}
 use Rattle.osc_model.specs.declared.node.Moment.{Moment}
@@ -7,6 +7,7 @@ use Rattle.osc_model.specs.declared.step.Step.{Step}
 use Rattle.osc_message.specs.{fresh}
 use Rattle.osc_client.specs.{IsHost}
 use Rattle.osc_proxy.specs.{none_open, Hears, restarted, acts}
+use Rattle.osc_proxy.specs.Hearing.{MayBeAnswered}
 use Rattle.osc_proxy.specs.State.{State}
 use Rattle.osc_proxy.specs.Ticks.{Ticks}
 use Rattle.osc_proxy.specs.declared.targets.Target.{Target}
@@ -31,7 +32,16 @@ abbrev pub restarted_from : Forwarding → Forwarding
 restarted_from (Setting targets) = Setting targets
 restarted_from (Running proxy) = Running (restarted proxy)
 
--- A target is added behind the others before the first event, where there is memory for it; and none behind it.
+-- To run takes memory; a proxy that runs takes it for what it may answer, and for no tick.
+abbrev pub HearsInMemory : Forwarding → Arrival (List ℕ) → Type 0
+HearsInMemory (Setting targets) came = ⊤
+HearsInMemory (Running proxy) came = MayBeAnswered proxy came
+
+abbrev pub TicksInMemory : Forwarding → Type 0
+TicksInMemory (Setting targets) = ⊤
+TicksInMemory (Running proxy) = ⊥
+
+-- A target is added after the others before the first event, where there is memory for it; and none after it.
 abbrev pub AddsTargetTo : Target → Forwarding → ProxyNode → Outcome → ProxyNode → Type 0
 AddsTargetTo target (Setting targets) old outcome new =
     ((outcome ≡ Done) × (new ≡ record old { forwarding = Setting (targets ++ target ∷ []) })) ⊎ Stays NoMemory old outcome new
@@ -50,13 +60,14 @@ abbrev pub HeardAt : ProxyNode → Arrival (List ℕ) → ProxyNode → Type 0
 HeardAt old came new = Makes old (λ s step t. Hears s came step t) new
 
 abbrev pub HeardBy : ProxyNode → GivenDatagram → Draw → Outcome → ProxyNode → Type 0
-HeardBy old given draw outcome new = At given.ms old outcome new (λ now. HeardAt old (came_at given now draw) new)
+HeardBy old given draw outcome new =
+    At given.ms old outcome new (λ now. HearsInMemory old.forwarding (came_at given now draw)) (λ now. HeardAt old (came_at given now draw) new)
 
 abbrev pub TickedAt : ProxyNode → Moment → Draw → ProxyNode → Type 0
 TickedAt old now draw new = Makes old (λ s step t. Ticks s now draw step t) new
 
 abbrev pub TickedBy : ProxyNode → ℕ → Draw → Outcome → ProxyNode → Type 0
-TickedBy old ms draw outcome new = At ms old outcome new (λ now. TickedAt old now draw new)
+TickedBy old ms draw outcome new = At ms old outcome new (λ now. TicksInMemory old.forwarding) (λ now. TickedAt old now draw new)
 
 -- the first moment is told at which a tick does anything, if one does
 abbrev pub TellsDeadline : ProxyNode → ℕ → Outcome → ℕ → Type 0

@@ -1,4 +1,4 @@
--- What a client learnt, as include/osc.h tells it.
+-- What a client learnt, as include/nozzlefern.h tells it.
 use Rattle.std.specs.Prelude.{◌≡◌, ℕ, List, [], length, Option, option_and_then, MatchOption, negsuc}
 use Rattle.osc_model.specs.declared.step.ClientResult.{ClientResult}
 use Rattle.osc_model.specs.declared.step.ClientResult.TheVariants.{Made, Answer, Unverified, TimedOut, Refused}

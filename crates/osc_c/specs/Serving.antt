@@ -1,15 +1,15 @@
--- What a step of a device's server served and refused, as include/osc.h tells it.
-use Rattle.std.specs.Prelude.{◌≡◌, ℕ, ◌⊎◌, ◌≤◌, List, [], ◌∷◌, length, Option, Some, None, MatchOption, option_and_then}
+-- What a step of a device's server served and refused, as include/nozzlefern.h tells it.
+use Rattle.std.specs.Prelude.{◌≡◌, ℕ, ◌⊎◌, List, [], ◌∷◌, ◌++◌, length, Option, Some, None, MatchOption, option_and_then}
 use Rattle.osc_model.specs.declared.node.Peer.{Peer}
 use Rattle.osc_model.specs.declared.step.RefusedRequest.{RefusedRequest}
 use Rattle.osc_model.specs.{method_number}
 use Rattle.osc_model.specs.declared.code.Method.{Method}
 use Rattle.osc_device.specs.{ServedRequest, refused_in, served_in}
-use Rattle.osc_c.specs.Filling.{written}
+use Rattle.osc_c.specs.Filling.{if_fits, written}
 use Rattle.osc_c.specs.Last.{LastStep}
 use Rattle.osc_c.specs.Plain.{plain_peer}
 use Rattle.osc_c.specs.declared.calls.outcome.Outcome.{Outcome}
-use Rattle.osc_c.specs.declared.calls.outcome.Outcome.TheVariants.{Done, NoMemory, Nothing, TooShort}
+use Rattle.osc_c.specs.declared.calls.outcome.Outcome.TheVariants.{Done, NoMemory, Nothing}
 use Rattle.osc_c.specs.declared.calls.plain.PlainRefused.{PlainRefused}
 use Rattle.osc_c.specs.declared.calls.plain.PlainServed.{PlainServed}
 
@@ -60,34 +60,21 @@ plain_served served = record {
   context_length = length (bytes_of served.by.kid_context);
 }
 
--- a caller's room for its bytes
-pub record Rooms : Type 0 where
-  pub path : List ℕ
-  pub payload : List ℕ
-  pub context : List ℕ
+-- its bytes: the path, the payload and the id context, one after the other
+abbrev pub told_bytes : ServedRequest → List ℕ
+told_bytes served = bytes_of served.path ++ served.payload ++ bytes_of served.by.kid_context
 
-abbrev pub AllFit : ServedRequest → Rooms → Type 0
-AllFit served rooms =
-    (length (bytes_of served.path) ≤ length rooms.path) × (length served.payload ≤ length rooms.payload)
-    × (length (bytes_of served.by.kid_context) ≤ length rooms.context)
-
--- Its numbers are told, and its bytes are written where they have room.
-abbrev pub HasServed : ServedRequest → Rooms → Outcome → PlainServed → Rooms → Type 0
-HasServed served rooms outcome new filled =
-    (((outcome ≡ Done) × AllFit served rooms) ⊎ ((outcome ≡ TooShort) × ¬ (AllFit served rooms)))
-    × (new ≡ plain_served served)
-    × (filled ≡ record {
-      path = written (bytes_of served.path) rooms.path;
-      payload = written served.payload rooms.payload;
-      context = written (bytes_of served.by.kid_context) rooms.context;
-    })
+-- Its numbers are told, and its bytes are written where there is room.
+abbrev pub HasServed : ServedRequest → List ℕ → Outcome → PlainServed → List ℕ → Type 0
+HasServed served room outcome new filled =
+    (outcome ≡ if_fits (told_bytes served) room) × (new ≡ plain_served served) × (filled ≡ written (told_bytes served) room)
 
 -- what the last step served
 abbrev pub served_by_last : LastStep → Option ServedRequest
 served_by_last last = option_and_then (λ step. served_in step.notes) last.step
 
--- It is told; or there was none, or no memory, and nothing is.
-abbrev pub TellsServed : Option ServedRequest → PlainServed → Rooms → Outcome → PlainServed → Rooms → Type 0
-TellsServed found old rooms outcome new filled =
-    MatchOption found ((outcome ≡ Nothing) × (new ≡ old) × (filled ≡ rooms)) (λ served. HasServed served rooms outcome new filled)
-    ⊎ ((outcome ≡ NoMemory) × (new ≡ old) × (filled ≡ rooms))
+-- It is told, or there was no memory for it, and nothing is. Where there was none, that takes no memory.
+abbrev pub TellsServed : Option ServedRequest → PlainServed → List ℕ → Outcome → PlainServed → List ℕ → Type 0
+TellsServed found old room outcome new filled =
+    MatchOption found ((outcome ≡ Nothing) × (new ≡ old) × (filled ≡ room))
+    (λ served. HasServed served room outcome new filled ⊎ ((outcome ≡ NoMemory) × (new ≡ old) × (filled ≡ room)))

@@ -10,7 +10,7 @@ use Rattle.osc_token.specs.{most_claims, algorithm_header, claims_item, token_ob
 use Rattle.osc_token.specs.declared.claims.Claims.{Claims}
 use Rattle.osc_c.specs.Arguments.{IsUnfit}
 use Rattle.osc_c.specs.Filling.{Room, if_fits, written}
-use Rattle.osc_c.specs.Given.{GivenClaims}
+use Rattle.osc_c.specs.Given.{GivenClaims, claims_size}
 use Rattle.osc_c.specs.Granted.{IsNoAlgorithm, id_context_of}
 use Rattle.osc_c.specs.declared.calls.outcome.Outcome.{Outcome}
 use Rattle.osc_c.specs.declared.calls.outcome.Outcome.TheVariants.{BadScope, NoMemory, TooLong}
@@ -37,7 +37,7 @@ HaveNoLengths id secret context = (64 < length id) ⊎ (length secret < 1) ⊎ (
 abbrev pub IsNoClaims : GivenClaims → Outcome → Type 0
 IsNoClaims given outcome =
     IsUnfit
-    (HaveNoLengths given.id given.secret given.context ⊎ IsNoAlgorithm given.algorithm ⊎ (1 < given.has_context) ⊎ ¬ (IsUtf8 given.audience)) outcome
+    (¬ (given.size ≡ claims_size) ⊎ HaveNoLengths given.id given.secret given.context ⊎ IsNoAlgorithm given.algorithm ⊎ (1 < given.has_context) ⊎ ¬ (IsUtf8 given.audience)) outcome
     ⊎ ((outcome ≡ BadScope) × IsNoScopeText given.scope)
 
 -- why no token of these claims is minted: they are too long, or there was no memory

@@ -1,13 +1,13 @@
--- What stands at a path, as include/osc.h tells it.
+-- What is at a path, as include/nozzlefern.h tells it.
 use Rattle.std.specs.Prelude.{◌≡◌, ℕ, ◌⊎◌, List, length, Option, MatchOption}
 use Rattle.std.specs.FinMap as map
 use Rattle.osc_model.specs.{IsPath}
 use Rattle.osc_model.specs.declared.resource.Resource.{Resource}
-use Rattle.osc_c.specs.Arguments.{IsUnfit, format_number}
+use Rattle.osc_c.specs.Arguments.{format_number}
 use Rattle.osc_c.specs.Filling.{if_fits, written}
 use Rattle.osc_c.specs.declared.calls.device.DeviceNode.{DeviceNode}
 use Rattle.osc_c.specs.declared.calls.outcome.Outcome.{Outcome}
-use Rattle.osc_c.specs.declared.calls.outcome.Outcome.TheVariants.{Nothing}
+use Rattle.osc_c.specs.declared.calls.outcome.Outcome.TheVariants.{BadArgument, NoMemory, Nothing}
 use Rattle.osc_c.specs.declared.calls.plain.PlainValue.{PlainValue}
 
 -- a caller's room for a payload, and what it is told of it
@@ -28,8 +28,8 @@ abbrev pub TellsValue : Option Resource → ValueRoom → Outcome → ValueRoom 
 TellsValue found room outcome filled =
     MatchOption found ((outcome ≡ Nothing) × TellsNoValue room filled) (λ resource. HasValue resource room outcome filled)
 
--- What stands there is told; or the text is no path, or there was no memory for it.
+-- What is at a path is told, or there was no memory for the path; of a text that is none nothing is, whatever memory there is.
 abbrev pub TellsValueAt : DeviceNode → List ℕ → ValueRoom → Outcome → ValueRoom → Type 0
 TellsValueAt node path room outcome filled =
-    TellsValue (map.get node.device.server.tree path) room outcome filled
-    ⊎ (IsUnfit (¬ (IsPath path)) outcome × TellsNoValue room filled)
+    (IsPath path × (TellsValue (map.get node.device.server.tree path) room outcome filled ⊎ ((outcome ≡ NoMemory) × TellsNoValue room filled)))
+    ⊎ (¬ (IsPath path) × (outcome ≡ BadArgument) × TellsNoValue room filled)

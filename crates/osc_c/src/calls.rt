@@ -17,18 +17,18 @@ mod serving;
 mod setting;
 mod tokens;
 
-pub use client::{ClientNode, GivenGrant, GivenRequest};
+pub use client::ClientNode;
 pub use device::DeviceNode;
-pub use filling::fill;
+pub use filling::{fill, fill_three};
 pub use last::Last;
-pub use making::{GivenDevice, Rules};
+pub use making::Rules;
 pub use outcome::Outcome;
-pub use own::GivenValue;
 pub use plain::{
-    PlainDraw, PlainDraws, PlainIv, PlainKey, PlainOptions, PlainPeer, PlainRefused, PlainResult,
-    PlainRules, PlainServed, PlainValue,
+    PlainBytes, PlainClaims, PlainClientSettings, PlainDeviceSettings, PlainDraw, PlainDraws,
+    PlainIv, PlainKey, PlainOptions, PlainPeer, PlainRefused, PlainRequest, PlainResource,
+    PlainResult, PlainServed, PlainValue,
 };
 pub use proxy::{Forwarding, ProxyNode};
 pub use round::Told;
 pub use setting::Settings;
-pub use tokens::{GivenClaims, claims, mint};
+pub use tokens::{claims, mint};

@@ -4,7 +4,7 @@ ghost use Rattle.std.specs.declared.option.Option.TheVariants.{None};
 ghost use Rattle.osc_client.specs.{restarted};
 ghost use Rattle.osc_c.specs.Client.{AskedBy, BegunBy, HeardBy, IsNewClient, TellsContext, TellsDeadline, TickedBy};
 ghost use Rattle.osc_c.specs.Arguments.{IsUnfit};
-ghost use Rattle.osc_c.specs.Given.{GivenGrant as Given};
+ghost use Rattle.osc_c.specs.Given.{grant_given, request_given};
 ghost use Rattle.osc_c.specs.Granted.{IsNoClient};
 ghost use Rattle.osc_c.specs.Last.{HandsOut, nothing};
 ghost use Rattle.osc_c.specs.Plain.{draw_of, peer_of};
@@ -14,7 +14,7 @@ ghost use Rattle.osc_c.specs.Calls.{Calls, Looks, Makes};
 ghost use Rattle.osc_c.specs.Ciphers.{sealing, tags};
 
 use crate::calls::{
-    ClientNode, GivenGrant, GivenRequest, Outcome, PlainDraw, PlainOptions, PlainPeer, PlainResult,
+    ClientNode, Outcome, PlainClientSettings, PlainDraw, PlainPeer, PlainRequest, PlainResult,
 };
 use crate::handle::{hold, taken, with};
 use crate::handles::ClientHandle;
@@ -23,54 +23,26 @@ use std::alloc::Global;
 
 /// Makes a client that was granted this token, in the place of one that is held.
 ///
-/// Answers 0; or 9 without memory, and 34 where a length or the algorithm is out of its range: then what was held is held. Heap: some 19 KiB, for
-/// as long as it is held.
+/// Answers 0; or 9 without memory, and 34 where `size` isn't that of the struct, or a length or the algorithm is out of its range: then what was held
+/// is held. Heap: some 19 KiB, for as long as it is held.
 #[unsafe(no_mangle)]
-pub extern "C" fn osc_client_new(
+pub extern "C" fn nzf_client_new(
     alloc: Global,
     client: &mut ClientHandle,
-    next_hop: &PlainPeer,
-    host: &[u8],
-    port: u16,
-    token: &[u8],
-    secret: &[u8],
-    salt: &[u8],
-    context: &[u8],
-    has_context: u8,
-    algorithm: u8,
+    settings: &PlainClientSettings<'_>,
 ) -> i32
-    ensures { let given : Given = record {
-      next_hop = peer_of next_hop.now;
-      host = host.now;
-      port = port;
-      token = token.now;
-      secret = secret.now;
-      salt = salt.now;
-      context = context.now;
-      has_context = has_context;
-      algorithm = algorithm;
-    } in Makes client.old.held result client.new.held (λ node. IsNewClient given node) (IsUnfit (IsNoClient given)) }
+    ensures { Makes client.old.held result client.new.held (λ node. IsNewClient (grant_given settings.now) node)
+        (IsUnfit (IsNoClient (grant_given settings.now))) }
 {
-    let given = GivenGrant {
-        next_hop,
-        host,
-        port,
-        token,
-        secret,
-        salt,
-        context,
-        has_context,
-        algorithm,
-    };
-    hold(alloc, client, ClientNode::new(alloc, &given)).number()
+    hold(alloc, client, ClientNode::new(alloc, settings)).number()
 }
 
-/// Posts the token. Where it isn't begun, `osc_client_result` tells why.
+/// Posts the token. Where it isn't begun, `nzf_client_result` tells why.
 ///
 /// Answers 0; or 9 without memory, 34 where the moment is none, and 33 where nothing is held: then what was held is held. Heap: the post, while
 /// it is open.
 #[unsafe(no_mangle)]
-pub extern "C" fn osc_client_exchange(
+pub extern "C" fn nzf_client_exchange(
     alloc: Global,
     client: &mut ClientHandle,
     now: u64,
@@ -88,41 +60,26 @@ pub extern "C" fn osc_client_exchange(
     .number()
 }
 
-/// Asks for this under protection. Where it isn't begun, `osc_client_result` tells why.
+/// Asks for this under protection. Where it isn't begun, `nzf_client_result` tells why.
 ///
-/// Answers 0; or 9 without memory, 34 where an argument is out of its range, and 33 where nothing is held: then what was held is held. Heap: the
-/// request, while it is open.
+/// Answers 0; or 9 without memory, 34 where `size` isn't that of the struct or an argument is out of its range, and 33 where nothing is held: then what
+/// was held is held. Heap: the request, while it is open.
 #[unsafe(no_mangle)]
-pub extern "C" fn osc_client_ask(
+pub extern "C" fn nzf_client_ask(
     alloc: Global,
     client: &mut ClientHandle,
     now: u64,
-    method: u8,
-    path: &[u8],
-    options: &PlainOptions,
-    payload: &[u8],
+    request: &PlainRequest<'_>,
     draw: &PlainDraw,
 ) -> i32
-    ensures { Calls client.old.held result client.new.held (λ old outcome new. AskedBy sealing tags old
-        (record { ms = now; method = method; path = path.now; options = options.now; payload = payload.now; draw = draw_of draw.now }) outcome new) }
+    ensures { Calls client.old.held result client.new.held (λ old outcome new. AskedBy sealing tags old (request_given now request.now draw.now) outcome new) }
 {
     with(
         alloc,
         client,
         &mut |node|
-            ensures { AskedBy sealing tags node.old
-                (record { ms = now; method = method; path = path.entry.now; options = options.entry.now; payload = payload.entry.now; draw = draw_of draw.entry.now }) result node.new }
-        {
-            let given = GivenRequest {
-                ms: now,
-                method,
-                path,
-                options,
-                payload,
-                draw,
-            };
-            node.ask::<Suite>(alloc, &given)
-        },
+            ensures { AskedBy sealing tags node.old (request_given now request.entry.now draw.entry.now) result node.new }
+        { node.ask::<Suite>(alloc, now, request, draw) },
     )
     .number()
 }
@@ -131,7 +88,7 @@ pub extern "C" fn osc_client_ask(
 ///
 /// Answers 0; or 9 without memory, 34 where the moment is none, and 33 where nothing is held: then what was held is held. Heap: for the step.
 #[unsafe(no_mangle)]
-pub extern "C" fn osc_client_on_datagram(
+pub extern "C" fn nzf_client_on_datagram(
     alloc: Global,
     client: &mut ClientHandle,
     now: u64,
@@ -155,7 +112,7 @@ pub extern "C" fn osc_client_on_datagram(
 ///
 /// Answers 0; or 9 without memory, 34 where the moment is none, and 33 where nothing is held: then what was held is held. Heap: for the step.
 #[unsafe(no_mangle)]
-pub extern "C" fn osc_client_on_tick(alloc: Global, client: &mut ClientHandle, now: u64) -> i32
+pub extern "C" fn nzf_client_on_tick(alloc: Global, client: &mut ClientHandle, now: u64) -> i32
     ensures { Calls client.old.held result client.new.held (λ old outcome new. TickedBy old now outcome new) }
 {
     with(
@@ -172,7 +129,7 @@ pub extern "C" fn osc_client_on_tick(alloc: Global, client: &mut ClientHandle, n
 ///
 /// Answers 0; or 33 where none would, or nothing is held. Heap: none.
 #[unsafe(no_mangle)]
-pub extern "C" fn osc_client_next_deadline(
+pub extern "C" fn nzf_client_next_deadline(
     alloc: Global,
     client: &mut ClientHandle,
     moment: &mut u64,
@@ -187,7 +144,7 @@ pub extern "C" fn osc_client_next_deadline(
 /// Answers 0 with its bytes and to whom they go; or 33 once all were taken, or where nothing is held, and 2 where `bytes` is too short: the
 /// datagram stays to be taken. Heap: none.
 #[unsafe(no_mangle)]
-pub extern "C" fn osc_client_next(
+pub extern "C" fn nzf_client_next(
     alloc: Global,
     client: &mut ClientHandle,
     to: &mut PlainPeer,
@@ -203,7 +160,7 @@ pub extern "C" fn osc_client_next(
 ///
 /// Answers 0; or 33 where it learnt nothing, or nothing is held, and 2 where `payload` is too short. Heap: none.
 #[unsafe(no_mangle)]
-pub extern "C" fn osc_client_result(
+pub extern "C" fn nzf_client_result(
     alloc: Global,
     client: &mut ClientHandle,
     learnt: &mut PlainResult,
@@ -218,7 +175,7 @@ pub extern "C" fn osc_client_result(
 ///
 /// Answers 0; or 33 where it has no security context, or nothing is held. Heap: none.
 #[unsafe(no_mangle)]
-pub extern "C" fn osc_client_context(
+pub extern "C" fn nzf_client_context(
     alloc: Global,
     client: &mut ClientHandle,
     number: &mut u64,
@@ -232,7 +189,7 @@ pub extern "C" fn osc_client_context(
 ///
 /// Answers 0; or 33 where nothing is held. Heap: none.
 #[unsafe(no_mangle)]
-pub extern "C" fn osc_client_restart(alloc: Global, client: &mut ClientHandle) -> i32
+pub extern "C" fn nzf_client_restart(alloc: Global, client: &mut ClientHandle) -> i32
     ensures { Calls client.old.held result client.new.held (λ old outcome new. (outcome ≡ Done) × (new ≡ record { client = restarted old.client; last = nothing })) }
 {
     with(
@@ -248,7 +205,7 @@ pub extern "C" fn osc_client_restart(alloc: Global, client: &mut ClientHandle) -
 
 /// Lets the client go, so that nothing is held.
 #[unsafe(no_mangle)]
-pub extern "C" fn osc_client_free(alloc: Global, client: &mut ClientHandle)
+pub extern "C" fn nzf_client_free(alloc: Global, client: &mut ClientHandle)
     ensures { client.new.held ≡ None }
 {
     drop(taken(alloc, client));

@@ -2,88 +2,50 @@
 ghost use Rattle.std.specs.Prelude.{◌≡◌};
 ghost use Rattle.std.specs.declared.option.Option.TheVariants.{None};
 ghost use Rattle.osc_c.specs.Device.{HeardBy, Restarts, TellsDeadline, TickedBy};
-ghost use Rattle.osc_c.specs.Given.{GivenDevice as Given, GivenRules};
+ghost use Rattle.osc_c.specs.Given.{device_given};
 ghost use Rattle.osc_c.specs.Last.{HandsOut};
-ghost use Rattle.osc_c.specs.Making.{IsNewDevice, IsNewDeviceWith, IsNoNewDevice, IsNoNewDeviceWith, no_rules};
+ghost use Rattle.osc_c.specs.Making.{IsNewDevice, IsNoNewDevice};
 ghost use Rattle.osc_c.specs.Plain.{draw_of, peer_of};
 ghost use Rattle.osc_c.specs.declared.calls.outcome.Outcome.TheVariants.{Done};
 ghost use Rattle.osc_c.specs.Calls.{Calls, Looks, Makes};
 ghost use Rattle.osc_c.specs.Ciphers.{sealing};
 
-use crate::calls::{
-    DeviceNode, GivenDevice, Outcome, PlainDraw, PlainKey, PlainPeer, PlainRules, Rules,
-};
+use crate::calls::{DeviceNode, Outcome, PlainDeviceSettings, PlainDraw, PlainPeer};
 use crate::handle::{hold, taken, with};
 use crate::handles::DeviceHandle;
 use osc_ccm::Suite;
 use std::alloc::Global;
 
 /// Makes a device without resources, in the place of one that is held. Its server takes tokens that are sealed under `key` and for `audience`.
-/// GETs that `free` grants need no protection. The device itself may do what `own` grants.
+/// GETs that `unprotected` grants need no protection. The device itself may do what `own` grants. Tokens under a former key are taken, too, a context counts
+/// for so many seconds, and resources below the path of the text `revoked`, which is empty for none, revoke tokens.
 ///
-/// Answers 0; or 9 without memory, 14 where its token is too long to be posted in a datagram, 24 where a text is no scope, and 34 where the
-/// audience is no UTF-8. Then what was held is held. Heap: some 38 KiB, for as long as it is held.
+/// Answers 0; or 9 without memory, 14 where its token is too long to be posted in a datagram, 24 where a text is no scope, and 34 where `size` isn't
+/// that of the struct, the audience is no UTF-8, the flag isn't 0 or 1, or `revoked` is no path, or one of more than 4 segments. Then what was held is
+/// held. Heap: some 38 KiB, for as long as it is held.
 #[unsafe(no_mangle)]
-pub extern "C" fn osc_device_new(
+pub extern "C" fn nzf_device_new(
     alloc: Global,
     device: &mut DeviceHandle,
-    key: &PlainKey,
-    audience: &[u8],
-    free: &[u8],
-    own: &[u8],
+    settings: &PlainDeviceSettings<'_>,
     draw: &PlainDraw,
 ) -> i32
-    ensures { let given : Given = record { key = key.now.bytes; audience = audience.now; free = free.now; own = own.now; draw = draw.now.bytes } in
-        Makes device.old.held result device.new.held (λ node. IsNewDevice sealing given no_rules node) (IsNoNewDevice given no_rules) }
+    ensures { Makes device.old.held result device.new.held (λ node. IsNewDevice sealing (device_given settings.now) draw.now.bytes node)
+        (IsNoNewDevice (device_given settings.now) draw.now.bytes) }
 {
-    let given = GivenDevice {
-        key,
-        audience,
-        free,
-        own,
-        draw,
-    };
-    let made = DeviceNode::new::<Suite>(alloc, &given, Rules::none());
-    hold(alloc, device, made).number()
-}
-
-/// Makes a device as `osc_device_new` does, whose server takes tokens under a former key, too, lets a context count for so many seconds, and
-/// revokes tokens by resources below the path of the text `revoked`, which is empty for none.
-///
-/// Answers as `osc_device_new`; and 34 where the flag of `rules` isn't 0 or 1, and where the text is no path, or one of more than 4 segments. Then
-/// what was held is held. Heap: some 38 KiB, for as long as it is held.
-#[unsafe(no_mangle)]
-pub extern "C" fn osc_device_new_with(
-    alloc: Global,
-    device: &mut DeviceHandle,
-    key: &PlainKey,
-    audience: &[u8],
-    free: &[u8],
-    own: &[u8],
-    draw: &PlainDraw,
-    rules: &PlainRules,
-    revoked: &[u8],
-) -> i32
-    ensures { let given : Given = record { key = key.now.bytes; audience = audience.now; free = free.now; own = own.now; draw = draw.now.bytes } in
-        let with : GivenRules = record { plain = rules.now; revoked = revoked.now } in
-        Makes device.old.held result device.new.held (λ node. IsNewDeviceWith sealing given with node) (IsNoNewDeviceWith given with) }
-{
-    let given = GivenDevice {
-        key,
-        audience,
-        free,
-        own,
-        draw,
-    };
-    let made = DeviceNode::new_with::<Suite>(alloc, &given, rules, revoked);
-    hold(alloc, device, made).number()
+    hold(
+        alloc,
+        device,
+        DeviceNode::new::<Suite>(alloc, settings, draw),
+    )
+    .number()
 }
 
 /// These bytes came from this peer at this moment as one datagram.
 ///
 /// Answers 0; or 9 without memory, 34 where the moment is none, and 33 where nothing is held: then what was held is held. Heap: for the step.
 #[unsafe(no_mangle)]
-pub extern "C" fn osc_device_on_datagram(
+pub extern "C" fn nzf_device_on_datagram(
     alloc: Global,
     device: &mut DeviceHandle,
     now: u64,
@@ -108,7 +70,7 @@ pub extern "C" fn osc_device_on_datagram(
 ///
 /// Answers 0; or 9 without memory, 34 where the moment is none, and 33 where nothing is held: then what was held is held. Heap: for the step.
 #[unsafe(no_mangle)]
-pub extern "C" fn osc_device_on_tick(
+pub extern "C" fn nzf_device_on_tick(
     alloc: Global,
     device: &mut DeviceHandle,
     now: u64,
@@ -130,7 +92,7 @@ pub extern "C" fn osc_device_on_tick(
 ///
 /// Answers 0; or 33 where none would, or nothing is held. Heap: none.
 #[unsafe(no_mangle)]
-pub extern "C" fn osc_device_next_deadline(
+pub extern "C" fn nzf_device_next_deadline(
     alloc: Global,
     device: &mut DeviceHandle,
     moment: &mut u64,
@@ -145,7 +107,7 @@ pub extern "C" fn osc_device_next_deadline(
 /// Answers 0 with its bytes and to whom they go; or 33 once all were taken, or where nothing is held, and 2 where `bytes` is too short: the
 /// datagram stays to be taken. Heap: none.
 #[unsafe(no_mangle)]
-pub extern "C" fn osc_device_next(
+pub extern "C" fn nzf_device_next(
     alloc: Global,
     device: &mut DeviceHandle,
     to: &mut PlainPeer,
@@ -161,7 +123,7 @@ pub extern "C" fn osc_device_next(
 ///
 /// Answers 0; or 33 where nothing is held. Heap: none.
 #[unsafe(no_mangle)]
-pub extern "C" fn osc_device_restart(alloc: Global, device: &mut DeviceHandle) -> i32
+pub extern "C" fn nzf_device_restart(alloc: Global, device: &mut DeviceHandle) -> i32
     ensures { Calls device.old.held result device.new.held (λ old outcome new. (outcome ≡ Done) × Restarts old new) }
 {
     with(
@@ -179,7 +141,7 @@ pub extern "C" fn osc_device_restart(alloc: Global, device: &mut DeviceHandle) -
 
 /// Lets the device go, so that nothing is held.
 #[unsafe(no_mangle)]
-pub extern "C" fn osc_device_free(alloc: Global, device: &mut DeviceHandle)
+pub extern "C" fn nzf_device_free(alloc: Global, device: &mut DeviceHandle)
     ensures { device.new.held ≡ None }
 {
     drop(taken(alloc, device));

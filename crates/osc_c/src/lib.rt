@@ -1,4 +1,4 @@
-//! Devices, clients and proxies for C: include/osc.h says each call.
+//! Devices, clients and proxies for C: include/nozzlefern.h says each call.
 #![tactic(auto)]
 
 mod calls;

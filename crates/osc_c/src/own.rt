@@ -1,14 +1,15 @@
 //! What a device does at its own server.
 ghost use Rattle.std.specs.Prelude.{◌≡◌, ◌≢◌, pos};
 ghost use Rattle.osc_model.specs.declared.code.Method.TheVariants.{Delete, Post, Put};
+ghost use Rattle.osc_c.specs.Given.{value_given};
 ghost use Rattle.osc_c.specs.Own.{AsksBy, AsksOfId, OpensBy, RemovesBy};
 ghost use Rattle.osc_c.specs.Calls.{Tells};
 ghost use Rattle.osc_c.specs.declared.calls.outcome.Outcome.TheVariants as outcome;
 ghost use Rattle.osc_c.specs.declared.calls.round.Told.{Told};
 ghost use Rattle.osc_c.specs.Ciphers.{sealing, tags};
 
-use crate::calls::{GivenValue, Outcome, PlainDraws, Told};
-use crate::handle::{put_back, taken, with};
+use crate::calls::{Outcome, PlainDraws, PlainResource, Told};
+use crate::handle::with;
 use crate::handles::DeviceHandle;
 use osc_ccm::Suite;
 use osc_model::Method;
@@ -28,7 +29,7 @@ fn tell(told: Told, code: &mut u8) -> Outcome
 /// Answers 0; or 9 without memory, 17 where something is open, 34 where the moment is none, 33 where nothing is held: then what was held is held;
 /// or 35 or 36. Heap: some 2 KiB, while the context lives.
 #[unsafe(no_mangle)]
-pub extern "C" fn osc_device_open(
+pub extern "C" fn nzf_device_open(
     alloc: Global,
     device: &mut DeviceHandle,
     now: u64,
@@ -51,75 +52,69 @@ pub extern "C" fn osc_device_open(
     .number()
 }
 
-/// Puts this value at the path, as a holder of the device's token does. `code` is the answer's, where 0 or 36 is answered, and else 0.
+/// Puts this value at its path, as a holder of the device's token does. `code` is the answer's, where 0 or 36 is answered, and else 0.
 ///
 /// Answers 0; or 9, 14, 17, 18, 22, 33, 34: then what was held is held; or 35 or 36. Heap: what is stored.
 #[unsafe(no_mangle)]
-pub extern "C" fn osc_device_put(
+pub extern "C" fn nzf_device_put(
     alloc: Global,
     device: &mut DeviceHandle,
     now: u64,
-    path: &[u8],
-    format: i32,
-    payload: &[u8],
+    resource: &PlainResource<'_>,
     draws: &PlainDraws,
     code: &mut u8,
 ) -> i32
-    ensures { Tells device.old.held code.old (record { number = result; code = code.new }) device.new.held (λ old told new. AsksBy sealing tags old
-        (record { method = Put; value = record { ms = now; path = path.now; format = format; payload = payload.now; draws = draws.now } }) told new) }
+    ensures { Tells device.old.held code.old (record { number = result; code = code.new }) device.new.held
+        (λ old told new. AsksBy sealing tags old (record { method = Put; value = value_given now resource.now; draws = draws.now }) told new) }
 {
-    match taken(alloc, device) {
-        None => Outcome::Nothing.number(),
-        Some(mut node) => {
-            let given = GivenValue {
-                ms: now,
-                path,
-                format,
-                payload,
-                draws,
-            };
-            let told = node.write::<Suite>(alloc, Method::Put, &given);
-            put_back(device, node);
-            tell(told, code).number()
-        }
-    }
+    with(
+        alloc,
+        device,
+        &mut |node|
+            ensures { (told : Told) × (result ≡ told.outcome) × (code.exit.now ≡ told.code)
+                × AsksBy sealing tags node.old (record { method = Put; value = value_given now resource.entry.now; draws = draws.entry.now }) told node.new }
+        {
+            tell(
+                node.write::<Suite>(alloc, Method::Put, now, resource, draws),
+                code,
+            )
+        },
+    )
+    .number()
 }
 
-/// Appends this to the value at the path. Otherwise as `osc_device_put`.
+/// Appends this to the value at its path. Otherwise as `nzf_device_put`.
 #[unsafe(no_mangle)]
-pub extern "C" fn osc_device_append(
+pub extern "C" fn nzf_device_append(
     alloc: Global,
     device: &mut DeviceHandle,
     now: u64,
-    path: &[u8],
-    format: i32,
-    payload: &[u8],
+    resource: &PlainResource<'_>,
     draws: &PlainDraws,
     code: &mut u8,
 ) -> i32
-    ensures { Tells device.old.held code.old (record { number = result; code = code.new }) device.new.held (λ old told new. AsksBy sealing tags old
-        (record { method = Post; value = record { ms = now; path = path.now; format = format; payload = payload.now; draws = draws.now } }) told new) }
+    ensures { Tells device.old.held code.old (record { number = result; code = code.new }) device.new.held
+        (λ old told new. AsksBy sealing tags old (record { method = Post; value = value_given now resource.now; draws = draws.now }) told new) }
 {
-    match taken(alloc, device) {
-        None => Outcome::Nothing.number(),
-        Some(mut node) => {
-            let given = GivenValue {
-                ms: now,
-                path,
-                format,
-                payload,
-                draws,
-            };
-            let told = node.write::<Suite>(alloc, Method::Post, &given);
-            put_back(device, node);
-            tell(told, code).number()
-        }
-    }
+    with(
+        alloc,
+        device,
+        &mut |node|
+            ensures { (told : Told) × (result ≡ told.outcome) × (code.exit.now ≡ told.code)
+                × AsksBy sealing tags node.old (record { method = Post; value = value_given now resource.entry.now; draws = draws.entry.now }) told node.new }
+        {
+            tell(
+                node.write::<Suite>(alloc, Method::Post, now, resource, draws),
+                code,
+            )
+        },
+    )
+    .number()
 }
 
-/// Removes what is at the path. Otherwise as `osc_device_put`.
+/// Removes what is at the path. Otherwise as `nzf_device_put`.
 #[unsafe(no_mangle)]
-pub extern "C" fn osc_device_remove(
+pub extern "C" fn nzf_device_remove(
     alloc: Global,
     device: &mut DeviceHandle,
     now: u64,
@@ -143,9 +138,9 @@ pub extern "C" fn osc_device_remove(
 
 /// Revokes the tokens of this id: puts an empty value at the path that is for it below the revocation path.
 ///
-/// Answers as `osc_device_put`; and 34 where the device has no revocation path, or the id is too long for one.
+/// Answers as `nzf_device_put`; and 34 where the device has no revocation path, or the id is too long for one.
 #[unsafe(no_mangle)]
-pub extern "C" fn osc_device_revoke(
+pub extern "C" fn nzf_device_revoke(
     alloc: Global,
     device: &mut DeviceHandle,
     now: u64,
@@ -167,9 +162,9 @@ pub extern "C" fn osc_device_revoke(
     .number()
 }
 
-/// Lets the tokens of this id in again: removes what is at the path that is for it. Otherwise as `osc_device_revoke`.
+/// Lets the tokens of this id in again: removes what is at the path that is for it. Otherwise as `nzf_device_revoke`.
 #[unsafe(no_mangle)]
-pub extern "C" fn osc_device_allow(
+pub extern "C" fn nzf_device_allow(
     alloc: Global,
     device: &mut DeviceHandle,
     now: u64,

@@ -17,7 +17,7 @@ use std::alloc::Global;
 ///
 /// Answers 0; or 9 without memory: then what was held is held. Heap: some 750 bytes, and from the first event on some 105 KiB.
 #[unsafe(no_mangle)]
-pub extern "C" fn osc_proxy_new(alloc: Global, proxy: &mut ProxyHandle) -> i32
+pub extern "C" fn nzf_proxy_new(alloc: Global, proxy: &mut ProxyHandle) -> i32
     ensures { ((result ≡ pos 0) × (proxy.new.held ≡ Some (record { forwarding = Setting []; last = nothing }))) ⊎ ((result ≡ pos 9) × (proxy.new.held ≡ proxy.old.held)) }
 {
     hold(alloc, proxy, Ok(ProxyNode::new(alloc))).number()
@@ -25,10 +25,10 @@ pub extern "C" fn osc_proxy_new(alloc: Global, proxy: &mut ProxyHandle) -> i32
 
 /// Requests for this host and port go there.
 ///
-/// Answers 0; or 34 where the host hasn't 1 to 255 bytes, 37 behind the first event, 9 without memory, and 33 where nothing is held: then what was
+/// Answers 0; or 34 where the host hasn't 1 to 255 bytes, 37 after the first event, 9 without memory, and 33 where nothing is held: then what was
 /// held is held. Heap: the host.
 #[unsafe(no_mangle)]
-pub extern "C" fn osc_proxy_add_target(
+pub extern "C" fn nzf_proxy_add_target(
     alloc: Global,
     proxy: &mut ProxyHandle,
     host: &[u8],
@@ -50,7 +50,7 @@ pub extern "C" fn osc_proxy_add_target(
 /// Answers 0; or 9 without memory, 34 where the moment is none, and 33 where nothing is held: then what was held is held. Heap: for the step, and
 /// for what is forwarded; at the first event some 105 KiB.
 #[unsafe(no_mangle)]
-pub extern "C" fn osc_proxy_on_datagram(
+pub extern "C" fn nzf_proxy_on_datagram(
     alloc: Global,
     proxy: &mut ProxyHandle,
     now: u64,
@@ -76,7 +76,7 @@ pub extern "C" fn osc_proxy_on_datagram(
 /// Answers 0; or 9 without memory, 34 where the moment is none, and 33 where nothing is held: then what was held is held. Heap: for the step; at
 /// the first event some 105 KiB.
 #[unsafe(no_mangle)]
-pub extern "C" fn osc_proxy_on_tick(
+pub extern "C" fn nzf_proxy_on_tick(
     alloc: Global,
     proxy: &mut ProxyHandle,
     now: u64,
@@ -98,7 +98,7 @@ pub extern "C" fn osc_proxy_on_tick(
 ///
 /// Answers 0; or 33 where none would, or nothing is held. Heap: none.
 #[unsafe(no_mangle)]
-pub extern "C" fn osc_proxy_next_deadline(
+pub extern "C" fn nzf_proxy_next_deadline(
     alloc: Global,
     proxy: &mut ProxyHandle,
     moment: &mut u64,
@@ -113,7 +113,7 @@ pub extern "C" fn osc_proxy_next_deadline(
 /// Answers 0 with its bytes and to whom they go; or 33 once all were taken, or where nothing is held, and 2 where `bytes` is too short: the
 /// datagram stays to be taken. Heap: none.
 #[unsafe(no_mangle)]
-pub extern "C" fn osc_proxy_next(
+pub extern "C" fn nzf_proxy_next(
     alloc: Global,
     proxy: &mut ProxyHandle,
     to: &mut PlainPeer,
@@ -129,7 +129,7 @@ pub extern "C" fn osc_proxy_next(
 ///
 /// Answers 0; or 33 where nothing is held. Heap: none.
 #[unsafe(no_mangle)]
-pub extern "C" fn osc_proxy_restart(alloc: Global, proxy: &mut ProxyHandle) -> i32
+pub extern "C" fn nzf_proxy_restart(alloc: Global, proxy: &mut ProxyHandle) -> i32
     ensures { Calls proxy.old.held result proxy.new.held (λ old outcome new. (outcome ≡ Done) × (new ≡ record { forwarding = restarted_from old.forwarding; last = nothing })) }
 {
     with(
@@ -145,7 +145,7 @@ pub extern "C" fn osc_proxy_restart(alloc: Global, proxy: &mut ProxyHandle) -> i
 
 /// Lets the proxy go, so that nothing is held.
 #[unsafe(no_mangle)]
-pub extern "C" fn osc_proxy_free(alloc: Global, proxy: &mut ProxyHandle)
+pub extern "C" fn nzf_proxy_free(alloc: Global, proxy: &mut ProxyHandle)
     ensures { proxy.new.held ≡ None }
 {
     drop(taken(alloc, proxy));

@@ -5,17 +5,17 @@ ghost use Rattle.osc_c.specs.Told.{TellsLearnt};
 ghost use Rattle.osc_c.specs.Values.{TellsValueAt};
 ghost use Rattle.osc_c.specs.Calls.{Looks};
 
-use crate::calls::{Outcome, PlainRefused, PlainServed, PlainValue};
-use crate::handle::{put_back, taken, with};
+use crate::calls::{PlainRefused, PlainServed, PlainValue};
+use crate::handle::with;
 use crate::handles::DeviceHandle;
 use std::alloc::Global;
 
-/// What stands at a path.
+/// What is at a path.
 ///
 /// Answers 0; or 33 where nothing does, or nothing is held, 2 where `payload` is too short, 34 where the text is no path, and 9 without memory.
 /// Heap: the path, for the call.
 #[unsafe(no_mangle)]
-pub extern "C" fn osc_device_get(
+pub extern "C" fn nzf_device_get(
     alloc: Global,
     device: &mut DeviceHandle,
     path: &[u8],
@@ -33,35 +33,26 @@ pub extern "C" fn osc_device_get(
     .number()
 }
 
-/// The protected request that the last step served.
+/// The protected request that the last step served. Its path, its payload and its id context are written one after the other.
 ///
-/// Answers 0; or 33 where it served none, or nothing is held, 2 where a room is too short, and 9 without memory. Heap: for the call.
+/// Answers 0; or 33 where it served none, or nothing is held, 2 where `bytes` is too short, and 9 without memory. Heap: for the call.
 #[unsafe(no_mangle)]
-pub extern "C" fn osc_device_served(
+pub extern "C" fn nzf_device_served(
     alloc: Global,
     device: &mut DeviceHandle,
     served: &mut PlainServed,
-    path: &mut [u8],
-    payload: &mut [u8],
-    context: &mut [u8],
+    bytes: &mut [u8],
 ) -> i32
-    ensures { Looks device.old.held result device.new.held (λ node outcome. TellsServed (served_by_last node.last) served.old (record { path = path.old; payload = payload.old; context = context.old }) outcome served.new (record { path = path.new; payload = payload.new; context = context.new })) }
+    ensures { Looks device.old.held result device.new.held (λ node outcome. TellsServed (served_by_last node.last) served.old bytes.old outcome served.new bytes.new) }
 {
-    match taken(alloc, device) {
-        None => Outcome::Nothing.number(),
-        Some(node) => {
-            let outcome = node.served(alloc, served, path, payload, context);
-            put_back(device, node);
-            outcome.number()
-        }
-    }
+    with(alloc, device, &mut |node| node.served(alloc, served, bytes)).number()
 }
 
 /// What the last tick learnt of what a call left open where it answered 35. `code` is the answer's.
 ///
 /// Answers 0 or 36, as that call would have; or 33 where it learnt nothing, or nothing is held. Heap: none.
 #[unsafe(no_mangle)]
-pub extern "C" fn osc_device_learnt(alloc: Global, device: &mut DeviceHandle, code: &mut u8) -> i32
+pub extern "C" fn nzf_device_learnt(alloc: Global, device: &mut DeviceHandle, code: &mut u8) -> i32
     ensures { Looks device.old.held result device.new.held (λ node outcome. TellsLearnt node.last.own code.old outcome code.new) }
 {
     with(alloc, device, &mut |node| node.learnt(code)).number()
@@ -71,7 +62,7 @@ pub extern "C" fn osc_device_learnt(alloc: Global, device: &mut DeviceHandle, co
 ///
 /// Answers 0; or 33 where it refused none, or nothing is held. Heap: none.
 #[unsafe(no_mangle)]
-pub extern "C" fn osc_device_refused(
+pub extern "C" fn nzf_device_refused(
     alloc: Global,
     device: &mut DeviceHandle,
     refused: &mut PlainRefused,

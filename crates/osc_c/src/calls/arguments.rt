@@ -1,12 +1,23 @@
 //! Arguments that a caller hands in as numbers and bytes.
-ghost use Rattle.std.specs.Prelude.{◌≡◌, ◌==◌, ◌<◌, ◌≤◌, ◌^◌, if◌then◌else◌, IfOk, IfErr, None, Some};
-ghost use Rattle.osc_c.specs.Arguments.{IsFormat, IsNoFormat, IsUnfit, Tells};
+ghost use Rattle.std.specs.Prelude.{◌≡◌, ◌==◌, ◌<◌, ◌≤◌, ◌^◌, if◌then◌else◌, IfOk, IfErr, OnOk, None, Some};
+ghost use Rattle.osc_c.specs.Arguments.{IsFormat, IsNoFormat, IsNoPath, Tells};
 ghost use Rattle.osc_c.specs.declared.calls.outcome.Outcome.TheVariants.{BadArgument};
 ghost use Rattle.osc_model.specs.{IsPath};
 
 use crate::calls::outcome::Outcome;
 use osc_model::{Bytes, Moment, Path};
 use std::alloc::{AllocError, Global};
+
+/// Refuses a struct whose first member isn't its size.
+pub(crate) fn sized(size: usize, wanted: usize) -> Result<(), Outcome>
+    ensures ok { OnOk result (size ≡ wanted) }
+    ensures err { IfErr result (λ outcome. (outcome ≡ BadArgument) × ¬ (size ≡ wanted)) }
+{
+    if size != wanted {
+        return Err(Outcome::BadArgument);
+    }
+    Ok(())
+}
 
 /// The moment of so many milliseconds.
 pub(crate) fn moment(ms: u64) -> Result<Moment, Outcome>
@@ -22,7 +33,7 @@ pub(crate) fn moment(ms: u64) -> Result<Moment, Outcome>
 /// The path of this text.
 pub(crate) fn path(alloc: Global, text: &[u8]) -> Result<Path, Outcome>
     ensures ok { IfOk result (λ path. (path ≡ text.now) × IsPath text.now) }
-    ensures err { IfErr result (IsUnfit (¬ (IsPath text.now))) }
+    ensures err { IfErr result (IsNoPath text.now) }
 {
     match Path::from_text(alloc, text)? {
         Some(path) => Ok(path),

@@ -1,19 +1,20 @@
 //! A client by calls of plain numbers and bytes.
-ghost use Rattle.std.specs.Prelude.{◌≡◌, ◌<◌, IfErr, IfOk};
+ghost use Rattle.std.specs.Prelude.{◌≡◌, ◌<◌, IfErr, IfOk, None};
 ghost use Rattle.osc_c.specs.Ends.{Ends};
-ghost use Rattle.osc_c.specs.Client.{AskedAt, AskedBy, BegunAt, BegunBy, HeardAt, HeardBy, IsFresh, IsNewClient, TellsContext, TellsDeadline, TickedAt, TickedBy};
+ghost use Rattle.osc_c.specs.Client.{AnswersOrReads, AskedAt, AskedBy, BegunAt, BegunBy, HeardAt, HeardBy, IsBegun, IsFresh, IsNewClient, TellsContext, TellsDeadline, TickedAt, TickedBy};
 ghost use Rattle.osc_c.specs.Arguments.{IsUnfit};
+ghost use Rattle.osc_c.specs.Given.{grant_given, request_given};
 ghost use Rattle.osc_c.specs.Granted.{IsNoClient};
 ghost use Rattle.osc_c.specs.Last.{HandsOut, nothing};
 ghost use Rattle.osc_c.specs.Results.{TellsResult, learnt_in};
 ghost use Rattle.osc_c.specs.Plain.{draw_of, peer_of};
 ghost use Rattle.osc_client.specs.{restarted};
 
-use crate::calls::arguments::{moment, tell};
+use crate::calls::arguments::{moment, sized, tell};
 use crate::calls::granted;
 use crate::calls::last::Last;
 use crate::calls::outcome::Outcome;
-use crate::calls::plain::{PlainDraw, PlainOptions, PlainPeer, PlainResult};
+use crate::calls::plain::{PlainClientSettings, PlainDraw, PlainPeer, PlainRequest, PlainResult};
 use crate::calls::requests::request;
 use crate::calls::results::tell_result;
 use osc_authz::ClientDesk;
@@ -21,82 +22,6 @@ use osc_ccm::Ciphers;
 use osc_client::{Client, Route};
 use osc_model::{Moment, Request};
 use std::alloc::{AllocError, Global};
-use std::marker::Model;
-
-/// What a client was granted, and the way to its server, as numbers and bytes.
-#[derive(Drop)]
-pub struct GivenGrant<'a> {
-    /// To whom it sends.
-    pub next_hop: &'a PlainPeer,
-    /// The server's host, where that is a proxy; else empty.
-    pub host: &'a [u8],
-    /// The server's port, where that is a proxy.
-    pub port: u16,
-    /// The token.
-    pub token: &'a [u8],
-    /// The master secret: 1 to 64 bytes.
-    pub secret: &'a [u8],
-    /// The master salt: 0 to 64 bytes.
-    pub salt: &'a [u8],
-    /// The id context: 0 to 64 bytes.
-    pub context: &'a [u8],
-    /// 1: the id context is there; 0: it isn't.
-    pub has_context: u8,
-    /// The number of the algorithm.
-    pub algorithm: u8,
-}
-
-impl<'a> Model for GivenGrant<'a> {
-    ghost use Rattle.osc_c.specs.Given.{GivenGrant as Given};
-    ghost use Rattle.osc_c.specs.Plain.{peer_of};
-
-    ghost Value = { Given };
-
-    ghost view = { λ g. record {
-      next_hop = peer_of g.next_hop.now;
-      host = g.host.now;
-      port = g.port;
-      token = g.token.now;
-      secret = g.secret.now;
-      salt = g.salt.now;
-      context = g.context.now;
-      has_context = g.has_context;
-      algorithm = g.algorithm;
-    } };
-}
-
-/// What a client is to ask, as numbers and bytes.
-#[derive(Drop)]
-pub struct GivenRequest<'a> {
-    /// When, in ms.
-    pub ms: u64,
-    /// The number of the method: 1 GET, 2 POST, 3 PUT, 4 DELETE.
-    pub method: u8,
-    /// The text of the path.
-    pub path: &'a [u8],
-    /// The options beside it.
-    pub options: &'a PlainOptions,
-    /// The payload.
-    pub payload: &'a [u8],
-    /// The random bytes of the step.
-    pub draw: &'a PlainDraw,
-}
-
-impl<'a> Model for GivenRequest<'a> {
-    ghost use Rattle.osc_c.specs.Given.{GivenRequest as Given};
-    ghost use Rattle.osc_c.specs.Plain.{draw_of};
-
-    ghost Value = { Given };
-
-    ghost view = { λ g. record {
-      ms = g.ms;
-      method = g.method;
-      path = g.path.now;
-      options = g.options.now;
-      payload = g.payload.now;
-      draw = draw_of g.draw.now;
-    } };
-}
 
 /// A client, and the step that it made last.
 pub struct ClientNode {
@@ -124,33 +49,46 @@ impl ClientNode {
     }
 
     /// A client that was granted this, and does it this way.
-    pub fn new(alloc: Global, given: &GivenGrant<'_>) -> Result<ClientNode, Outcome>
-        ensures ok { IfOk result (λ node. IsNewClient given.now node) }
-        ensures err { IfErr result (IsUnfit (IsNoClient given.now)) }
+    pub fn new(alloc: Global, settings: &PlainClientSettings<'_>) -> Result<ClientNode, Outcome>
+        ensures ok { IfOk result (λ node. IsNewClient (grant_given settings.now) node) }
+        ensures err { IfErr result (IsUnfit (IsNoClient (grant_given settings.now))) }
     {
-        let alg = granted::algorithm(given.algorithm)?;
-        let way = granted::way(alloc, given.next_hop, given.host, given.port)?;
-        let context = granted::id_context(alloc, given.has_context, given.context)?;
-        let desk = granted::desk(alloc, given.token, given.secret, given.salt, context, alg)?;
+        sized(settings.size, size_of::<PlainClientSettings<'_>>())?;
+        let alg = granted::algorithm(settings.algorithm)?;
+        let way = granted::way(
+            alloc,
+            &settings.next_hop,
+            settings.host.bytes,
+            settings.port,
+        )?;
+        let context = granted::id_context(alloc, settings.has_context, settings.context.bytes)?;
+        let desk = granted::desk(
+            alloc,
+            settings.token.bytes,
+            settings.secret.bytes,
+            settings.salt.bytes,
+            context,
+            alg,
+        )?;
         Ok(ClientNode::of(alloc, desk, way)?)
     }
 
     /// Asks for this under protection.
-    pub fn ask<A: Ciphers>(&mut self, alloc: Global, given: &GivenRequest<'_>) -> Outcome
-        ensures { AskedBy A.is_sealing A.TAG self.old given.now result self.new }
+    pub fn ask<A: Ciphers>(
+        &mut self,
+        alloc: Global,
+        now: u64,
+        given: &PlainRequest<'_>,
+        draw: &PlainDraw,
+    ) -> Outcome
+        ensures { AskedBy A.is_sealing A.TAG self.old (request_given now given.now draw.now) result self.new }
     {
-        let now = match moment(given.ms) {
+        let now = match moment(now) {
             Ok(now) => now,
             Err(outcome) => return outcome,
         };
-        match request(
-            alloc,
-            given.method,
-            given.path,
-            given.options,
-            given.payload,
-        ) {
-            Ok(request) => self.ask_at::<A>(alloc, now, &request, given.draw),
+        match request(alloc, given) {
+            Ok(request) => self.ask_at::<A>(alloc, now, &request, draw),
             Err(outcome) => outcome,
         }
     }
@@ -177,7 +115,7 @@ impl ClientNode {
 
     /// The same at a moment.
     fn exchange_at(&mut self, alloc: Global, now: Moment, draw: &PlainDraw) -> Outcome
-        ensures { Ends self.old result self.new (BegunAt self.old now (draw_of draw.now) self.new) }
+        ensures { Ends self.old result self.new (self.old.client.waiting ≡ None) (BegunAt self.old now (draw_of draw.now) self.new) }
     {
         match self.client.exchange(alloc, now, &draw.draw()) {
             Ok(step) => {
@@ -197,7 +135,7 @@ impl ClientNode {
         draw: &PlainDraw,
     ) -> Outcome
         requires { 0 < request.now.code.0 }
-        ensures { Ends self.old result self.new (AskedAt A.is_sealing A.TAG self.old (record { at = now; draw = draw_of draw.now; request = request.now }) self.new) }
+        ensures { Ends self.old result self.new (IsBegun A.is_sealing A.TAG self.old request.now (draw_of draw.now)) (AskedAt A.is_sealing A.TAG self.old (record { at = now; draw = draw_of draw.now; request = request.now }) self.new) }
     {
         match self.client.ask::<A>(alloc, now, request, &draw.draw()) {
             Ok(step) => {
@@ -232,7 +170,7 @@ impl ClientNode {
         from: &PlainPeer,
         bytes: &[u8],
     ) -> Outcome
-        ensures { Ends self.old result self.new (HeardAt A.is_sealing self.old now (peer_of from.now) bytes.now self.new) }
+        ensures { Ends self.old result self.new (AnswersOrReads self.old now (peer_of from.now) bytes.now) (HeardAt A.is_sealing self.old now (peer_of from.now) bytes.now self.new) }
     {
         match self.client.on_datagram::<A>(alloc, now, from.peer(), bytes) {
             Ok(step) => {

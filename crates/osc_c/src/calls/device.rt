@@ -1,5 +1,6 @@
 //! A device by calls of plain numbers and bytes.
 ghost use Rattle.std.specs.Prelude.{◌≡◌, ◌≢◌, IfErr, IfOk, OnErr};
+ghost use Rattle.osc_device.specs.{ServerTakesMemory};
 ghost use Rattle.osc_device.specs.State.{State};
 ghost use Rattle.osc_client.specs.{restarted};
 ghost use Rattle.osc_message.specs.{fresh};
@@ -70,6 +71,7 @@ impl DeviceNode {
         draw: &PlainDraw,
     ) -> Outcome
         ensures { Ends self.old result self.new
+            (ServerTakesMemory self.old.device.server (record { at = now; from = peer_of from.now; draw = draw_of draw.now; what = bytes.now }))
             (HeardAt A.is_sealing self.old (record { at = now; from = peer_of from.now; draw = draw_of draw.now; what = bytes.now }) self.new) }
     {
         let draw = draw.draw();

@@ -1,17 +1,17 @@
 //! A device of keys, names and scopes.
 ghost use Rattle.std.specs.Prelude.{◌≡◌, ◌<◌, ◌≤◌, IfErr, IfOk, drop, take};
 ghost use Rattle.osc_c.specs.Arguments.{IsUnfit};
-ghost use Rattle.osc_c.specs.Given.{GivenRules as Given};
-ghost use Rattle.osc_c.specs.Making.{AreNoRules, AreParts, AreRules, IsNewDevice, IsNewDeviceWith, IsNoNewDevice, IsNoNewDeviceWith, IsNoOpenScope, IsNoServer, IsOpenScope, IsOwnToken, IsRevocationText, limit_of, no_rules, old_key_of, revoked_of, rules_of, unmade_as};
+ghost use Rattle.osc_c.specs.Given.{device_given, rules_given};
+ghost use Rattle.osc_c.specs.Making.{AreNoRules, AreParts, AreRules, IsNewDevice, IsNoNewDevice, IsNoOpenScope, IsNoServer, IsOpenScope, IsOwnToken, IsRevocationText, limit_of, old_key_of, revoked_of, rules_of, unmade_as};
 ghost use Rattle.osc_c.specs.Tokens.{IsNoScope};
 ghost use Rattle.osc_c.specs.declared.calls.outcome.Outcome.TheVariants.{BadArgument};
 
 use crate::calls::arguments;
-use crate::calls::arguments::flag;
+use crate::calls::arguments::{flag, sized};
 use crate::calls::device::DeviceNode;
 use crate::calls::last::Last;
 use crate::calls::outcome::Outcome;
-use crate::calls::plain::{PlainDraw, PlainKey, PlainRules};
+use crate::calls::plain::{PlainDeviceSettings, PlainDraw};
 use crate::calls::tokens::{audience, scope_bytes};
 use osc_ccm::Ciphers;
 use osc_device::{Device, NewError, OwnToken, ServerParts};
@@ -20,7 +20,6 @@ use osc_scope::{Scope, ScopeError};
 use osc_tree::Tree;
 use osc_world::EnrollError;
 use std::alloc::Global;
-use std::marker::Model;
 
 /// By what the device's own token is named.
 const OWN_ID: &[u8] = b"device";
@@ -30,29 +29,6 @@ const SECRET: usize = 16;
 
 /// The most segments of a revocation path: with those of a token's id it isn't too long.
 const MOST_SEGMENTS: usize = 4;
-
-/// What a device is made of, as numbers and bytes.
-#[derive(Drop)]
-pub struct GivenDevice<'a> {
-    /// The key of its server's tokens.
-    pub key: &'a PlainKey,
-    /// The name for which they are, in UTF-8.
-    pub audience: &'a [u8],
-    /// The text of what needs no protection; empty for nothing.
-    pub free: &'a [u8],
-    /// The text of what the device itself may do.
-    pub own: &'a [u8],
-    /// The random bytes of its own token.
-    pub draw: &'a PlainDraw,
-}
-
-impl<'a> Model for GivenDevice<'a> {
-    ghost use Rattle.osc_c.specs.Given.{GivenDevice as Given};
-
-    ghost Value = { Given };
-
-    ghost view = { λ g. record { key = g.key.now.bytes; audience = g.audience.now; free = g.free.now; own = g.own.now; draw = g.draw.now.bytes } };
-}
 
 /// What a device's server rules, beside its key and its audience.
 #[derive(Drop)]
@@ -66,38 +42,27 @@ pub struct Rules {
 }
 
 impl Rules {
-    /// No former key, no revocation path, and no limit.
-    pub fn none() -> Rules
-        ensures { result ≡ no_rules }
+    /// What these settings rule.
+    fn of(alloc: Global, settings: &PlainDeviceSettings<'_>) -> Result<Rules, Outcome>
+        ensures ok { IfOk result (λ rules. (rules ≡ rules_of (rules_given settings.now)) × AreRules (rules_given settings.now)) }
+        ensures err { IfErr result (IsUnfit (AreNoRules (rules_given settings.now))) }
     {
-        Rules {
-            old_key: None,
-            revoked: None,
-            seconds: None,
-        }
-    }
-
-    /// What these numbers and bytes rule.
-    fn of(alloc: Global, plain: &PlainRules, revoked: &[u8]) -> Result<Rules, Outcome>
-        ensures ok { let given : Given = record { plain = plain.now; revoked = revoked.now } in IfOk result (λ rules. (rules ≡ rules_of given) × AreRules given) }
-        ensures err { IfErr result (IsUnfit (AreNoRules (record { plain = plain.now; revoked = revoked.now }))) }
-    {
-        let old_key = old_key(plain)?;
+        let old_key = old_key(settings)?;
         Ok(Rules {
             old_key,
-            revoked: revocation_path(alloc, revoked)?,
-            seconds: limit(plain.context_seconds),
+            revoked: revocation_path(alloc, settings.revoked.bytes)?,
+            seconds: limit(settings.context_seconds),
         })
     }
 }
 
 /// The former key, where the flag is 1.
-fn old_key(plain: &PlainRules) -> Result<Option<[u8; 16]>, Outcome>
-    ensures ok { IfOk result (λ key. (key ≡ old_key_of plain.now) × (plain.now.has_old_key ≤ 1)) }
-    ensures err { IfErr result (λ outcome. (outcome ≡ BadArgument) × (1 < plain.now.has_old_key)) }
+fn old_key(settings: &PlainDeviceSettings<'_>) -> Result<Option<[u8; 16]>, Outcome>
+    ensures ok { IfOk result (λ key. (key ≡ old_key_of (rules_given settings.now)) × (settings.now.has_old_key ≤ 1)) }
+    ensures err { IfErr result (λ outcome. (outcome ≡ BadArgument) × (1 < settings.now.has_old_key)) }
 {
-    let key = plain.old_key.bytes;
-    if flag(plain.has_old_key)? {
+    let key = settings.old_key.bytes;
+    if flag(settings.has_old_key)? {
         Ok(Some(key))
     } else {
         Ok(None)
@@ -143,12 +108,15 @@ fn open_scope(alloc: Global, text: &[u8]) -> Result<Scope, Outcome>
 }
 
 /// A server without resources.
-fn parts(alloc: Global, given: &GivenDevice<'_>, rules: Rules) -> Result<ServerParts, Outcome>
-    ensures ok { IfOk result (AreParts given.now rules) }
-    ensures err { IfErr result (IsNoServer given.now.audience given.now.free) }
+fn parts(
+    alloc: Global,
+    settings: &PlainDeviceSettings<'_>,
+    rules: Rules,
+) -> Result<ServerParts, Outcome>
+    ensures ok { IfOk result (AreParts (device_given settings.now) rules) }
+    ensures err { IfErr result (IsNoServer settings.now.audience.bytes.now settings.now.unprotected.bytes.now) }
 {
-    let key = given.key;
-    let key = key.bytes;
+    let key = settings.key.bytes;
     let Rules {
         old_key,
         revoked,
@@ -156,10 +124,10 @@ fn parts(alloc: Global, given: &GivenDevice<'_>, rules: Rules) -> Result<ServerP
     } = rules;
     Ok(ServerParts {
         tree: Tree::new(alloc),
-        open_scope: open_scope(alloc, given.free)?,
+        open_scope: open_scope(alloc, settings.unprotected.bytes)?,
         key,
         old_key,
-        audience: audience(alloc, given.audience)?,
+        audience: audience(alloc, settings.audience.bytes)?,
         revoked,
         context_seconds: seconds,
     })
@@ -234,17 +202,19 @@ fn refused(error: NewError) -> Outcome
 }
 
 impl DeviceNode {
-    /// A device without resources, whose server rules this.
+    /// A device without resources.
     pub fn new<A: Ciphers>(
         alloc: Global,
-        given: &GivenDevice<'_>,
-        rules: Rules,
+        settings: &PlainDeviceSettings<'_>,
+        draw: &PlainDraw,
     ) -> Result<DeviceNode, Outcome>
-        ensures ok { IfOk result (λ node. IsNewDevice A.is_sealing given.now rules node) }
-        ensures err { IfErr result (IsNoNewDevice given.now rules) }
+        ensures ok { IfOk result (λ node. IsNewDevice A.is_sealing (device_given settings.now) draw.now.bytes node) }
+        ensures err { IfErr result (IsNoNewDevice (device_given settings.now) draw.now.bytes) }
     {
-        let parts = parts(alloc, given, rules)?;
-        let own = own_token(alloc, given.own, given.draw)?;
+        sized(settings.size, size_of::<PlainDeviceSettings<'_>>())?;
+        let rules = Rules::of(alloc, settings)?;
+        let parts = parts(alloc, settings, rules)?;
+        let own = own_token(alloc, settings.own.bytes, draw)?;
         match Device::new::<A>(alloc, parts, own) {
             Ok(device) => Ok(DeviceNode {
                 device,
@@ -252,19 +222,5 @@ impl DeviceNode {
             }),
             Err(error) => Err(refused(error)),
         }
-    }
-
-    /// The same with what these numbers and bytes rule.
-    pub fn new_with<A: Ciphers>(
-        alloc: Global,
-        given: &GivenDevice<'_>,
-        plain: &PlainRules,
-        revoked: &[u8],
-    ) -> Result<DeviceNode, Outcome>
-        ensures ok { IfOk result (λ node. IsNewDeviceWith A.is_sealing given.now (record { plain = plain.now; revoked = revoked.now }) node) }
-        ensures err { IfErr result (IsNoNewDeviceWith given.now (record { plain = plain.now; revoked = revoked.now })) }
-    {
-        let rules = Rules::of(alloc, plain, revoked)?;
-        DeviceNode::new::<A>(alloc, given, rules)
     }
 }

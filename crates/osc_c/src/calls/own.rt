@@ -1,48 +1,25 @@
 //! What a device does at its own server.
-ghost use Rattle.std.specs.Prelude.{◌≡◌, ◌≢◌, ◌<◌, IfErr, IfOk};
+ghost use Rattle.std.specs.Prelude.{◌≡◌, ◌≢◌, ◌<◌, IfErr, IfOk, None};
 ghost use Rattle.osc_c.specs.Arguments.{IsUnfit};
 ghost use Rattle.osc_device.specs.{own_request};
 ghost use Rattle.osc_model.specs.declared.code.Method.TheVariants.{Delete, Put};
-ghost use Rattle.osc_c.specs.Own.{Asks, AsksBy, AsksOfId, ComesTo, IsNoValue, Opens, OpensBy, RemovesBy, asked_for, is_refused_by, last_after};
+ghost use Rattle.osc_c.specs.Given.{value_given};
+ghost use Rattle.osc_c.specs.Own.{Asks, AsksBy, AsksOfId, ComesTo, IsBegun, IsNoValue, Opens, OpensBy, RemovesBy, asked_for, is_refused_by, last_after};
 ghost use Rattle.osc_c.specs.Inner.Writes.{Reads};
 ghost use Rattle.osc_c.specs.Told.{told_of};
 ghost use Rattle.osc_c.specs.declared.calls.outcome.Outcome.TheVariants as outcome;
 
 use crate::calls::arguments;
-use crate::calls::arguments::moment;
+use crate::calls::arguments::{moment, sized};
 use crate::calls::device::DeviceNode;
 use crate::calls::last::Last;
 use crate::calls::outcome::Outcome;
-use crate::calls::plain::PlainDraws;
+use crate::calls::plain::{PlainDraws, PlainResource};
 use crate::calls::round::{Told, bare, what_is_told};
 use osc_ccm::Ciphers;
 use osc_device::{OwnDraws, Round};
 use osc_model::{Bytes, ClientResult, Draw, ETags, Method, Moment, Path, Request};
 use std::alloc::Global;
-use std::marker::Model;
-
-/// A value for a path, as numbers and bytes.
-#[derive(Drop)]
-pub struct GivenValue<'a> {
-    /// When, in ms.
-    pub ms: u64,
-    /// The text of the path.
-    pub path: &'a [u8],
-    /// The Content-Format, 0 to 65535, or -1 for none.
-    pub format: i32,
-    /// The payload.
-    pub payload: &'a [u8],
-    /// The draws of both steps.
-    pub draws: &'a PlainDraws,
-}
-
-impl<'a> Model for GivenValue<'a> {
-    ghost use Rattle.osc_c.specs.Given.{GivenValue as Given};
-
-    ghost Value = { Given };
-
-    ghost view = { λ g. record { ms = g.ms; path = g.path.now; format = g.format; payload = g.payload.now; draws = g.draws.now } };
-}
 
 /// What the device asks of its server, and when.
 #[derive(Drop)]
@@ -74,15 +51,21 @@ fn own_request(
 }
 
 /// The request for this value.
-fn read(alloc: Global, method: Method, given: &GivenValue<'_>) -> Result<OwnRequest, Outcome>
-    ensures ok { IfOk result (λ own. Reads (record { method = method; value = given.now }) own.now own.request) }
+fn read(
+    alloc: Global,
+    method: Method,
+    now: u64,
+    given: &PlainResource<'_>,
+) -> Result<OwnRequest, Outcome>
+    ensures ok { IfOk result (λ own. Reads method (value_given now given.now) own.now own.request) }
     ensures code { IfOk result (λ own. 0 < own.request.code.0) }
-    ensures err { IfErr result (IsUnfit (IsNoValue given.now)) }
+    ensures err { IfErr result (IsUnfit (IsNoValue (value_given now given.now))) }
 {
-    let now = moment(given.ms)?;
-    let path = arguments::path(alloc, given.path)?;
+    sized(given.size, size_of::<PlainResource<'_>>())?;
+    let now = moment(now)?;
+    let path = arguments::path(alloc, given.path.bytes)?;
     let format = arguments::format(given.format)?;
-    let payload = Bytes::from_slice(alloc, given.payload)?;
+    let payload = Bytes::from_slice(alloc, given.payload.bytes)?;
     let request = own_request(alloc, method, path, format, payload);
     Ok(OwnRequest { now, request })
 }
@@ -107,7 +90,7 @@ impl DeviceNode {
     }
 
     fn open_at<A: Ciphers>(&mut self, alloc: Global, now: Moment, draws: &PlainDraws) -> Told
-        ensures opens { ComesTo self.old result self.new (λ round. Opens A.is_sealing self.old now draws.now round self.new) }
+        ensures opens { ComesTo self.old result self.new (self.old.device.own.waiting ≡ None) (λ round. Opens A.is_sealing self.old now draws.now round self.new) }
         ensures fits { result.outcome ≢ outcome.TooLong }
     {
         let both = OwnDraws {
@@ -125,12 +108,14 @@ impl DeviceNode {
         &mut self,
         alloc: Global,
         method: Method,
-        given: &GivenValue<'_>,
+        now: u64,
+        given: &PlainResource<'_>,
+        draws: &PlainDraws,
     ) -> Told
-        ensures { AsksBy A.is_sealing A.TAG self.old (record { method = method; value = given.now }) result self.new }
+        ensures { AsksBy A.is_sealing A.TAG self.old (record { method = method; value = value_given now given.now; draws = draws.now }) result self.new }
     {
-        match read(alloc, method, given) {
-            Ok(own) => self.ask_at::<A>(alloc, own.now, &own.request, given.draws),
+        match read(alloc, method, now, given) {
+            Ok(own) => self.ask_at::<A>(alloc, own.now, &own.request, draws),
             Err(outcome) => bare(outcome),
         }
     }
@@ -218,7 +203,7 @@ impl DeviceNode {
         draws: &PlainDraws,
     ) -> Told
         requires { 0 < request.now.code.0 }
-        ensures { ComesTo self.old result self.new (λ round. Asks A.is_sealing A.TAG self.old (asked_for draws.now now request.now) round self.new) }
+        ensures { ComesTo self.old result self.new (IsBegun A.is_sealing A.TAG self.old draws.now request.now) (λ round. Asks A.is_sealing A.TAG self.old (asked_for draws.now now request.now) round self.new) }
     {
         let both = OwnDraws {
             own: Draw(draws.own.bytes),

@@ -1,4 +1,4 @@
-//! What goes in and comes out, as include/osc.h has it.
+//! What goes in and comes out, as include/nozzlefern.h has it.
 ghost use Rattle.std.specs.Prelude.{◌≡◌};
 ghost use Rattle.osc_c.specs.Plain.{draw_of, peer_of, plain_peer};
 
@@ -48,19 +48,119 @@ pub struct PlainDraws {
     pub server: PlainDraw,
 }
 
-/// What a device's server rules, beside its key and its audience.
+/// Bytes, and how many they are.
 #[repr(C)]
-#[derive(Clone, Copy)]
-pub struct PlainRules {
+pub struct PlainBytes<'a> {
+    /// The bytes.
+    pub bytes: &'a [u8],
+}
+
+/// What a device is made of.
+#[repr(C)]
+pub struct PlainDeviceSettings<'a> {
+    /// The bytes of this struct.
+    pub size: usize,
+    /// The key of its server's tokens.
+    pub key: PlainKey,
     /// The former key, at a change of key.
     pub old_key: PlainKey,
     /// 1: the former key is there; 0: it isn't.
     pub has_old_key: u8,
     /// How many seconds after the post that made it a context counts no more; 0 for no limit.
     pub context_seconds: u32,
+    /// The name for which its server's tokens are, in UTF-8.
+    pub audience: PlainBytes<'a>,
+    /// The text of what needs no protection; empty for nothing.
+    pub unprotected: PlainBytes<'a>,
+    /// The text of what the device itself may do.
+    pub own: PlainBytes<'a>,
+    /// The text of the path below which a resource revokes a token; empty for none.
+    pub revoked: PlainBytes<'a>,
 }
 
-/// What stands at a path.
+/// What a client was granted, and the way to its server.
+#[repr(C)]
+pub struct PlainClientSettings<'a> {
+    /// The bytes of this struct.
+    pub size: usize,
+    /// To whom it sends.
+    pub next_hop: PlainPeer,
+    /// The server's port, where that is a proxy.
+    pub port: u16,
+    /// 1: the id context is there; 0: it isn't.
+    pub has_context: u8,
+    /// The number of the algorithm: 10 or 30.
+    pub algorithm: u8,
+    /// The server's host, where that is a proxy; else empty.
+    pub host: PlainBytes<'a>,
+    /// The token.
+    pub token: PlainBytes<'a>,
+    /// The master secret: 1 to 64 bytes.
+    pub secret: PlainBytes<'a>,
+    /// The master salt: 0 to 64 bytes.
+    pub salt: PlainBytes<'a>,
+    /// The id context: 0 to 64 bytes.
+    pub context: PlainBytes<'a>,
+}
+
+/// What a client asks.
+#[repr(C)]
+pub struct PlainRequest<'a> {
+    /// The bytes of this struct.
+    pub size: usize,
+    /// 1 GET, 2 POST, 3 PUT, 4 DELETE.
+    pub method: u8,
+    /// The options beside the path.
+    pub options: PlainOptions,
+    /// The text of the path.
+    pub path: PlainBytes<'a>,
+    /// The payload.
+    pub payload: PlainBytes<'a>,
+}
+
+/// A value for a path.
+#[repr(C)]
+pub struct PlainResource<'a> {
+    /// The bytes of this struct.
+    pub size: usize,
+    /// The Content-Format, 0 to 65535, or -1 for none.
+    pub format: i32,
+    /// The text of the path.
+    pub path: PlainBytes<'a>,
+    /// The payload.
+    pub payload: PlainBytes<'a>,
+}
+
+/// What a token is to claim, and under what it is sealed.
+#[repr(C)]
+pub struct PlainClaims<'a> {
+    /// The bytes of this struct.
+    pub size: usize,
+    /// The key.
+    pub key: PlainKey,
+    /// The IV.
+    pub iv: PlainIv,
+    /// 1: the id context is there; 0: it isn't.
+    pub has_context: u8,
+    /// The number of the algorithm: 10 or 30.
+    pub algorithm: u8,
+    /// The first second at which it counts; 0 for none.
+    pub not_before: u64,
+    /// The second from which on it doesn't; 0 for none.
+    pub expires: u64,
+    /// For whom it is, in UTF-8.
+    pub audience: PlainBytes<'a>,
+    /// By what it is named: 0 to 64 bytes.
+    pub id: PlainBytes<'a>,
+    /// The master secret: 1 to 64 bytes.
+    pub secret: PlainBytes<'a>,
+    /// The id context: 0 to 64 bytes.
+    pub context: PlainBytes<'a>,
+    /// The text of its scope.
+    pub scope: PlainBytes<'a>,
+}
+
+/// What is at a path.
 #[repr(C)]
 #[derive(Clone, Copy)]
 pub struct PlainValue {

@@ -4,7 +4,7 @@ ghost use Rattle.osc_client.specs.{IsHost};
 ghost use Rattle.osc_c.specs.Ends.{Ends};
 ghost use Rattle.osc_c.specs.Last.{HandsOut, nothing};
 ghost use Rattle.osc_c.specs.Plain.{draw_of, peer_of};
-ghost use Rattle.osc_c.specs.Proxy.{AddsTarget, AddsTargetTo, HeardAt, HeardBy, IsRunning, TellsDeadline, TickedAt, TickedBy, proxy_of, restarted_from};
+ghost use Rattle.osc_c.specs.Proxy.{AddsTarget, AddsTargetTo, HeardAt, HeardBy, HearsInMemory, IsRunning, TellsDeadline, TickedAt, TickedBy, TicksInMemory, proxy_of, restarted_from};
 ghost use Rattle.osc_proxy.specs.{Hears};
 ghost use Rattle.osc_proxy.specs.Ticks.{Ticks};
 ghost use Rattle.osc_c.specs.declared.calls.proxy.Forwarding.TheVariants.{Setting};
@@ -28,7 +28,7 @@ fn is_host(host: &[u8]) -> bool
     !host.is_empty() && host.len() <= LONGEST_HOST
 }
 
-/// A proxy before its first event, and behind it.
+/// A proxy before its first event, and after it.
 pub enum Forwarding {
     /// Its targets, of which there may be more.
     Setting(Settings),
@@ -76,6 +76,7 @@ impl Forwarding {
             Hears (proxy_of self.old) (record { at = now; from = from; draw = draw_of draw.now; what = bytes.now }) step (proxy_of self.new)) }
         ensures runs { OnOk result (IsRunning self.new) }
         ensures err { OnErr result (self.new ≡ self.old) }
+        ensures needs_memory { OnErr result (HearsInMemory self.old (record { at = now; from = from; draw = draw_of draw.now; what = bytes.now })) }
     {
         match self {
             Forwarding::Running(proxy) => {
@@ -95,6 +96,7 @@ impl Forwarding {
         ensures ticked { IfOk result (λ step. Ticks (proxy_of self.old) now (draw_of draw.now) step (proxy_of self.new)) }
         ensures runs { OnOk result (IsRunning self.new) }
         ensures err { OnErr result (self.new ≡ self.old) }
+        ensures needs_memory { OnErr result (TicksInMemory self.old) }
     {
         match self {
             Forwarding::Running(proxy) => Ok(proxy.on_tick(alloc, now, &draw.draw())),
@@ -119,7 +121,7 @@ impl ProxyNode {
         }
     }
 
-    /// Requests for this host and port go there from now on: `NotNow` behind its first event, and `BadArgument` for a host that no request can name.
+    /// Requests for this host and port go there from now on: `NotNow` after its first event, and `BadArgument` for a host that no request can name.
     pub fn add_target(&mut self, alloc: Global, host: &[u8], port: u16, to: &PlainPeer) -> Outcome
         ensures { AddsTarget (record { host = host.now; port = port; peer = peer_of to.now }) self.old result self.new }
     {
@@ -169,6 +171,7 @@ impl ProxyNode {
         draw: &PlainDraw,
     ) -> Outcome
         ensures { Ends self.old result self.new
+            (HearsInMemory self.old.forwarding (record { at = now; from = peer_of from.now; draw = draw_of draw.now; what = bytes.now }))
             (HeardAt self.old (record { at = now; from = peer_of from.now; draw = draw_of draw.now; what = bytes.now }) self.new) }
     {
         match self.forwarding.hear(alloc, now, from.peer(), bytes, draw) {
@@ -192,7 +195,7 @@ impl ProxyNode {
 
     /// The same at a moment.
     fn tick(&mut self, alloc: Global, now: Moment, draw: &PlainDraw) -> Outcome
-        ensures { Ends self.old result self.new (TickedAt self.old now (draw_of draw.now) self.new) }
+        ensures { Ends self.old result self.new (TicksInMemory self.old.forwarding) (TickedAt self.old now (draw_of draw.now) self.new) }
     {
         match self.forwarding.tick(alloc, now, draw) {
             Ok(step) => {

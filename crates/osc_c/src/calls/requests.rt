@@ -1,38 +1,35 @@
 //! Requests of numbers and bytes.
-ghost use Rattle.std.specs.Prelude.{◌≡◌, ◌<◌, ◌≤◌, IfErr, IfOk};
+ghost use Rattle.std.specs.Prelude.{◌≡◌, ◌<◌, ◌≤◌, ◌⊎◌, IfErr, IfOk, OnOk};
 ghost use Rattle.osc_c.specs.Arguments.{IsUnfit};
+ghost use Rattle.osc_c.specs.Given.{request_size};
 ghost use Rattle.osc_c.specs.Requests.{AreOptions, IsNoMethod, IsNoRequest, IsNoTag, IsRequest, tags_of};
 ghost use Rattle.osc_c.specs.declared.calls.outcome.Outcome.TheVariants.{BadArgument};
 
 use crate::calls::arguments;
-use crate::calls::arguments::flag;
+use crate::calls::arguments::{flag, sized};
 use crate::calls::outcome::Outcome;
-use crate::calls::plain::PlainOptions;
+use crate::calls::plain::{PlainOptions, PlainRequest};
 use osc_model::{Bytes, Code, ETags, Request};
 use std::alloc::Global;
 
 /// The most bytes of a value of If-Match (RFC 7252 section 5.10).
 const LONGEST_TAG: u8 = 8;
 
-/// A request by this method: 1 GET, 2 POST, 3 PUT, 4 DELETE.
-pub(crate) fn request(
-    alloc: Global,
-    method: u8,
-    text: &[u8],
-    options: &PlainOptions,
-    payload: &[u8],
-) -> Result<Request, Outcome>
-    ensures ok { IfOk result (λ request. IsRequest method text.now options.now payload.now request) }
-    ensures code { IfOk result (λ request. (0 < request.code.0) × (method ≤ 4)) }
-    ensures options { IfOk result (λ request. AreOptions options.now) }
-    ensures err { IfErr result (IsUnfit (IsNoRequest method text.now options.now)) }
+/// The request that these numbers and bytes are: by a method 1 GET, 2 POST, 3 PUT, 4 DELETE.
+pub(crate) fn request(alloc: Global, given: &PlainRequest<'_>) -> Result<Request, Outcome>
+    ensures ok { IfOk result (λ request. IsRequest given.now.method given.now.path.bytes.now given.now.options given.now.payload.bytes.now request) }
+    ensures size { OnOk result (given.now.size ≡ request_size) }
+    ensures code { IfOk result (λ request. (0 < request.code.0) × (given.now.method ≤ 4)) }
+    ensures options { OnOk result (AreOptions given.now.options) }
+    ensures err { IfErr result (IsUnfit (¬ (given.now.size ≡ request_size) ⊎ IsNoRequest given.now.method given.now.path.bytes.now given.now.options)) }
 {
-    let code = code(method)?;
-    let path = arguments::path(alloc, text)?;
-    let format = arguments::format(options.format)?;
-    let accept = arguments::format(options.accept)?;
-    let if_none_match = flag(options.if_none_match)?;
-    let if_match = tags(alloc, options)?;
+    sized(given.size, size_of::<PlainRequest<'_>>())?;
+    let code = code(given.method)?;
+    let path = arguments::path(alloc, given.path.bytes)?;
+    let format = arguments::format(given.options.format)?;
+    let accept = arguments::format(given.options.accept)?;
+    let if_none_match = flag(given.options.if_none_match)?;
+    let if_match = tags(alloc, &given.options)?;
     Ok(Request {
         code,
         path: Some(path),
@@ -40,7 +37,7 @@ pub(crate) fn request(
         accept,
         if_match,
         if_none_match,
-        payload: Bytes::from_slice(alloc, payload)?,
+        payload: Bytes::from_slice(alloc, given.payload.bytes)?,
     })
 }
 

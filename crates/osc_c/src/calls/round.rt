@@ -1,4 +1,4 @@
-//! What came of what a device did at its own server.
+//! The outcome of what a device did at its own server.
 ghost use Rattle.std.specs.Prelude.{◌≡◌, option_map};
 ghost use Rattle.osc_c.specs.Told.{begun_as, came_by, came_of, learnt_as, refused_as, told_of};
 

@@ -8,7 +8,7 @@ ghost use Rattle.osc_device.specs.{refused_in, served_in};
 use crate::calls::arguments;
 use crate::calls::arguments::format_number;
 use crate::calls::device::DeviceNode;
-use crate::calls::filling::fill;
+use crate::calls::filling::{fill, fill_three};
 use crate::calls::outcome::Outcome;
 use crate::calls::plain::{PlainPeer, PlainRefused, PlainServed, PlainValue};
 use osc_device::{Refused, Served};
@@ -16,7 +16,7 @@ use osc_model::{Path, Resource, Step};
 use osc_tree::Tree;
 use std::alloc::Global;
 
-/// What stands at a path of these resources.
+/// What is at a path of these resources.
 fn tell_value(tree: &Tree, path: &Path, payload: &mut [u8], value: &mut PlainValue) -> Outcome
     ensures { TellsValue (map.get tree.now path.now) (record { payload = payload.old; value = value.old }) result (record { payload = payload.new; value = value.new }) }
 {
@@ -127,20 +127,11 @@ fn numbers(served: &Served<'_>) -> PlainServed
 }
 
 /// What was served: its numbers, and its bytes where they have room.
-fn tell_served(
-    from: &Served<'_>,
-    served: &mut PlainServed,
-    path: &mut [u8],
-    payload: &mut [u8],
-    context: &mut [u8],
-) -> Outcome
-    ensures { HasServed from.now (record { path = path.old; payload = payload.old; context = context.old }) result served.new (record { path = path.new; payload = payload.new; context = context.new }) }
+fn tell_served(from: &Served<'_>, served: &mut PlainServed, room: &mut [u8]) -> Outcome
+    ensures { HasServed from.now room.old result served.new room.new }
 {
     *served = numbers(from);
-    let path_fits = fill(path, path_of(from));
-    let payload_fits = fill(payload, from.payload());
-    let context_fits = fill(context, context_of(from));
-    if path_fits && payload_fits && context_fits {
+    if fill_three(room, path_of(from), from.payload(), context_of(from)) {
         Outcome::Done
     } else {
         Outcome::TooShort
@@ -148,19 +139,15 @@ fn tell_served(
 }
 
 /// What a step served.
-fn tell_step(
-    alloc: Global,
-    step: &Step,
-    served: &mut PlainServed,
-    path: &mut [u8],
-    payload: &mut [u8],
-    context: &mut [u8],
-) -> Outcome
-    ensures { TellsServed (served_in step.now.notes) served.old (record { path = path.old; payload = payload.old; context = context.old }) result served.new (record { path = path.new; payload = payload.new; context = context.new }) }
+fn tell_step(alloc: Global, step: &Step, served: &mut PlainServed, room: &mut [u8]) -> Outcome
+    ensures { TellsServed (served_in step.now.notes) served.old room.old result served.new room.new }
 {
+    if step.notes.served().is_none() {
+        return Outcome::Nothing;
+    }
     match Served::in_step(alloc, step) {
         Ok(Some(from)) => {
-            let outcome = tell_served(&from, served, path, payload, context);
+            let outcome = tell_served(&from, served, room);
             drop(from);
             outcome
         }
@@ -197,7 +184,7 @@ fn refused_numbers(refused: Refused) -> PlainRefused
 }
 
 impl DeviceNode {
-    /// What stands at a path.
+    /// What is at a path.
     pub fn get(
         &self,
         alloc: Global,
@@ -218,18 +205,11 @@ impl DeviceNode {
     }
 
     /// The protected request that the last step served.
-    pub fn served(
-        &self,
-        alloc: Global,
-        served: &mut PlainServed,
-        path: &mut [u8],
-        payload: &mut [u8],
-        context: &mut [u8],
-    ) -> Outcome
-        ensures { TellsServed (served_by_last self.now.last) served.old (record { path = path.old; payload = payload.old; context = context.old }) result served.new (record { path = path.new; payload = payload.new; context = context.new }) }
+    pub fn served(&self, alloc: Global, served: &mut PlainServed, room: &mut [u8]) -> Outcome
+        ensures { TellsServed (served_by_last self.now.last) served.old room.old result served.new room.new }
     {
         match self.last.step() {
-            Some(step) => tell_step(alloc, step, served, path, payload, context),
+            Some(step) => tell_step(alloc, step, served, room),
             None => Outcome::Nothing,
         }
     }

@@ -38,7 +38,7 @@ impl Settings {
         }
     }
 
-    /// Adds a target behind the others; without memory all stays as it was.
+    /// Adds a target after the others; without memory all stays as it was.
     pub fn add(
         &mut self,
         alloc: Global,

@@ -2,19 +2,20 @@
 ghost use Rattle.std.specs.Prelude.{◌≡◌, ◌≤◌, [], IfErr, IfOk, OnOk};
 ghost use Rattle.std.specs.Str.{IsUtf8};
 ghost use Rattle.osc_c.specs.Arguments.{IsUnfit};
+ghost use Rattle.osc_c.specs.Given.{claims_given, claims_size};
 ghost use Rattle.osc_c.specs.Tokens.{AreClaims, HaveLengths, HaveNoLengths, IsMinted, IsNoClaims, IsNoScope, IsScopeOf, IsUnminted, Mints, date_of};
 ghost use Rattle.osc_c.specs.declared.calls.outcome.Outcome.TheVariants.{BadArgument};
 
+use crate::calls::arguments::sized;
 use crate::calls::filling::fill;
 use crate::calls::granted;
 use crate::calls::outcome::Outcome;
-use crate::calls::plain::{PlainIv, PlainKey};
+use crate::calls::plain::{PlainClaims, PlainIv, PlainKey};
 use osc_ccm::Aead;
 use osc_model::{Algorithm, Bytes};
 use osc_scope::{ScopeError, text_to_cbor};
 use osc_token::{Audience, Claims, InputMaterial, MintError};
 use std::alloc::{AllocError, Global};
-use std::marker::Model;
 use std::str;
 
 /// The most bytes of a part of input material.
@@ -86,60 +87,21 @@ fn lengths(id: &[u8], secret: &[u8], context: &[u8]) -> Result<(), Outcome>
     Ok(())
 }
 
-/// What a token is to claim, as numbers and bytes.
-#[derive(Drop)]
-pub struct GivenClaims<'a> {
-    /// For whom it is, in UTF-8.
-    pub audience: &'a [u8],
-    /// By what it is named: 0 to 64 bytes.
-    pub id: &'a [u8],
-    /// The master secret: 1 to 64 bytes.
-    pub secret: &'a [u8],
-    /// The id context: 0 to 64 bytes.
-    pub context: &'a [u8],
-    /// 1: the id context is there; 0: it isn't.
-    pub has_context: u8,
-    /// The text of its scope.
-    pub scope: &'a [u8],
-    /// The first second at which it counts; 0 for none.
-    pub not_before: u64,
-    /// The second from which on it doesn't; 0 for none.
-    pub expires: u64,
-    /// The number of its algorithm.
-    pub algorithm: u8,
-}
-
-impl<'a> Model for GivenClaims<'a> {
-    ghost use Rattle.osc_c.specs.Given.{GivenClaims as Given};
-
-    ghost Value = { Given };
-
-    ghost view = { λ g. record {
-      audience = g.audience.now;
-      id = g.id.now;
-      secret = g.secret.now;
-      context = g.context.now;
-      has_context = g.has_context;
-      scope = g.scope.now;
-      not_before = g.not_before;
-      expires = g.expires;
-      algorithm = g.algorithm;
-    } };
-}
-
 /// What a token is to claim.
-pub fn claims(alloc: Global, given: &GivenClaims<'_>) -> Result<Claims, Outcome>
-    ensures ok { IfOk result (λ claims. AreClaims given.now claims) }
-    ensures lengths { OnOk result (HaveLengths given.now.id given.now.secret given.now.context × (given.now.has_context ≤ 1)) }
-    ensures err { IfErr result (IsNoClaims given.now) }
+pub fn claims(alloc: Global, given: &PlainClaims<'_>) -> Result<Claims, Outcome>
+    ensures ok { IfOk result (λ claims. AreClaims (claims_given given.now) claims) }
+    ensures size { OnOk result (given.now.size ≡ claims_size) }
+    ensures lengths { OnOk result (HaveLengths given.now.id.bytes.now given.now.secret.bytes.now given.now.context.bytes.now × (given.now.has_context ≤ 1)) }
+    ensures err { IfErr result (IsNoClaims (claims_given given.now)) }
 {
-    lengths(given.id, given.secret, given.context)?;
+    sized(given.size, size_of::<PlainClaims<'_>>())?;
+    lengths(given.id.bytes, given.secret.bytes, given.context.bytes)?;
     let alg = granted::algorithm(given.algorithm)?;
-    let id_context = granted::id_context(alloc, given.has_context, given.context)?;
-    let material = material(alloc, given.id, given.secret, id_context, alg)?;
-    let scope = scope_bytes(alloc, given.scope)?;
+    let id_context = granted::id_context(alloc, given.has_context, given.context.bytes)?;
+    let material = material(alloc, given.id.bytes, given.secret.bytes, id_context, alg)?;
+    let scope = scope_bytes(alloc, given.scope.bytes)?;
     Ok(Claims {
-        audience: audience(alloc, given.audience)?,
+        audience: audience(alloc, given.audience.bytes)?,
         not_before: date(given.not_before),
         expires: date(given.expires),
         material,

@@ -1,4 +1,4 @@
--- What came of it, at the path for this id.
+-- The outcome, at the path for this id.
 use Rattle.std.proofs.Common.{◌≡◌, ℕ, List, [], None, Option, Some, inl, subst}
 use Rattle.std.specs.Option.{IfSome}
 use Rattle.osc_model.specs.declared.code.Method.TheVariants.{Delete}

@@ -1,4 +1,4 @@
--- What came of it.
+-- The outcome.
 use Rattle.std.proofs.Common.{inl}
 use Rattle.osc_c.specs.{asked_for}
 use Rattle.osc_c.proofs.Refused.{asked_kept, kept}

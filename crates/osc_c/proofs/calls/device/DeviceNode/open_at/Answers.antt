@@ -1,4 +1,4 @@
--- What came of it.
+-- The outcome.
 use Rattle.std.proofs.Common.{inl}
 use Rattle.osc_c.specs.{draw_of}
 use Rattle.osc_c.proofs.Refused.{begun_kept, kept, never_too_long}

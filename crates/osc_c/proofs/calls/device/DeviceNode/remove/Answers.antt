@@ -3,7 +3,7 @@ use Rattle.std.proofs.Common.{◌≡◌, [], None, inl, rules, subst}
 use Rattle.osc_model.specs.declared.code.Method.TheVariants.{Delete}
 use Rattle.osc_model.specs.declared.request.Request.{Request}
 use Rattle.osc_device.specs.{own_request}
-use Rattle.osc_c.specs.{Asks, ComesTo, asked_for}
+use Rattle.osc_c.specs.{Asks, ComesTo, IsBegun, asked_for}
 use Rattle.osc_c.proofs.calls.device.DeviceNode.remove.Goals as goal
 
 pub returns-in-Ok-path : goal.returns-in-Ok-path
@@ -12,7 +12,7 @@ returns-in-Ok-path g c =
     inl (
       c.in-Ok.now,
       c.in-Ok.ensures.ok,
-      subst (λ (request : Request). ComesTo c.args.self.now c.ask_at.result c.ask_at.new.self
+      subst (λ (request : Request). ComesTo c.args.self.now c.ask_at.result c.ask_at.new.self (IsBegun g.A.Ciphers.is_sealing g.A.Ciphers.TAG c.args.self.now c.args.draws.now request)
           (λ round. Asks g.A.Ciphers.is_sealing g.A.Ciphers.TAG c.args.self.now (asked_for c.args.draws.now c.in-Ok.now request) round c.ask_at.new.self))
           is
           c.ask_at.ensures,

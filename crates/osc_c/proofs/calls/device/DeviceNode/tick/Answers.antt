@@ -1,4 +1,4 @@
--- What came of the tick.
+-- The outcome of the tick.
 use Rattle.std.proofs.Common.{subst}
 use Rattle.osc_message.specs.{after_tick}
 use Rattle.osc_device.specs.{Carries}

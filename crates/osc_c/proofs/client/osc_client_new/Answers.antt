@@ -1,7 +1,0 @@
--- What was made is held; without memory for its box nothing is.
-use Rattle.std.proofs.Common.{inr, refl, rules}
-use Rattle.osc_c.proofs.Lending.{makes_by}
-use Rattle.osc_c.proofs.client.osc_client_new.Goals as goal
-
-pub returns : goal.returns
-returns c = makes_by _ _ _ _ _ _ c.hold.ensures (search rules) c.new.ensures.ok c.new.ensures.err (inr refl)

@@ -1,0 +1,64 @@
+/* A forward proxy on a network. It has no keys: what is protected passes it as it is.
+ *
+ *   proxy PORT SECONDS HOST:PORT=ADDRESS:PORT ..
+ *
+ * Requests for each HOST and PORT go to that ADDRESS and PORT. */
+#define _POSIX_C_SOURCE 200809L
+#include "udp.h"
+
+#include <unistd.h>
+
+static nzf_proxy proxy;
+static int udp;
+
+static void send_all(void) {
+    nzf_peer to;
+    uint8_t bytes[NZF_DATAGRAM_MAX];
+    size_t length;
+    while (nzf_proxy_next(&proxy, &to, bytes, sizeof bytes, &length) == NZF_DONE) send_to(udp, &to, bytes, length);
+}
+
+/* What a step left is sent where it was done. After NZF_NO_MEMORY a datagram is lost, and whoever sent it repeats it. */
+static void heed(const char *what, int32_t number) {
+    if (number == NZF_DONE) send_all();
+    else fprintf(stderr, "proxy: %s: %s\n", what, nzf_outcome_text(number));
+}
+
+static void add_target(const char *text) {
+    const char *equals = strchr(text, '=');
+    size_t length;
+    char name[300];
+    if (equals == NULL || equals - text >= (int)sizeof name) fail(text, "say HOST:PORT=ADDRESS:PORT");
+    memcpy(name, text, (size_t)(equals - text));
+    name[equals - text] = '\0';
+    nzf_peer to = peer_of(equals + 1);
+    uint16_t port = host_and_port(name, &length);
+    if (nzf_proxy_add_target(&proxy, name, length, port, &to) != NZF_DONE) fail(text, "this is no target");
+}
+
+int main(int count, char **words) {
+    if (count < 4) fail("proxy", "say proxy PORT SECONDS HOST:PORT=ADDRESS:PORT ..");
+    if (nzf_proxy_new(&proxy) != NZF_DONE) fail("proxy", "there is no memory");
+    for (int at = 3; at < count; at++) add_target(words[at]);
+    udp = socket_on((uint16_t)atoi(words[1]));
+    printf("listening on port %s\n", words[1]);
+    fflush(stdout);
+    uint64_t end = now() + (uint64_t)atoi(words[2]) * SECOND, tick = now() + SECOND;
+    while (now() < end) {
+        uint8_t bytes[NZF_DATAGRAM_MAX + 1];
+        size_t length;
+        nzf_peer from;
+        nzf_draw it = draw();
+        if (receive(udp, tick, bytes, &length, &from)) {
+            heed("datagram", nzf_proxy_on_datagram(&proxy, now(), &from, bytes, length, &it));
+            it = draw();
+        }
+        if (now() >= tick) {
+            heed("tick", nzf_proxy_on_tick(&proxy, now(), &it));
+            tick = now() + SECOND;
+        }
+    }
+    nzf_proxy_free(&proxy);
+    close(udp);
+    return 0;
+}
