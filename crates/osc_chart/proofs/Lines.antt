@@ -1,4 +1,4 @@
--- The pieces of a line of keys and of what a message is, one behind the other.
+-- The pieces of a line of keys and of what a message is, one after the other.
 use Rattle.std.proofs.Common.{◌≡◌, ℕ, List, ◌++◌, codes, append_assoc}
 use Rattle.hex.specs.Hex.{encode_lower}
 use Rattle.osc_chart.specs.Keys.{pair}

@@ -1,12 +1,12 @@
--- Pieces of a drawing, one behind the other.
+-- Pieces of a drawing, one after the other.
 use Rattle.std.proofs.Common.{◌≡◌, ◌∙◌, ap, sym, ℕ, ◌+◌, ◌<◌, List, [], ◌∷◌, ◌++◌, append_assoc, add-one, decimal, suc, drop, length, get_or}
 use Rattle.std.proofs.Math.Seq.{drop-cons}
 
--- what is left at an item, and behind it
+-- what is left at an item, and after it
 pub drop_item : {A : Type 0} (xs : List A) (i : ℕ) (x : A) → i < length xs → x ≡ get_or xs i x → drop i xs ≡ x ∷ drop (i + 1) xs
 drop_item xs i x lt e = rw (add-one, drop-cons xs i x lt) (ap (λ y. y ∷ drop (suc i) xs) (sym e))
 
--- one piece more behind what a count has so far
+-- one piece more after what a count has so far
 pub one_more : (upto : ℕ → List ℕ) (piece : ℕ → List ℕ) (i : ℕ) (before now after : List ℕ) → upto (suc i) ≡ upto i ++ piece i
     → now ≡ before ++ upto i → after ≡ now ++ piece i → after ≡ before ++ upto (i + 1)
 one_more upto piece i before now after grows e f =

@@ -1,4 +1,4 @@
--- What stands at a column in a line of a chart.
+-- What is at a column in a line of a chart.
 use Rattle.std.specs.Prelude.{ℕ, zero, suc, ◌+◌, ◌==◌, nat_lt, nat_le, ◌&&◌, if◌then◌else◌, Bool, List, [], ◌++◌, codes}
 use Rattle.osc_chart.specs.declared.drawing.Stroke.{Stroke}
 use Rattle.osc_chart.specs.declared.drawing.Stroke.TheVariants.{Nothing, Dot, Line}
@@ -21,7 +21,7 @@ to_the_right begins ends arrives =
 abbrev pub to_the_left : Bool → Bool → List ℕ
 to_the_left ends arrives = if ends then (if arrives then codes "|<------" else codes "| x-----") else codes "--------"
 
--- what stands at the column of this number
+-- what is at the column of this number
 abbrev pub cell : Stroke → ℕ → List ℕ
 cell Nothing i = idle
 cell (Dot at) i = if i == at then codes "*       " else idle
@@ -30,7 +30,7 @@ cell (Line from to arrives) i =
     else if nat_lt from to then (if nat_le from i && nat_lt i to then to_the_right (i == from) (i + 1 == to) arrives else idle)
     else (if nat_le to i && nat_lt i from then to_the_left (i == to) arrives else idle)
 
--- what stands at so many columns
+-- what is at so many columns
 abbrev pub cells : Stroke → ℕ → List ℕ
 cells stroke zero = []
 cells stroke (suc n) = cells stroke n ++ cell stroke n

@@ -5,7 +5,7 @@ pub mod Label
 pub mod Text
 pub mod Keys
 pub mod Picture
-pub use Chart.{column_of}
+pub use Chart.{column_of, is_met}
 pub use Label.{label}
 pub use Text.{chart_text}
 pub use Capture.{capture}

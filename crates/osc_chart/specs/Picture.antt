@@ -10,7 +10,7 @@ use Rattle.osc_chart.specs.declared.chart.Mark.TheVariants as mark
 use Rattle.osc_chart.specs.declared.chart.Way.{Way}
 use Rattle.osc_chart.specs.declared.chart.Way.TheVariants.{Sent, Again, Forged}
 
--- ---- where things stand
+-- ---- where things are
 
 -- the line of a column, and the middle of a row
 abbrev pub x_of : ℕ → ℕ

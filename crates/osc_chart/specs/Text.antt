@@ -14,11 +14,11 @@ abbrev pub spaces : ℕ → List ℕ
 spaces zero = []
 spaces (suc n) = spaces n ++ 32 ∷ []
 
--- behind spaces, so that it is so long at least
+-- after spaces, so that it is so long at least
 abbrev pub behind_spaces : ℕ → List ℕ → List ℕ
 behind_spaces width text = spaces (width - length text) ++ text
 
--- a line: what stands before the columns, what goes over these, and what it says
+-- a line: what is before the columns, what goes over these, and what it says
 abbrev pub drawn : List Column → List ℕ → Stroke → List ℕ → List ℕ
 drawn columns margin stroke label = behind_spaces 4 margin ++ codes "   " ++ cells stroke (length columns) ++ label ++ 10 ∷ []
 

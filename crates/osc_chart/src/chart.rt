@@ -2,7 +2,7 @@
 
 use osc_model::{Bytes, Code, Moment, Peer};
 
-/// Whoever has a column: a node by its name, and where it stands.
+/// Whoever has a column: a node by its name, and where it is.
 #[derive(Clone, Copy, Debug)]
 pub struct Column {
     /// Its name: up to 8 letters and digits.
@@ -23,7 +23,7 @@ pub enum Way {
 }
 
 /// A datagram on the network.
-#[derive(Debug)]
+#[derive(Clone, Debug)]
 pub struct Arrow {
     /// How it came there.
     pub way: Way,
@@ -56,7 +56,7 @@ impl Drop for Arrow {
 }
 
 /// What is drawn, one below the other.
-#[derive(Debug, Drop)]
+#[derive(Clone, Debug, Drop)]
 pub enum Mark {
     /// A datagram.
     Arrow(Arrow),

@@ -1,4 +1,4 @@
-//! What stands at a column in a line of a chart.
+//! What is at a column in a line of a chart.
 ghost use Rattle.std.specs.Prelude.{◌≡◌, ◌+◌, ◌++◌, ◌<◌, ◌^◌, OnOk, if◌then◌else◌, codes, length, position, ◌≤◌, IfSome};
 ghost use Rattle.osc_chart.specs.Chart as chart;
 ghost use Rattle.osc_chart.specs.Drawing as spec;
@@ -18,7 +18,7 @@ pub(crate) enum Stroke {
     Line(usize, usize, bool),
 }
 
-/// The column of a peer; one behind the last, where nobody stands there.
+/// The column of a peer; one after the last, where nobody is there.
 pub(crate) fn column_of(columns: &[Column], peer: Peer) -> usize
     ensures column { result ≡ chart.column_of columns.now peer }
     ensures few { result ≤ length columns.now }
@@ -26,7 +26,7 @@ pub(crate) fn column_of(columns: &[Column], peer: Peer) -> usize
     place_of(columns, peer).unwrap_or(columns.len())
 }
 
-// Which of the columns stands there first.
+// Which of the columns is there first.
 fn place_of(columns: &[Column], peer: Peer) -> Option<usize>
     ensures place { result ≡ position (chart.stands_at peer) columns.now }
     ensures few { IfSome result (λ place. place < length columns.now) }
@@ -34,7 +34,7 @@ fn place_of(columns: &[Column], peer: Peer) -> Option<usize>
     columns.iter().position(|column| column.at == peer)
 }
 
-/// What stands at so many columns, behind this text.
+/// What is at so many columns, after this text.
 pub(crate) fn add_cells(text: &mut Vec<u8>, stroke: Stroke, count: usize) -> Result<(), AllocError>
     ensures { OnOk result (text.new.items ≡ text.old.items ++ spec.cells stroke count) }
 {
@@ -44,7 +44,7 @@ pub(crate) fn add_cells(text: &mut Vec<u8>, stroke: Stroke, count: usize) -> Res
     Ok(())
 }
 
-// What stands at the column of this number: 8 letters.
+// What is at the column of this number: 8 letters.
 fn cell(stroke: Stroke, i: usize) -> &'static [u8]
     requires { i + 1 < 2 ^ 64 }
     ensures { result.now ≡ spec.cell stroke i }

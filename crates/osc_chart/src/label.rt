@@ -1,4 +1,4 @@
-//! What stands at an arrow.
+//! What is at an arrow.
 ghost use Rattle.std.specs.Prelude.{◌≡◌, ◌++◌, IfOk, Some, string_bytes};
 ghost use Rattle.hex.specs.Hex.{encode_lower};
 ghost use Rattle.osc_coap.specs.{message_at};

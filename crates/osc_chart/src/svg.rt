@@ -20,7 +20,7 @@ const HEAD: &str =
 
 /// How it looks, where the reader likes it light and where dark.
 const STYLE: &str =
-    "<style>\nsvg{--paper:#fff;--ink:#1b1b1b;--soft:#9a9a9a;--lost:#b3261e;--forged:#7a35d6;--note:#00695c}\n@media(prefers-color-scheme:dark){svg{--paper:#161616;--ink:#ececec;--soft:#7d7d7d;--lost:#ff8a80;--forged:#c9a7ff;--note:#80cbc4}}\ntext{font:13px ui-monospace,monospace;fill:var(--ink)}\n.name{font-weight:bold;text-anchor:middle}.number{text-anchor:end}.time{fill:var(--soft)}.note{fill:var(--note)}circle{fill:var(--note)}\npath{fill:none;stroke:var(--ink);stroke-width:1.4}.line{stroke:var(--soft);stroke-width:1}\n.again{stroke-dasharray:2 3}.forged{stroke:var(--forged)}.lost{stroke:var(--lost);stroke-dasharray:6 4}\n.in{marker-end:url(#tip)}.forged.in{marker-end:url(#forgery)}.lost{marker-end:url(#cross)}\n</style>\n<defs><marker id=\"tip\" markerUnits=\"userSpaceOnUse\" markerWidth=\"10\" markerHeight=\"10\" refX=\"9\" refY=\"5\" orient=\"auto\"><path style=\"fill:var(--ink);stroke:none\" d=\"M0 1L9 5L0 9z\"/></marker>\n<marker id=\"forgery\" markerUnits=\"userSpaceOnUse\" markerWidth=\"10\" markerHeight=\"10\" refX=\"9\" refY=\"5\" orient=\"auto\"><path style=\"fill:var(--forged);stroke:none\" d=\"M0 1L9 5L0 9z\"/></marker>\n<marker id=\"cross\" markerUnits=\"userSpaceOnUse\" markerWidth=\"10\" markerHeight=\"10\" refX=\"5\" refY=\"5\" orient=\"auto\"><path style=\"stroke:var(--lost)\" d=\"M1 1L9 9M1 9L9 1\"/></marker></defs>\n<rect width=\"100%\" height=\"100%\" style=\"fill:var(--paper)\"/>\n";
+    "<style>\n.paper{fill:#fff}text{font:13px ui-monospace,monospace;fill:#1b1b1b}\n.name{font-weight:bold;text-anchor:middle}.number{text-anchor:end}.time{fill:#6b6b6b}.note{fill:#00695c}circle{fill:#00695c}\npath{fill:none;stroke:#1b1b1b;stroke-width:1.4}.line{stroke:#9a9a9a;stroke-width:1}\n.again{stroke-dasharray:2 3}.forged{stroke:#7a35d6}.lost{stroke:#b3261e;stroke-dasharray:6 4}\n.tip{fill:#1b1b1b;stroke:none}.forgery{fill:#7a35d6;stroke:none}.cross{stroke:#b3261e}\n.in{marker-end:url(#tip)}.forged.in{marker-end:url(#forgery)}.lost{marker-end:url(#cross)}\n@media(prefers-color-scheme:dark){.paper{fill:#161616}text{fill:#ececec}.time{fill:#9a9a9a}.note{fill:#80cbc4}circle{fill:#80cbc4}\npath{stroke:#ececec}.line{stroke:#7d7d7d}.forged{stroke:#c9a7ff}.lost{stroke:#ff8a80}.tip{fill:#ececec;stroke:none}.forgery{fill:#c9a7ff;stroke:none}.cross{stroke:#ff8a80}}\n</style>\n<defs><marker id=\"tip\" markerUnits=\"userSpaceOnUse\" markerWidth=\"10\" markerHeight=\"10\" refX=\"9\" refY=\"5\" orient=\"auto\"><path class=\"tip\" d=\"M0 1L9 5L0 9z\"/></marker>\n<marker id=\"forgery\" markerUnits=\"userSpaceOnUse\" markerWidth=\"10\" markerHeight=\"10\" refX=\"9\" refY=\"5\" orient=\"auto\"><path class=\"forgery\" d=\"M0 1L9 5L0 9z\"/></marker>\n<marker id=\"cross\" markerUnits=\"userSpaceOnUse\" markerWidth=\"10\" markerHeight=\"10\" refX=\"5\" refY=\"5\" orient=\"auto\"><path class=\"cross\" d=\"M1 1L9 9M1 9L9 1\"/></marker></defs>\n<rect class=\"paper\" width=\"100%\" height=\"100%\"/>\n";
 
 /// The chart as a picture in SVG, which has no script: the columns, and then a group for each mark, in order. It is light or dark as its
 /// reader likes it (`prefers-color-scheme`), and each arrow has the names of its ends as its title.
@@ -70,7 +70,7 @@ fn add_size(
     Ok(())
 }
 
-// Some words, and a number behind them.
+// Some words, and a number after them.
 fn add_number(
     alloc: Global,
     text: &mut Vec<u8>,
@@ -84,7 +84,7 @@ fn add_number(
     text.extend_from_slice(digits.as_bytes())
 }
 
-// ---- where things stand
+// ---- where things are
 
 // The line of a column.
 fn x_of(column: usize) -> usize
@@ -158,7 +158,7 @@ fn add_start(
     add_number(alloc, out, "\" y=\"", y)
 }
 
-// A text as it stands in XML.
+// A text as it is in XML.
 #[tactic(auto, unfolding(crate::specs::Picture::escaped))]
 fn add_escaped(out: &mut Vec<u8>, text: &[u8]) -> Result<(), AllocError>
     ensures { OnOk result (out.new.items ≡ out.old.items ++ spec.escaped text.now) }

@@ -9,8 +9,8 @@ use crate::label::{label_of, number_text};
 use osc_model::Moment;
 use std::alloc::{AllocError, Global};
 
-/// The chart as text: a line of names, and then a line for each mark, in order. Before an arrow stands the number of its datagram, and
-/// behind it what it says; one that doesn't arrive ends in `x`. Each column is 8 letters wide.
+/// The chart as text: a line of names, and then a line for each mark, in order. Before an arrow is the number of its datagram, and
+/// after it what it says; one that doesn't arrive ends in `x`. Each column is 8 letters wide.
 pub fn chart_text(alloc: Global, columns: &[Column], marks: &[Mark]) -> Result<Vec<u8>, AllocError>
     ensures { IfOk result (λ text. text.items ≡ spec.chart_text columns.now marks.now) }
 {
@@ -33,7 +33,7 @@ fn names_line(alloc: Global, columns: &[Column]) -> Result<Vec<u8>, AllocError>
     Ok(text)
 }
 
-// Behind spaces, so that it is so long at least.
+// After spaces, so that it is so long at least.
 fn add_behind_spaces(text: &mut Vec<u8>, width: usize, word: &[u8]) -> Result<(), AllocError>
     ensures { OnOk result (text.new.items ≡ text.old.items ++ spec.behind_spaces width word.now) }
 {
@@ -113,7 +113,7 @@ pub(crate) fn time_text(alloc: Global, moment: Moment) -> Result<String, AllocEr
     format!(in alloc; "at {} ms", moment.ms)
 }
 
-// What stands before the columns, what goes over these, and what it says.
+// What is before the columns, what goes over these, and what it says.
 fn add_line(
     text: &mut Vec<u8>,
     columns: &[Column],

@@ -1,4 +1,4 @@
--- Events and datagrams one after another: what is left prints behind what was printed.
+-- Events and datagrams one after another: what is left prints after what was printed.
 use Rattle.std.proofs.Common.{◌≡◌, ◌∙◌, ◌==◌, ap, if◌then◌else◌, sym, subst, refl, ℕ, ◌+◌, ◌<◌, drop, get_or, length, add-one, List, [], ◌∷◌, ◌++◌, append_assoc, append-nil, Bool, codes}
 use Rattle.std.proofs.Math.Seq.{drop-cons}
 use Rattle.osc_script.specs.declared.client_name.ClientName.{ClientName}
@@ -37,7 +37,7 @@ pub events_end : (with_bytes : Bool) (clients : List ClientName) (world : State)
 events_end with_bytes clients world left text P e h =
     subst P (append-nil text) (h [] (subst (λ es. PrintAllRecords with_bytes clients world es []) (sym e) refl))
 
--- ---- the pieces of a line, one behind the other
+-- ---- the pieces of a line, one after the other
 
 pub datagram_pieces : (n from to message bytes bytes-is : List ℕ) → bytes ≡ bytes-is
     → codes "sent " ++ (n ++ (codes " " ++ (from ++ (codes ">" ++ (to ++ (codes " " ++ (message ++ (bytes ++ 10 ∷ []))))))))
@@ -45,7 +45,7 @@ pub datagram_pieces : (n from to message bytes bytes-is : List ℕ) → bytes �
 datagram_pieces n from to message bytes bytes-is e = rw e (simp append_assoc)
 
 pub served_pieces : (holder n code holder-is : List ℕ) → holder ≡ holder-is
-    → codes "served " ++ (holder ++ (codes " " ++ (n ++ (codes " " ++ (code ++ 10 ∷ []))))) ≡ line (codes "served " ++ holder-is ++ codes " " ++ n ++ codes " " ++ code)
+    → codes "served " ++ (holder ++ (codes " " ++ (n ++ (codes " " ++ code)))) ≡ codes "served " ++ holder-is ++ codes " " ++ n ++ codes " " ++ code
 served_pieces holder n code holder-is e = rw e (simp append_assoc)
 
 pub alone_pieces : (client n code client-is : List ℕ) → client ≡ client-is

@@ -1,4 +1,4 @@
--- Runs that go on: what is left prints behind what was printed.
+-- Runs that go on: what is left prints after what was printed.
 use Rattle.std.proofs.Common.{◌≡◌, ◌∙◌, ap, sym, subst, refl, ℕ, ◌+◌, List, [], ◌∷◌, ◌++◌, ◌<◌, ◌≤◌, drop, take, get_or, suc, add-one, length, length-take-le, append_assoc, append-nil, arith, Option, Some, None, Result, Err}
 use Rattle.std.proofs.Math.Seq.{drop-cons, take-suc}
 use Rattle.std.specs.Io.KnownBytes.{Appends, Keeps}
@@ -7,7 +7,7 @@ use Rattle.osc_script.specs.declared.line.Line.{Line}
 use Rattle.osc_simulation.specs.{Printing, Prints, PrintsLine}
 use Rattle.osc_simulation.specs.declared.stage.Stage.{Stage}
 
--- what is left at an item, and behind it
+-- what is left at an item, and after it
 pub drop_item : {A : Type 0} (xs : List A) (i : ℕ) (x : A) → i < length xs → x ≡ get_or xs i x → drop i xs ≡ x ∷ drop (i + 1) xs
 drop_item xs i x lt e = rw (add-one, drop-cons xs i x lt) (ap (λ y. y ∷ drop (suc i) xs) (sym e))
 
@@ -68,7 +68,7 @@ appends_kept (Some x) None c xs h k = absurd h
 appends_kept (Some x) (Some y) None xs h k = k
 appends_kept (Some x) (Some y) (Some z) xs h k = k ∙ h
 
--- what goes behind a text in three parts
+-- what goes after a text in three parts
 pub three_behind : (before events end alone : List ℕ) {one two three : List ℕ} → one ≡ before ++ events → two ≡ one ++ end → three ≡ two ++ alone
     → three ≡ before ++ (events ++ end ++ alone)
 three_behind before events end alone e f g = g ∙ (ap (λ bytes. bytes ++ alone) (f ∙ ap (λ bytes. bytes ++ end) e) ∙ assoc)
@@ -76,6 +76,6 @@ three_behind before events end alone e f g = g ∙ (ap (λ bytes. bytes ++ alone
     assoc : before ++ events ++ end ++ alone ≡ before ++ (events ++ end ++ alone)
     assoc = simp append_assoc
 
--- what goes behind a text is of the same thing by another name
+-- what goes after a text is of the same thing by another name
 pub behind_by : {A : Type 0} (f : A → List ℕ) (before : List ℕ) {a b : A} {after : List ℕ} → a ≡ b → after ≡ before ++ f a → after ≡ before ++ f b
 behind_by f before {a} {b} {after} same e = subst (λ x. after ≡ before ++ f x) same e

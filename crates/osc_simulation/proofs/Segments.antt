@@ -41,7 +41,7 @@ some_path text path = some_text text path.segments path.lawful path.spelled
 pub behind_first : (text : List ℕ) → take (length text - 1) (drop 1 text) ≡ drop 1 text
 behind_first text = take_all (length text - 1) (drop 1 text) (omega (arith, length-drop 1 text))
 
--- ---- options one behind the other
+-- ---- options one after the other
 
 -- a value is the one at this index
 abbrev pub IsAt : List (List ℕ) → ℕ → List ℕ → Type 0
@@ -61,7 +61,7 @@ inner_more p values i value at =
     ∙ ap (λ (v : List ℕ). with_inner_options p (each 11 (v ∷ rest))) at.1
     ∙ sym (at_drop_more (λ vs. with_inner_options p (each 11 vs)) values i value at.0)
 
--- behind the last of them none is left
+-- after the last of them none is left
 pub inner_all : (p : Plaintext) (values : List (List ℕ)) (i : ℕ) → i ≡ length values → p ≡ with_inner_options p (each 11 (drop i values))
 inner_all p values i all =
     sym (ap (λ (vs : List (List ℕ)). with_inner_options p (each 11 vs)) (drop_all i values (omega arith)) ∙ ap (λ (options : List NumberAndValue). record p { options = options }) (append-nil p.options))
@@ -106,7 +106,7 @@ fits_within law parts cut bare path is_path is_bare p i value at whole =
     let all = ap (λ (w : Plaintext). length (plaintext_spelling w)) (inner_more p segments i value at ∙ whole ∙ ap (λ (b : Plaintext). with_inner_options b (each 11 segments)) is_bare) in
     omega (arith, front, all, law (with_inner_options (bare_plaintext bare.code) (each 11 segments)), path_short segments lawful)
 
--- a payload behind a plaintext that has none
+-- a payload after a plaintext that has none
 pub text_whole : (code : ℕ) (options : List NumberAndValue) (payload : List ℕ)
     → plaintext_spelling (record { code = code; options = options; payload = None }) ++ payload_spelling (payload_of payload) ≡ plaintext_spelling (record { code = code; options = options; payload = payload_of payload })
 unfolding plaintext_spelling payload_spelling

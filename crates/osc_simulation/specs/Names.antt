@@ -13,7 +13,7 @@ granted [] = []
 granted (Grant client scope not_before expires alg ∷ lines) = client ∷ granted lines
 granted (line ∷ lines) = granted lines
 
--- a proxy behind the others, if it isn't among them
+-- a proxy after the others, if it isn't among them
 abbrev pub with_proxy : List ProxyName → ProxyName → List ProxyName
 with_proxy proxies proxy = if list_any (λ other. other.digit == proxy.digit) proxies then proxies else proxies ++ proxy ∷ []
 

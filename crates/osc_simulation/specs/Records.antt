@@ -29,10 +29,13 @@ holder_text clients (minted ∷ rest) secret =
     if bytes_eq minted.grant.secret secret then name_of_number clients minted.grant.holder else holder_text clients rest secret
 
 -- served CLIENT NUMBER CODE
+abbrev pub served_words : List ClientName → List Minted → Entry → List ℕ
+served_words clients minted entry =
+    codes "served " ++ holder_text clients minted entry.context.secret ++ codes " " ++ decimal entry.number ++ codes " " ++ code_text entry.reply.code.0
+
 abbrev pub served_text : List ClientName → List Minted → Option Entry → List ℕ
 served_text clients minted None = []
-served_text clients minted (Some entry) =
-    line (codes "served " ++ holder_text clients minted entry.context.secret ++ codes " " ++ decimal entry.number ++ codes " " ++ code_text entry.reply.code.0)
+served_text clients minted (Some entry) = line (served_words clients minted entry)
 
 -- ---- what a client learnt
 
@@ -60,7 +63,7 @@ step_text clients minted (Some step) = served_text clients minted step.notes.ser
 
 -- ---- what was sent
 
--- the name of the node that stands there, or `?`
+-- the name of the node that is there, or `?`
 pub data NamesPeer (peer : Peer) (text : List ℕ) : Type 0 where
   of_node : (node : Node) → peer ≡ address_of node → text ≡ name_of node → NamesPeer peer text
   of_none : ((node : Node) → ¬ (peer ≡ address_of node)) → text ≡ codes "?" → NamesPeer peer text
@@ -97,7 +100,7 @@ step_at (Some number) steps = slice_get (reverse steps) number
 abbrev pub sent_at : Record → List SentDatagram → List SentDatagram
 sent_at event sent = take (event.end - event.first) (drop event.first sent)
 
--- What came of an event of the world, in this order: what was served, what a client learnt, what was sent; `nothing` where there is none of it.
+-- The outcome of an event of the world, in this order: what was served, what a client learnt, what was sent; `nothing` where there is none of it.
 pub record PrintsRecord (with_bytes : Bool) (clients : List ClientName) (world : State) (event : Record) (text : List ℕ) : Type 0 where
   pub lines : List ℕ
   pub sent : PrintAllSent with_bytes (event.first + 1) (sent_at event world.sent) lines

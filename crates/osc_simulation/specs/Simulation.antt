@@ -87,7 +87,7 @@ abbrev pub way_by : Option ProxyName → Route
 way_by None = record { next_hop = address_of Server; origin = None }
 way_by (Some proxy) = record { next_hop = address_of (Proxy proxy); origin = Some server_origin }
 
--- a client that a line grants these claims to, as the grant of this number, from 1: it stands at its address, and sends as the lines say
+-- a client that a line grants these claims to, as the grant of this number, from 1: it is at its address, and sends as the lines say
 abbrev pub holder_of : List Line → ℕ → ClientName → Claims → Holder
 holder_of lines number client claims =
     record { at = address_of (Client client); way = way_by (proxy_of client lines); claims = claims; iv = iv_of number }
@@ -107,7 +107,7 @@ AllEnrolled all old (line ∷ lines) new = (next : Beginning) × Enrolled all ol
 abbrev pub targets : List Target
 targets = record { host = codes "s"; port = 5683; peer = address_of Server } ∷ []
 
--- a proxy stands at its address, behind the others
+-- a proxy is at its address, after the others
 abbrev pub with_new_proxy : Beginning → ProxyName → Beginning
 with_new_proxy start proxy = record start { proxies = start.proxies ++ new_proxy (address_of (Proxy proxy)) targets ∷ [] }
 
@@ -190,7 +190,7 @@ abbrev pub quiet_text : Bool → List ℕ
 quiet_text true = []
 quiet_text false = line_text (codes "not quiet")
 
--- behind the number of the script's line, where that is wanted
+-- after the number of the script's line, where that is wanted
 abbrev pub behind_number : Bool → ℕ → List ℕ → List ℕ
 behind_number false number text = text
 behind_number true number text = numbered number text
@@ -253,7 +253,7 @@ pub data IsFront (printing : Printing) (first : Stage) (lines : List Line) (text
   at_end : (events end : List ℕ) (last : Stage) → Prints printing 1 first lines events last → IsEnd last.world end → text ≡ events ++ end
       → IsFront printing first lines text
 
--- What a trace of these lines printed that ends for want of memory: nothing, where there was none for the world, or a front.
+-- What a trace of these lines printed that ends for lack of memory: nothing, where there was none for the world, or a front.
 pub data IsCut (form : TraceForm) (lines : List Line) (text : List ℕ) : Type 0 where
   at_once : text ≡ [] → IsCut form lines text
   later : (first : Stage) → Begins lines first.world → IsFirst first → IsFront (record { form = form; names = names_in lines }) first lines text → IsCut form lines text

@@ -11,7 +11,7 @@ use Rattle.osc_model.specs.Tree.{Tree}
 use Rattle.osc_model.specs.declared.resource.Resource.{Resource}
 use Rattle.osc_simulation.specs.Text.{line, code_text, format_text, short_text}
 
--- TYPE CODE, and `oscore` behind them where the message has an OSCORE option
+-- TYPE CODE, and `oscore` after them where the message has an OSCORE option
 abbrev pub message_text : Message → List ℕ
 message_text message =
     kind_name message.kind ++ codes " " ++ code_text message.code
@@ -50,12 +50,12 @@ alone_line client answer = line (codes "alone " ++ client ++ codes " " ++ decima
 abbrev pub alone_text : List ℕ → List Answer → List ℕ
 alone_text client answers = flat_map (alone_line client) answers
 
--- These words stand before each line of the text; whether a line begins here, and then behind each line feed.
+-- These words are before each line of the text; whether a line begins here, and then after each line feed.
 abbrev pub words_before : List ℕ → Bool → List ℕ → List ℕ
 words_before words begins [] = []
 words_before words begins (byte ∷ text) = (if begins then words else []) ++ byte ∷ words_before words (byte == 10) text
 
--- each line of the text behind this number: `N: `
+-- each line of the text after this number: `N: `
 abbrev pub numbered : ℕ → List ℕ → List ℕ
 numbered number text = words_before (decimal number ++ codes ": ") true text
 

@@ -7,7 +7,7 @@ use osc_world::Draws;
 
 /// What a `draw` line gives: the first eight random bytes of the event that comes next.
 #[derive(Clone, Copy, Debug, PartialEq, Eq)]
-pub(crate) struct DrawnBefore {
+pub struct DrawnBefore {
     /// How many events were before it.
     pub event: usize,
     /// The bytes.
@@ -32,7 +32,7 @@ impl Draws for ScriptDraws {
     }
 }
 
-/// What the event behind so many others is given as random bytes.
+/// What the event after so many others is given as random bytes.
 fn draw_behind(before: usize) -> Draw
     ensures { result ≡ spec.draw_of (before + 1) }
 {

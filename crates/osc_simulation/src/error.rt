@@ -9,7 +9,7 @@ use std::alloc::AllocError;
 /// Why a script has no whole trace.
 #[derive(Clone, Copy, Debug, PartialEq, Eq)]
 pub enum TraceError {
-    /// The line of this number, counted from 1, is the first that stands for nothing.
+    /// The line of this number, counted from 1, is the first that applies for nothing.
     BadLine(u64),
     /// There was no memory.
     OutOfMemory,

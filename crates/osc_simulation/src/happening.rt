@@ -12,7 +12,7 @@ use osc_world::{SentDatagram, What};
 use std::alloc::{AllocError, Global};
 
 /// What happens by a line that is one event, in a world that sent these datagrams; by any other line nothing.
-pub(crate) fn what_of(
+pub fn what_of(
     alloc: Global,
     names: &Names,
     sent: &[SentDatagram],
@@ -90,7 +90,7 @@ fn injects(alloc: Global, from: Peer, to: Peer, bytes: &Bytes) -> Result<Option<
 }
 
 /// The number in the world of a datagram, which a script counts from 1; for 0, the number of the next one.
-pub(crate) fn datagram_number(sent: &[SentDatagram], number: u64) -> usize
+pub fn datagram_number(sent: &[SentDatagram], number: u64) -> usize
     ensures { result ≡ spec.datagram_number sent.now number }
 {
     if number == 0 {

@@ -15,9 +15,12 @@ mod simulate;
 mod stage;
 mod trace;
 
+pub use draw::DrawnBefore;
 pub use error::TraceError;
+pub use happening::{datagram_number, what_of};
 pub use names::{Names, name_of_number, number_of};
-pub use record::learnt_text;
-pub use set_up::start_of;
+pub use record::{learnt_text, sent_at, served_words, step_of};
+pub use set_up::{first_world, start_of};
 pub use simulate::trace_script;
+pub use stage::Stage;
 pub use trace::{CodeText, TraceForm, bad_line_text, end_text};

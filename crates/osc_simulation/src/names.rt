@@ -109,7 +109,7 @@ fn is_among(proxies: &[ProxyName], proxy: ProxyName) -> bool
     proxies.iter().any(|other| other.digit == proxy.digit)
 }
 
-/// Adds the proxy behind the others.
+/// Adds the proxy after the others.
 fn append(proxies: &mut Vec<ProxyName>, proxy: ProxyName) -> Result<(), AllocError>
     ensures { OnOk result (proxies.new.items ≡ proxies.old.items ++ proxy ∷ []) }
 {
@@ -123,7 +123,7 @@ pub fn number_of(clients: &[ClientName], client: ClientName) -> usize
     place_of(clients, client).unwrap_or(clients.len())
 }
 
-/// Where the client stands first among these.
+/// Where the client is first among these.
 fn place_of(clients: &[ClientName], client: ClientName) -> Option<usize>
     ensures { result ≡ position (λ other. other.digit == client.digit) clients.now }
 {
@@ -137,7 +137,7 @@ pub(crate) fn proxy_number(proxies: &[ProxyName], proxy: ProxyName) -> usize
     place_of_proxy(proxies, proxy).unwrap_or(proxies.len())
 }
 
-/// Where the proxy stands first among these.
+/// Where the proxy is first among these.
 fn place_of_proxy(proxies: &[ProxyName], proxy: ProxyName) -> Option<usize>
     ensures { result ≡ position (λ other. other.digit == proxy.digit) proxies.now }
 {

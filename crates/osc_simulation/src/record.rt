@@ -57,7 +57,7 @@ pub(crate) fn record_text(
 }
 
 /// The step that was taken at the event, if one was.
-fn step_of<'a>(world: &'a World, event: &Record) -> Option<&'a Noted>
+pub fn step_of<'a>(world: &'a World, event: &Record) -> Option<&'a Noted>
     ensures { option_map (λ step. step.now) result ≡ spec.step_at event.now.step world.now.steps }
 {
     step_at(event.step, world.steps())
@@ -71,7 +71,7 @@ fn step_at(number: Option<usize>, steps: &[Noted]) -> Option<&Noted>
 }
 
 /// The datagrams that an event sent.
-fn sent_at<'a>(event: &Record, sent: &'a [SentDatagram]) -> &'a [SentDatagram]
+pub fn sent_at<'a>(event: &Record, sent: &'a [SentDatagram]) -> &'a [SentDatagram]
     ensures sent { result.now ≡ spec.sent_at event.now sent.now }
     ensures few { event.now.first + length result.now < 2 ^ 64 }
 {
@@ -123,9 +123,22 @@ fn served_line(
 ) -> Result<String, AllocError>
     ensures { IfOk result (λ text. string_bytes text ≡ spec.served_text clients.now minted.now (Some entry.now)) }
 {
+    let words = served_words(alloc, clients, minted, entry)?;
+    format!(in alloc; "{words}\n")
+}
+
+/// `served CLIENT NUMBER CODE`: whose request was served, its number, and the code that it was answered.
+pub fn served_words(
+    alloc: Global,
+    clients: &[ClientName],
+    minted: &[Minted],
+    entry: &Entry,
+) -> Result<String, AllocError>
+    ensures { IfOk result (λ text. string_bytes text ≡ spec.served_words clients.now minted.now entry.now) }
+{
     let holder = holder_name(clients, minted, &entry.context.secret);
     let code = CodeText(entry.reply.code.0);
-    format!(in alloc; "served {holder} {} {code}\n", entry.number)
+    format!(in alloc; "served {holder} {} {code}", entry.number)
 }
 
 /// The holder of the first grant with this secret, or `?` where no grant has it.
@@ -198,7 +211,7 @@ fn unverified_text(alloc: Global, code: Code) -> Result<String, AllocError>
 
 // ---- what was sent
 
-/// A line for each datagram, behind as many that were sent before.
+/// A line for each datagram, after as many that were sent before.
 fn sent_lines(
     alloc: Global,
     with_bytes: bool,
@@ -234,7 +247,7 @@ fn sent_line(
     format!(in alloc; "sent {number} {from}>{to} {message}{bytes}\n")
 }
 
-/// The name of the node that stands there, or `?`.
+/// The name of the node that is there, or `?`.
 fn peer_name(peer: Peer) -> &'static str
     ensures { NamesPeer peer result.now }
 {

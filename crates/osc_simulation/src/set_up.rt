@@ -29,8 +29,8 @@ const SERVER_HOST: &[u8] = b"s";
 const SERVER_PORT: u16 = 5683;
 
 /// The world that the set-up lines make: the resources, the paths that are open, the revocation path, the clients with their tokens, and
-/// the proxies.
-pub(crate) fn first_world(alloc: Global, names: &Names, lines: &[Line]) -> Result<World, AllocError>
+/// the proxies. The lines of a script fit (`laws::a_script_fits`), and the names are those of the same lines.
+pub fn first_world(alloc: Global, names: &Names, lines: &[Line]) -> Result<World, AllocError>
     requires puts { CanPutAll map.empty lines.now }
     requires names { names.now ≡ names_in lines.now }
     ensures { IfOk result (λ world. spec.Begins lines.now world) }
@@ -75,7 +75,7 @@ fn add_all(alloc: Global, start: &mut Start, proxies: &[ProxyName]) -> Result<()
     Ok(())
 }
 
-// Adds a proxy, which forwards to the server alone. No other node of a script stands at its address: only want of memory refuses it.
+// Adds a proxy, which forwards to the server alone. No other node of a script is at its address: only lack of memory refuses it.
 fn add(alloc: Global, start: &mut Start, proxy: ProxyName) -> Result<(), AllocError>
     ensures { OnOk result (start.new ≡ spec.with_new_proxy start.old proxy) }
 {
@@ -196,7 +196,7 @@ fn enroll_all(alloc: Global, start: &mut Start, lines: &[Line]) -> Result<(), Al
     Ok(())
 }
 
-// Enrolls the client that the line grants to, if it does, behind so many, in a script of these lines.
+// Enrolls the client that the line grants to, if it does, after so many, in a script of these lines.
 fn enroll(
     alloc: Global,
     start: &mut Start,
@@ -226,7 +226,7 @@ fn enroll(
     Ok(())
 }
 
-// The number of the grant behind so many. No script has more than nine, one for each client.
+// The number of the grant after so many. No script has more than nine, one for each client.
 fn next_number(enrolled: u8) -> Result<u8, AllocError>
     ensures { IfOk result (λ number. number ≡ enrolled + 1) }
 {
@@ -293,8 +293,8 @@ fn holder(number: u8, client: ClientName, way: Route, claims: Claims) -> Holder
     }
 }
 
-// A grant of a script has a scope that can be read and is short enough for a token, and no other node stands at its client's address:
-// only want of memory refuses it.
+// A grant of a script has a scope that can be read and is short enough for a token, and no other node is at its client's address:
+// only lack of memory refuses it.
 fn admit(alloc: Global, start: &mut Start, holder: Holder) -> Result<(), AllocError>
     ensures { OnOk result (Enrols spec.is_sealing start.old holder start.new) }
 {

@@ -28,7 +28,7 @@ use std::io::Write;
 ///
 /// # Errors
 ///
-/// `BadLine` has the number of the first line that stands for nothing; nothing is written then. For want of memory the lines so far are
+/// `BadLine` has the number of the first line that means nothing; nothing is written then. For lack of memory the lines so far are
 /// written.
 pub fn trace_script<W: Write>(
     alloc: Global,
@@ -153,7 +153,7 @@ fn line_text(
     behind_number(alloc, form.lines, number, text)
 }
 
-// The text behind the number of the script's line, where that is wanted.
+// The text after the number of the script's line, where that is wanted.
 fn behind_number(
     alloc: Global,
     wanted: bool,
@@ -176,7 +176,7 @@ fn count_events(stage: &Stage) -> usize
     stage.world().records().len()
 }
 
-// What the events print that came behind so many.
+// What the events print that came after so many.
 fn text_behind(
     alloc: Global,
     with_bytes: bool,
@@ -196,14 +196,14 @@ fn text_behind(
     )
 }
 
-// The records behind so many.
+// The records after so many.
 fn behind(records: &[Record], before: usize) -> &[Record]
     ensures { result.now ≡ drop before records.now }
 {
     &records[min(before, records.len())..]
 }
 
-// `not quiet` behind a quiet round that was stopped.
+// `not quiet` after a quiet round that was stopped.
 fn add_quiet(text: &mut Vec<u8>, quiet: bool) -> Result<(), AllocError>
     ensures { OnOk result (text.new.items ≡ text.old.items ++ spec.quiet_text quiet) }
 {

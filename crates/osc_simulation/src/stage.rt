@@ -19,12 +19,13 @@ use std::alloc::{AllocError, Global};
 const QUIET_LIMIT: usize = 1000;
 
 /// How far a script has come.
-pub(crate) struct Stage {
-    world: World,
+pub struct Stage {
+    /// The world, as the lines so far left it.
+    pub world: World,
     /// The moment of the events that come.
-    moment: Moment,
+    pub moment: Moment,
     /// What the last `draw` line gave.
-    draws: Option<DrawnBefore>,
+    pub draws: Option<DrawnBefore>,
 }
 
 impl Drop for Stage {
@@ -58,7 +59,7 @@ impl Stage {
     }
 
     /// Does what the line says, in a script of these names. Whether nothing waits still at the end of a quiet round; for
-    /// any other line that is so. For want of memory an `AllocError`; a quiet round may have begun then.
+    /// any other line that is so. For lack of memory an `AllocError`; a quiet round may have begun then.
     pub fn does(&mut self, alloc: Global, names: &Names, line: &Line) -> Result<bool, AllocError>
         ensures { IfOk result (λ quiet. spec.Does names.now self.old line.now quiet self.new) }
     {

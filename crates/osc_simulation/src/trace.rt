@@ -19,7 +19,7 @@ use std::fmt;
 pub struct TraceForm {
     /// With the bytes of their datagrams.
     pub bytes: bool,
-    /// Each line behind the number of the script's line whose event it is, from 1.
+    /// Each line after the number of the script's line whose event it is, from 1.
     pub lines: bool,
 }
 
@@ -37,7 +37,7 @@ pub(crate) fn message_text(alloc: Global, message: &MessageRef<'_>) -> Result<St
     format!(in alloc; "{kind} {code}{mark}")
 }
 
-/// The bytes of a datagram behind a space, where they are wanted.
+/// The bytes of a datagram after a space, where they are wanted.
 pub(crate) fn wanted_bytes_text(
     alloc: Global,
     with_bytes: bool,
@@ -185,7 +185,7 @@ fn alone_line(
     format!(in alloc; "alone {client} {} {code}\n", answer.0)
 }
 
-/// Each line of the text behind this number: `N: `.
+/// Each line of the text after this number: `N: `.
 pub(crate) fn numbered(alloc: Global, number: usize, text: &[u8]) -> Result<Vec<u8>, AllocError>
     ensures { IfOk result (λ lines. lines.items ≡ spec.numbered number text.now) }
 {
@@ -212,7 +212,7 @@ fn words_before(alloc: Global, words: &[u8], text: &[u8]) -> Result<Vec<u8>, All
     Ok(lines)
 }
 
-// The byte, behind the words where a line begins with it.
+// The byte, after the words where a line begins with it.
 fn add_byte(lines: &mut Vec<u8>, words: &[u8], begins: bool, byte: u8) -> Result<(), AllocError>
     ensures { OnOk result (lines.new.items ≡ lines.old.items ++ (if begins then words.now else []) ++ byte ∷ []) }
 {

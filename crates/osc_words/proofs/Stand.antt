@@ -19,16 +19,17 @@ use Rattle.osc_words.specs.declared.token_option.TokenOption.TheVariants as toke
 use Rattle.osc_words.specs.declared.token_words.Expiry.{Expiry as AnyExpiry}
 use Rattle.osc_words.specs.declared.token_words.TokenAsked.{TokenAsked}
 use Rattle.osc_words.specs.declared.words.Words.{Words}
-use Rattle.osc_words.specs.declared.words.Words.TheVariants.{Sim, Token, Key, Server, Proxy, Client, Lab}
+use Rattle.osc_words.specs.declared.words.Words.TheVariants.{Sim, Token, Key, Store, Server, Proxy, Client, Lab}
 use Rattle.osc_words.specs.declared.words.WordsError.{WordsError}
 use Rattle.osc_words.specs.declared.words.WordsError.TheVariants.{NotOne}
 use Rattle.osc_words.proofs.ClientParts.{code_of_method}
 
 asked_by_method : (entered : Option (Text × List Row)) (read : Words) → AreWords entered read → AsksByMethod read
 asked_by_method None read s = absurd s
-asked_by_method (Some entered) (Sim bytes lines only) s = tt
+asked_by_method (Some entered) (Sim words) s = tt
 asked_by_method (Some entered) (Token asked) s = tt
 asked_by_method (Some entered) Key s = tt
+asked_by_method (Some entered) (Store file) s = tt
 asked_by_method (Some entered) (Server words) s = tt
 asked_by_method (Some entered) (Proxy words) s = tt
 asked_by_method (Some entered) (Client words) s =
@@ -107,9 +108,10 @@ elsewhere name other Expiry e f a b = not_token name other (codes "token") e f a
 
 not_one : (entered : Option (Text × List Row)) (choice : Choice) → HasNotOne entered choice → (read : Words) → AreWords entered read → ⊥
 not_one None choice h read s = h
-not_one (Some entered) choice h (Sim bytes lines only) s = elsewhere entered.0 (codes "sim") choice h.0 s.0 refl refl
+not_one (Some entered) choice h (Sim words) s = elsewhere entered.0 (codes "sim") choice h.0 s.0 refl refl
 not_one (Some entered) choice h (Token asked) s = not_asked entered.0 entered.1 choice h.0 s.0 h.1 asked s.1
 not_one (Some entered) choice h Key s = elsewhere entered.0 (codes "key") choice h.0 s refl refl
+not_one (Some entered) choice h (Store file) s = elsewhere entered.0 (codes "store") choice h.0 s.0 refl refl
 not_one (Some entered) choice h (Server words) s = elsewhere entered.0 (codes "server") choice h.0 s.0 refl refl
 not_one (Some entered) choice h (Proxy words) s = elsewhere entered.0 (codes "proxy") choice h.0 s.0 refl refl
 not_one (Some entered) choice h (Client words) s = not_asked_for entered.0 entered.1 choice h.0 s.0 h.1 words s.1

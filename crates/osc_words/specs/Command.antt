@@ -11,7 +11,8 @@ use Rattle.osc_words.specs.ClientWords as client
 use Rattle.osc_words.specs.Choices.{IsNotOne, command_of, not_one_text}
 use Rattle.osc_words.specs.NamedOptions.{refusal_text, unread_text, value_of}
 use Rattle.osc_words.specs.NodeWords.{AreNodeWords}
-use Rattle.osc_words.specs.Options.{flag_rule, is_set, option_rule, value_rule}
+use Rattle.osc_words.specs.Options.{flag_rule, form_rule, option_rule, value_rule, word_rule}
+use Rattle.osc_words.specs.SimWords.{AreSimWords, SpellsForm}
 use Rattle.osc_words.specs.TokenWords as token
 use Rattle.osc_words.specs.Values.{IsGiven, SpellsClient, SpellsTurns}
 use Rattle.osc_words.specs.declared.client_option.ClientOption.{ClientOption}
@@ -19,16 +20,19 @@ use Rattle.osc_words.specs.declared.client_option.ClientOption.TheVariants as cl
 use Rattle.osc_words.specs.declared.choice.Choice.{Choice}
 use Rattle.osc_words.specs.declared.named_option.NamedOption.{NamedOption}
 use Rattle.osc_words.specs.declared.named_option.NamedOption.TheVariants as option
+use Rattle.osc_words.specs.declared.sim_words.DiagramForm.{DiagramForm}
 use Rattle.osc_words.specs.declared.token_option.TokenOption.{TokenOption}
 use Rattle.osc_words.specs.declared.token_option.TokenOption.TheVariants as token_option
 use Rattle.osc_words.specs.declared.words.Words.{Words}
-use Rattle.osc_words.specs.declared.words.Words.TheVariants.{Sim, Token, Key, Server, Proxy, Client, Lab}
+use Rattle.osc_words.specs.declared.words.Words.TheVariants.{Sim, Token, Key, Store, Server, Proxy, Client, Lab}
 use Rattle.osc_words.specs.declared.words.WordsError.{WordsError}
 use Rattle.osc_words.specs.declared.words.WordsError.TheVariants.{Clap, Value, NotOne, Unread, Memory}
 
--- osc sim [--bytes] [--lines] [--only CLIENT]
+-- osc sim [--bytes] [--lines] [--only CLIENT] [--diagram[=FORM]] [--pcap FILE]
 abbrev pub sim_app : App
-sim_app = with_rule (with_rule (with_rule (new_app (codes "sim")) (flag_rule (codes "bytes"))) (flag_rule (codes "lines"))) (value_rule (codes "only") false)
+sim_app =
+    with_rule (with_rule (with_rule (with_rule (with_rule (new_app (codes "sim")) (flag_rule (codes "bytes"))) (flag_rule (codes "lines"))) (value_rule (codes "only") false))
+    (form_rule (codes "diagram") (codes "text"))) (value_rule (codes "pcap") false)
 
 abbrev pub token_options : List TokenOption
 token_options =
@@ -42,6 +46,10 @@ token_app = fold (λ app option. with_rule app (option_rule option)) (new_app (c
 -- osc key
 abbrev pub key_app : App
 key_app = new_app (codes "key")
+
+-- osc store FILE
+abbrev pub store_app : App
+store_app = with_rule (new_app (codes "store")) (word_rule (codes "file"))
 
 -- osc NAME [--config FILE] [--check] [--turns N] [--log]
 abbrev pub node_app : Text → App
@@ -70,15 +78,15 @@ bare_program = record { top = record (new_app (codes "osc")).top { subcommand_re
 
 abbrev pub program : App
 program = fold (λ app command. with_subcommand app command.top) bare_program
-    (sim_app ∷ token_app ∷ key_app ∷ node_app (codes "server") ∷ node_app (codes "proxy") ∷ client_app ∷ lab_app ∷ [])
+    (sim_app ∷ token_app ∷ key_app ∷ store_app ∷ node_app (codes "server") ∷ node_app (codes "proxy") ∷ client_app ∷ lab_app ∷ [])
 
 -- the subcommand that was entered, with its rows, asks for this
 abbrev pub AreWords : Option (Text × List Row) → Words → Type 0
 AreWords None words = ⊥
-AreWords (Some entered) (Sim bytes lines only) =
-    (entered.0 ≡ codes "sim") × (bytes ≡ is_set (codes "bytes") entered.1) × (lines ≡ is_set (codes "lines") entered.1) × IsGiven SpellsClient (value_of option.SimOnly entered.1) only
+AreWords (Some entered) (Sim words) = (entered.0 ≡ codes "sim") × AreSimWords entered.1 words
 AreWords (Some entered) (Token asked) = (entered.0 ≡ codes "token") × token.AreTokenWords entered.1 asked
 AreWords (Some entered) Key = entered.0 ≡ codes "key"
+AreWords (Some entered) (Store file) = (entered.0 ≡ codes "store") × (value_of option.StoreFile entered.1 ≡ Some file)
 AreWords (Some entered) (Server words) = (entered.0 ≡ codes "server") × AreNodeWords option.ServerTurns entered.1 words
 AreWords (Some entered) (Proxy words) = (entered.0 ≡ codes "proxy") × AreNodeWords option.ProxyTurns entered.1 words
 AreWords (Some entered) (Client words) = (entered.0 ≡ codes "client") × client.AreClientWords entered.1 words
@@ -88,9 +96,12 @@ AreWords (Some entered) (Lab turns) = (entered.0 ≡ codes "lab") × IsGiven Spe
 abbrev pub HasNothing : Option (Text × List Row) → NamedOption → Type 0
 HasNothing None option = ⊥
 HasNothing (Some entered) option.SimOnly = (entered.0 ≡ codes "sim") × ((only : Option ClientName) → ¬ IsGiven SpellsClient (value_of option.SimOnly entered.1) only)
+HasNothing (Some entered) option.SimDiagram = (entered.0 ≡ codes "sim") × ((form : Option DiagramForm) → ¬ IsGiven SpellsForm (value_of option.SimDiagram entered.1) form)
+HasNothing (Some entered) option.SimPcap = ⊥
 HasNothing (Some entered) option.ServerTurns = (entered.0 ≡ codes "server") × ((turns : ℕ) → ¬ SpellsTurns (value_of option.ServerTurns entered.1) turns)
 HasNothing (Some entered) option.ProxyTurns = (entered.0 ≡ codes "proxy") × ((turns : ℕ) → ¬ SpellsTurns (value_of option.ProxyTurns entered.1) turns)
 HasNothing (Some entered) option.NodeConfig = ⊥
+HasNothing (Some entered) option.StoreFile = (entered.0 ≡ codes "store") × (value_of option.StoreFile entered.1 ≡ None)
 HasNothing (Some entered) (option.Client refused) = (entered.0 ≡ codes "client") × client.SaysNothing entered.1 refused
 HasNothing (Some entered) option.LabTurns = (entered.0 ≡ codes "lab") × ((turns : ℕ) → ¬ IsGiven SpellsNumber (value_of option.LabTurns entered.1) (Some turns))
 HasNothing (Some entered) (option.Token refused) = (entered.0 ≡ codes "token") × token.SaysNothing entered.1 refused
@@ -109,7 +120,7 @@ abbrev pub AsksByMethod : Words → Type 0
 AsksByMethod (Client words) = (0 < words.request.code.0) × (words.request.code.0 < 5)
 AsksByMethod words = Unit {0}
 
--- Why they stand for nothing: a fault of theirs, or a wish for help; else the value of an option, or the options of one value.
+-- Why they mean nothing: a fault of theirs, or a wish for help; else the value of an option, or the options of one value.
 abbrev pub HaveFault : List Text → WordsError → Type 0
 HaveFault words (Clap error) = IsAmong (kind_of error) (fault_of program words)
 HaveFault words (Value option) = (fault_of program words ≡ []) × HasNothing (subcommand_of program words) option

@@ -9,6 +9,7 @@ pub mod ClientOptions
 pub mod ClientWords
 pub mod NamedOptions
 pub mod NodeWords
+pub mod SimWords
 pub mod Command
 pub mod Inner
 pub use Choices.{AreSome, IsNotOne, command_of}

@@ -1,5 +1,5 @@
 -- The options of `osc token`.
-use Rattle.std.specs.Prelude.{ℕ, Bool, true, false, List, codes, Option, Some}
+use Rattle.std.specs.Prelude.{ℕ, Bool, true, false, List, [], ◌∷◌, codes, Option, Some}
 use Rattle.std.specs.Option.{option_map_or}
 use Rattle.std.specs.Str.{bytes_eq}
 use Rattle.clap.specs.Words.{Row, Rule, Text, first_of, new_rule}
@@ -34,6 +34,15 @@ is_required option = false
 -- --NAME VALUE
 abbrev pub value_rule : List ℕ → Bool → Rule
 value_rule name required = record (new_rule name) { long = Some name; value_names = 1; required = required }
+
+-- --NAME[=VALUE], with this value where it is left out
+abbrev pub form_rule : List ℕ → List ℕ → Rule
+form_rule name missing =
+    record (value_rule name false) { range = Some (record { start_inclusive = 0; end_inclusive = 1 }); missing = missing ∷ [] }
+
+-- VALUE, a word without a name
+abbrev pub word_rule : List ℕ → Rule
+word_rule name = record (new_rule name) { value_names = 1; required = true }
 
 -- --NAME
 abbrev pub flag_rule : Text → Rule

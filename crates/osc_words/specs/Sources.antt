@@ -1,4 +1,4 @@
--- Values that others should not see: they are given, or stand in a file.
+-- Values that others should not see: they are given, or are in a file.
 use Rattle.std.specs.Prelude.{◌≡◌, ◌-◌, ◌∷◌, [], ℕ, Bool, List, Option, Some, None, if◌then◌else◌, length, take, drop}
 use Rattle.std.specs.Str.{bytes_eq}
 use Rattle.clap.specs.Words.{Row}
@@ -16,7 +16,7 @@ abbrev pub given_of : {X : Type 0} → Source X → Option X
 given_of (Given value) = Some value
 given_of (InFile name) = None
 
--- the name of the file, where it stands in one
+-- the name of the file, where it is in one
 abbrev pub file_of : {X : Type 0} → Source X → Option (List ℕ)
 file_of (Given value) = None
 file_of (InFile name) = Some name
@@ -31,7 +31,7 @@ abbrev pub file_option_of : HiddenOption → TokenOption
 file_option_of hidden.Key = KeyFile
 file_option_of hidden.Secret = SecretFile
 
--- what the two options say of the value: the one spells it where it is given, the other names the file where it stands in one
+-- what the two options say of the value: the one spells it where it is given, the other names the file where it is in one
 abbrev pub IsSource : {X : Type 0} → (List ℕ → X → Type 0) → HiddenOption → List Row → Source X → Type 0
 IsSource Spells option rows source =
     IsGiven Spells (value_of (option_of option) rows) (given_of source) × (value_of (file_option_of option) rows ≡ file_of source)

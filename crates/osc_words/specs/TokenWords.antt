@@ -28,7 +28,7 @@ SaysClaims rows option claims = Unit {0}
 abbrev pub AreClaims : List Row → OpenClaims → Type 0
 AreClaims rows claims = (option : TokenOption) → SaysClaims rows option claims
 
--- of a token: the key and the secret are each given, or stand in a file of this name
+-- of a token: the key and the secret are each given, or are in a file of this name
 abbrev pub Says : List Row → TokenOption → TokenAsked → Type 0
 Says rows Key asked = IsGiven (SpellsHexWithin 16 16) (value_of Key rows) (given_of asked.key)
 Says rows KeyFile asked = value_of KeyFile rows ≡ file_of asked.key

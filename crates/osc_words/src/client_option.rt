@@ -17,11 +17,11 @@ pub enum ClientOption {
     Payload,
     /// `--text`: the request's payload, as it is.
     Text,
-    /// `--payload-file`: the file that the request's payload stands in.
+    /// `--payload-file`: the file that the request's payload is in.
     PayloadFile,
     /// `--format`: the Content-Format of the payload.
     Format,
-    /// `--config`: the file that the settings stand in.
+    /// `--config`: the file that the settings are in.
     Config,
 }
 

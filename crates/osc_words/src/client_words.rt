@@ -19,20 +19,20 @@ use osc_model::{Bytes, Code, ETags, Path, Request};
 use osc_script::values;
 use std::alloc::Global;
 
-/// What `osc client` is asked for, before the file is read that the payload may stand in.
+/// What `osc client` is asked for, before the file is read that the payload may be in.
 #[derive(Debug, PartialEq, Eq, Drop)]
 pub struct ClientWords {
     /// The most turns that it takes.
     pub turns: u64,
-    /// What it asks for, under the context of its token. The code is a method's, 1 to 4. The payload is empty where it stands in a file.
+    /// What it asks for, under the context of its token. The code is a method's, 1 to 4. The payload is empty where it is in a file.
     pub request: Request,
-    /// The file that the payload stands in, if it does.
+    /// The file that the payload is in, if it does.
     pub payload_file: Option<FileName>,
     /// Whether only the bytes of an answer's payload are printed.
     pub raw: bool,
     /// Whether it only reads its settings, and says what it understood.
     pub check: bool,
-    /// The file that its settings stand in; they come on the standard input where there is none.
+    /// The file that its settings are in; they come on the standard input where there is none.
     pub config: Option<FileName>,
 }
 
@@ -90,7 +90,7 @@ fn patience(options: &ArgMatches<'_>) -> Result<u64, WordsError>
     }
 }
 
-// The payload, or the file that it stands in; one that no option gives is empty.
+// The payload, or the file that it is in; one that no option gives is empty.
 fn payload(alloc: Global, options: &ArgMatches<'_>) -> Result<(Bytes, Option<FileName>), WordsError>
     ensures { MatchResult result (λ read. spec.SaysPayload (rows_of (found_of options.now)) read.0 read.1) (IsClientRefusal (rows_of (found_of options.now))) }
 {

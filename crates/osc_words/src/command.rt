@@ -5,7 +5,7 @@ ghost use Rattle.clap.specs.declared.builder.command.Command.TheViews.{out-Comma
 ghost use Rattle.osc_words.specs.Command as spec;
 ghost use Rattle.osc_words.specs.NamedOptions.{name_of};
 ghost use Rattle.osc_words.specs.ClientOptions.{option_rule};
-ghost use Rattle.osc_words.specs.Options.{flag_rule, value_rule};
+ghost use Rattle.osc_words.specs.Options.{flag_rule, form_rule, value_rule, word_rule};
 ghost use Rattle.osc_words.specs.Inner.Reading.{IsKnown, IsReadFrom};
 ghost use Rattle.osc_words.specs.declared.choice.Choice.{Choice as AnyChoice};
 ghost use Rattle.osc_words.specs.declared.named_option.NamedOption.{NamedOption as AnyOption};
@@ -15,6 +15,8 @@ use crate::client_option::ClientOption;
 use crate::client_words::client_words;
 use crate::named_option::NamedOption;
 use crate::node_words::node_words;
+use crate::sim_words::SimWords;
+use crate::source::FileName;
 use crate::token_option::TokenOption;
 use crate::words::{Words, WordsError};
 use crate::{given, token_words};
@@ -37,7 +39,7 @@ const LOG_HELP: &str = "Tells of each request that is served or refused, on the 
 /// # Errors
 ///
 /// `Clap` for a fault of the words and for a wish for help or the version, then `Value` for an option whose value is none
-/// that it may have, or `NotOne` for a value whose options aren't given as they have to be; `Memory` for want of memory.
+/// that it may have, or `NotOne` for a value whose options aren't given as they have to be; `Memory` for lack of memory.
 pub fn read_words(alloc: Global, words: &[&str]) -> Result<Words, WordsError>
     // What is read is what the words stand for ..
     ensures read { IfOk result (λ read. spec.StandFor (map (λ word. word.now) words.now) read) }
@@ -61,9 +63,10 @@ fn words_in(alloc: Global, matches: &ArgMatches<'_>) -> Result<Words, WordsError
     ensures { IsReadFrom (subcommand_rows_of matches.now) result }
 {
     match matches.subcommand() {
-        Some(("sim", options)) => sim_asked(options),
+        Some(("sim", options)) => sim_asked(alloc, options),
         Some(("token", options)) => token_asked(alloc, options),
         Some(("key", _)) => Ok(Words::Key),
+        Some(("store", options)) => store_asked(alloc, options),
         Some(("server", options)) => server_asked(alloc, options),
         Some(("proxy", options)) => proxy_asked(alloc, options),
         Some(("client", options)) => client_asked(alloc, options),
@@ -73,14 +76,16 @@ fn words_in(alloc: Global, matches: &ArgMatches<'_>) -> Result<Words, WordsError
 }
 
 // What `osc sim` asks for with these options.
-fn sim_asked(options: &ArgMatches<'_>) -> Result<Words, WordsError>
+fn sim_asked(alloc: Global, options: &ArgMatches<'_>) -> Result<Words, WordsError>
     ensures { IsReadFrom (Some (codes "sim", rows_of (found_of options.now))) result }
 {
-    Ok(Words::Sim {
+    Ok(Words::Sim(SimWords {
         bytes: given::is_set(options, "bytes"),
         lines: given::is_set(options, "lines"),
         only: given::client(options, NamedOption::SimOnly)?,
-    })
+        diagram: given::form(options, NamedOption::SimDiagram)?,
+        pcap: given::file(alloc, options, NamedOption::SimPcap)?,
+    }))
 }
 
 // What `osc token` asks for.
@@ -88,6 +93,14 @@ fn token_asked(alloc: Global, options: &ArgMatches<'_>) -> Result<Words, WordsEr
     ensures { IsReadFrom (Some (codes "token", rows_of (found_of options.now))) result }
 {
     Ok(Words::Token(token_words::token_asked(alloc, options)?))
+}
+
+// What `osc store` asks for.
+fn store_asked(alloc: Global, options: &ArgMatches<'_>) -> Result<Words, WordsError>
+    ensures { IsReadFrom (Some (codes "store", rows_of (found_of options.now))) result }
+{
+    let name = given::required_text(options, NamedOption::StoreFile)?;
+    Ok(Words::Store(FileName::new(alloc, name)?))
 }
 
 // What `osc server` asks for.
@@ -138,12 +151,13 @@ fn program<'a>(alloc: Global) -> Result<Command<'a>, AllocError>
 // The program with the subcommands that open no socket.
 fn with_tools<'a>(alloc: Global) -> Result<Command<'a>, AllocError>
     ensures { IfOk result (λ command. app_of command
-        ≡ with_subcommand (with_subcommand (with_subcommand spec.bare_program spec.sim_app.top) spec.token_app.top) spec.key_app.top) }
+        ≡ with_subcommand (with_subcommand (with_subcommand (with_subcommand spec.bare_program spec.sim_app.top) spec.token_app.top) spec.key_app.top) spec.store_app.top) }
 {
     bare_program(alloc)
         .subcommand(sim_command(alloc)?)?
         .subcommand(token_command(alloc)?)?
-        .subcommand(key_command(alloc))
+        .subcommand(key_command(alloc))?
+        .subcommand(store_command(alloc)?)
 }
 
 // The command with the subcommands of the nodes that are asked.
@@ -184,10 +198,12 @@ fn sim_command<'a>(alloc: Global) -> Result<Command<'a>, AllocError>
 {
     let command = Command::new(alloc, "sim")
         .about("Runs the script on the standard input, and prints its trace")
-        .after_help("Example: osc sim --bytes --only c1 < SCRIPT");
+        .after_help("Example: osc sim --diagram --pcap run.pcap < SCRIPT");
     let command = with_flag(alloc, command, "bytes", "Prints the bytes of each datagram")?;
     let command = with_flag(alloc, command, "lines", LINES_HELP)?;
-    with_option(alloc, command, NamedOption::SimOnly, false)
+    let command = with_option(alloc, command, NamedOption::SimOnly, false)?;
+    let command = with_form(alloc, command, NamedOption::SimDiagram, "text")?;
+    with_option(alloc, command, NamedOption::SimPcap, false)
 }
 
 // The subcommand that mints a token.
@@ -217,6 +233,24 @@ fn key_command<'a>(alloc: Global) -> Command<'a>
     Command::new(alloc, "key")
         .about("Prints 16 bytes in hexadecimal, drawn at random: a key, or a secret")
         .after_help("Example: osc key > KEY-FILE")
+}
+
+// The subcommand that lists a store.
+fn store_command<'a>(alloc: Global) -> Result<Command<'a>, AllocError>
+    ensures app { IfOk result (λ command. app_of command ≡ spec.store_app) }
+    ensures local { IfOk result (λ command. (out-Command command).has_globals ≡ false) }
+{
+    let command = Command::new(alloc, "store")
+        .about("Lists the resources that a server's store holds")
+        .after_help("Example: osc store STORE");
+    let option = NamedOption::StoreFile;
+    with_word(
+        alloc,
+        command,
+        option.name(),
+        option.value_name(),
+        option.help(),
+    )
 }
 
 // The subcommand that runs a server.
@@ -358,6 +392,64 @@ fn with_value<'a>(
         .value_name(value_name)
         .help(help)
         .required(is_required);
+    command.arg(arg)
+}
+
+// An option whose value is this where it is left out.
+fn with_form<'a>(
+    alloc: Global,
+    command: Command<'a>,
+    option: NamedOption,
+    missing: &'a str,
+) -> Result<Command<'a>, AllocError>
+    ensures app { IfOk result (λ more. app_of more ≡ with_rule (app_of command.entry) (form_rule (name_of option) missing.entry.now)) }
+    ensures local { IfOk result (λ more. (out-Command more).has_globals ≡ (out-Command command.entry).has_globals) }
+{
+    with_missing(
+        alloc,
+        command,
+        option.name(),
+        option.value_name(),
+        option.help(),
+        missing,
+    )
+}
+
+fn with_missing<'a>(
+    alloc: Global,
+    command: Command<'a>,
+    name: &'a str,
+    value_name: &'a str,
+    help: &'a str,
+    missing: &'a str,
+) -> Result<Command<'a>, AllocError>
+    ensures app { IfOk result (λ more. app_of more ≡ with_rule (app_of command.entry) (form_rule name.entry.now missing.entry.now)) }
+    ensures local { IfOk result (λ more. (out-Command more).has_globals ≡ (out-Command command.entry).has_globals) }
+{
+    let arg = Arg::new(alloc, name)
+        .long(name)
+        .value_name(value_name)
+        .help(help)
+        .num_args(0..=1)
+        .default_missing_value(missing);
+    command.arg(arg)
+}
+
+// A word that has to be there.
+fn with_word<'a>(
+    alloc: Global,
+    command: Command<'a>,
+    name: &'a str,
+    value_name: &'a str,
+    help: &'a str,
+) -> Result<Command<'a>, AllocError>
+    ensures app { IfOk result (λ more. app_of more ≡ with_rule (app_of command.entry) (word_rule name.entry.now)) }
+    ensures local { IfOk result (λ more. (out-Command more).has_globals ≡ (out-Command command.entry).has_globals) }
+{
+    let arg = Arg::new(alloc, name)
+        .value_name(value_name)
+        .help(help)
+        .required(true);
     command.arg(arg)
 }
 

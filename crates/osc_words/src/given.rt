@@ -5,10 +5,12 @@ ghost use Rattle.osc_script.specs.{SpellsNumber};
 ghost use Rattle.osc_words.specs.NamedOptions.{value_of};
 ghost use Rattle.osc_words.specs.Options as options_spec;
 ghost use Rattle.osc_words.specs.Inner.Reading.{IsRefusalOf};
+ghost use Rattle.osc_words.specs.SimWords.{SpellsForm};
 ghost use Rattle.osc_words.specs.Values.{IsGiven, SpellsClient, SpellsTurns};
 
 use crate::command::text_of;
 use crate::named_option::NamedOption;
+use crate::sim_words::DiagramForm;
 use crate::source::FileName;
 use crate::words::WordsError;
 use clap::ArgMatches;
@@ -92,6 +94,24 @@ pub(crate) fn client(
         return Err(WordsError::Value(option));
     };
     Ok(Some(client))
+}
+
+/// A form of diagrams, where it is given.
+pub(crate) fn form(
+    options: &ArgMatches<'_>,
+    option: NamedOption,
+) -> Result<Option<DiagramForm>, WordsError>
+    ensures { MatchResult result
+        (IsGiven SpellsForm (value_of option (rows_of (found_of options.now))))
+        (IsRefusalOf option (IsGiven SpellsForm (value_of option (rows_of (found_of options.now))))) }
+{
+    let Some(text) = text(options, option) else {
+        return Ok(None);
+    };
+    let Some(form) = DiagramForm::named(text) else {
+        return Err(WordsError::Value(option));
+    };
+    Ok(Some(form))
 }
 
 /// A number that has to be given.

@@ -1,4 +1,4 @@
-//! What files hold that the key and the secret stand in.
+//! What files hold that the key and the secret are in.
 ghost use Rattle.std.specs.Prelude.{◌≡◌, IfOk};
 ghost use Rattle.osc_script.specs.{Reads, SpellsHexWithin};
 ghost use Rattle.osc_words.specs.Sources as spec;

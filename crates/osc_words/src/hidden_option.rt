@@ -4,7 +4,7 @@ ghost use Rattle.osc_words.specs.Sources as spec;
 
 use crate::token_option::TokenOption;
 
-/// A value of `osc token` that is given by one option, or stands in a file that another names.
+/// A value of `osc token` that is given by one option, or is in a file that another names.
 #[derive(Clone, Copy, Debug, PartialEq, Eq)]
 pub enum HiddenOption {
     /// `--key` or `--key-file`.

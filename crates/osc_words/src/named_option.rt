@@ -11,12 +11,18 @@ use std::alloc::{AllocError, Global};
 pub enum NamedOption {
     /// `--only` of `osc sim`: the client whose entries are answered alone too.
     SimOnly,
+    /// `--diagram` of `osc sim`: how the run is drawn in place of its trace.
+    SimDiagram,
+    /// `--pcap` of `osc sim`: the file that the datagrams are written to.
+    SimPcap,
     /// `--turns` of `osc server`: after how many turns it ends.
     ServerTurns,
     /// `--turns` of `osc proxy`: the same.
     ProxyTurns,
-    /// `--config` of `osc server` and `osc proxy`: the file that the settings stand in.
+    /// `--config` of `osc server` and `osc proxy`: the file that the settings are in.
     NodeConfig,
+    /// The word of `osc store`: the file that the store is in.
+    StoreFile,
     /// An option of `osc client`.
     Client(ClientOption),
     /// `--turns` of `osc lab`: how many turns follow each exchange and each request at most.
@@ -33,7 +39,10 @@ impl NamedOption {
         match self {
             NamedOption::ServerTurns | NamedOption::ProxyTurns | NamedOption::LabTurns => "turns",
             NamedOption::SimOnly => "only",
+            NamedOption::SimDiagram => "diagram",
+            NamedOption::SimPcap => "pcap",
             NamedOption::NodeConfig => "config",
+            NamedOption::StoreFile => "file",
             NamedOption::Client(option) => option.name(),
             NamedOption::Token(option) => option.name(),
         }
@@ -48,7 +57,10 @@ impl NamedOption {
                 "a number of 64 bits in decimal digits"
             }
             NamedOption::SimOnly => "a client, c1 to c9",
+            NamedOption::SimDiagram => "text or svg",
+            NamedOption::SimPcap => "a file",
             NamedOption::NodeConfig => "a file of settings",
+            NamedOption::StoreFile => "a file of a store",
             NamedOption::Client(option) => option.form(),
             NamedOption::Token(option) => option.form(),
         }
@@ -73,7 +85,8 @@ impl NamedOption {
         match self {
             NamedOption::ServerTurns | NamedOption::ProxyTurns | NamedOption::LabTurns => "N",
             NamedOption::SimOnly => "CLIENT",
-            NamedOption::NodeConfig => "FILE",
+            NamedOption::SimDiagram => "FORM",
+            NamedOption::SimPcap | NamedOption::NodeConfig | NamedOption::StoreFile => "FILE",
             NamedOption::Client(option) => option.value_name(),
             NamedOption::Token(option) => option.value_name(),
         }
@@ -88,8 +101,13 @@ impl NamedOption {
                 "The most turns after each exchange and request, each a datagram or 10 ms without one",
             NamedOption::SimOnly =>
                 "Prints how each entry of this client, c1 to c9, is answered where no other client asks",
+            NamedOption::SimDiagram =>
+                "Prints the run as a diagram in place of its trace: as text, or as svg",
+            NamedOption::SimPcap =>
+                "A file that each datagram is written to, for Wireshark; the keys go to FILE.keys",
             NamedOption::NodeConfig =>
                 "A file that the settings stand in; the standard input by default",
+            NamedOption::StoreFile => "The file that a server's settings name as its store",
             NamedOption::Client(option) => option.help(),
             NamedOption::Token(option) => option.help(),
         }

@@ -22,7 +22,7 @@ pub struct NodeWords {
     pub log: bool,
     /// Whether it only reads its settings, and says what it understood.
     pub check: bool,
-    /// The file that its settings stand in; they come on the standard input where there is none.
+    /// The file that its settings are in; they come on the standard input where there is none.
     pub config: Option<FileName>,
 }
 

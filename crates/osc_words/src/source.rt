@@ -7,7 +7,7 @@ ghost use Rattle.std.specs.Str.{IsUtf8};
 use std::alloc::{AllocError, Global};
 use std::marker::Model;
 
-/// A value that is given, or the file that it stands in.
+/// A value that is given, or the file that it is in.
 #[derive(PartialEq, Eq, Drop)]
 pub enum Source<T> {
     Given(T),

@@ -7,7 +7,7 @@ ghost use Rattle.osc_words.specs.Options as spec;
 pub enum TokenOption {
     /// `--key`: the key that the token's issuer and the server share.
     Key,
-    /// `--key-file`: the file that the key stands in.
+    /// `--key-file`: the file that the key is in.
     KeyFile,
     /// `--aud`: the server that the token is for.
     Audience,
@@ -15,7 +15,7 @@ pub enum TokenOption {
     Id,
     /// `--secret`: the master secret.
     Secret,
-    /// `--secret-file`: the file that the secret stands in.
+    /// `--secret-file`: the file that the secret is in.
     SecretFile,
     /// `--salt`: the salt that master salts begin with.
     Salt,

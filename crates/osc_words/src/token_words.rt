@@ -28,7 +28,7 @@ use std::fmt;
 // The most bytes that a part of the input material has.
 const LONGEST: usize = 64;
 
-/// What `osc token` is asked for, before the files are read that the key and the secret may stand in.
+/// What `osc token` is asked for, before the files are read that the key and the secret may be in.
 #[derive(PartialEq, Eq, Drop)]
 pub struct TokenAsked {
     /// The key that the token's issuer and the server share.
@@ -151,9 +151,9 @@ fn claims(alloc: Global, options: &ArgMatches<'_>) -> Result<OpenClaims, WordsEr
     })
 }
 
-// ---- what is given, or stands in a file
+// ---- what is given, or is in a file
 
-// The key, or the file that it stands in.
+// The key, or the file that it is in.
 fn key(alloc: Global, options: &ArgMatches<'_>) -> Result<Source<[u8; 16]>, WordsError>
     ensures { MatchResult result
         (IsSource (SpellsHexWithin 16 16) HiddenOption.Key (rows_of (found_of options.now)))
@@ -177,7 +177,7 @@ fn secret(alloc: Global, options: &ArgMatches<'_>) -> Result<Source<Bytes>, Word
     }
 }
 
-// The file that the value stands in, or none where it is given; it is one of the two.
+// The file that the value is in, or none where it is given; it is one of the two.
 fn name_of_file(
     alloc: Global,
     options: &ArgMatches<'_>,

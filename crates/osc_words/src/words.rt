@@ -8,25 +8,23 @@ use crate::choice::Choice;
 use crate::client_words::ClientWords;
 use crate::named_option::NamedOption;
 use crate::node_words::NodeWords;
+use crate::sim_words::SimWords;
+use crate::source::FileName;
 use crate::token_words::TokenAsked;
 use clap::error::ErrorKind;
-use osc_script::ClientName;
 use std::alloc::{AllocError, Global};
 
 /// What a command line asks for: one of the subcommands.
 #[derive(Debug, PartialEq, Eq, Drop)]
 pub enum Words {
-    /// `osc sim [--bytes] [--lines] [--only CLIENT]`: run a script, print its datagrams' bytes where `bytes` says so, the number of the
-    /// script's line before each line that it prints where `lines` does, and what the entries of the client of `only` are answered alone.
-    Sim {
-        bytes: bool,
-        lines: bool,
-        only: Option<ClientName>,
-    },
+    /// `osc sim [--bytes] [--lines] [--only CLIENT] [--diagram[=FORM]] [--pcap FILE]`: run a script.
+    Sim(SimWords),
     /// `osc token`: print a token.
     Token(TokenAsked),
     /// `osc key`: print a key, drawn at random.
     Key,
+    /// `osc store FILE`: list what the store in this file holds.
+    Store(FileName),
     /// `osc server [--config FILE] [--check] [--turns N] [--log]`: run a server.
     Server(NodeWords),
     /// `osc proxy [--config FILE] [--check] [--turns N] [--log]`: run a forward proxy.
@@ -34,9 +32,7 @@ pub enum Words {
     /// `osc client`: post a token and send a request.
     Client(ClientWords),
     /// `osc lab --turns N`: run a script over sockets, with at most so many turns after each exchange and request.
-    Lab {
-        turns: u64,
-    },
+    Lab { turns: u64 },
 }
 
 /// Why a command line can't be heeded.

@@ -25,7 +25,7 @@ IsRefusalOf option P (NotOne hidden) = ⊥
 IsRefusalOf option P (Unread hidden) = ⊥
 IsRefusalOf option P Memory = Unit {0}
 
--- a value that others should not see stands in this file, or in none and is given
+-- a value that others should not see is in this file, or in none and is given
 abbrev pub IsInOne : HiddenOption → List Row → Option (List ℕ) → Type 0
 IsInOne option rows file =
     (value_of (file_option_of option) rows ≡ file) × (is_some (value_of (option_of option) rows) ≡ not (is_some file))
@@ -59,7 +59,7 @@ IsRefusalIn entered Memory = Unit {0}
 
 -- the name of a subcommand of the program
 abbrev pub is_subcommand : Text → Bool
-is_subcommand name = bytes_eq name (codes "sim") || bytes_eq name (codes "token") || bytes_eq name (codes "key") || bytes_eq name (codes "server")
+is_subcommand name = bytes_eq name (codes "sim") || bytes_eq name (codes "token") || bytes_eq name (codes "key") || bytes_eq name (codes "store") || bytes_eq name (codes "server")
     || bytes_eq name (codes "proxy") || bytes_eq name (codes "client") || bytes_eq name (codes "lab")
 
 -- a subcommand of the program was entered

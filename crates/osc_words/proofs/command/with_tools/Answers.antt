@@ -10,5 +10,7 @@ returns c =
     ∙ ap₂ with_subcommand c.bare_program.ensures.app (top c.in_ok-sim_command.ensures.app) in
     let with_token = c.in_ok-subcommand-2.ensures.shape c.in_ok-token_command.ensures.local
     ∙ ap₂ with_subcommand with_sim (top c.in_ok-token_command.ensures.app) in
-    IfOk-weaker c.subcommand-3.result _ _
-    (λ command added. added.shape c.key_command.ensures.local ∙ ap₂ with_subcommand with_token (top c.key_command.ensures.app)) c.subcommand-3.ensures
+    let with_key = c.in_ok-subcommand-3.ensures.shape c.key_command.ensures.local
+    ∙ ap₂ with_subcommand with_token (top c.key_command.ensures.app) in
+    IfOk-weaker c.subcommand-4.result _ _
+    (λ command added. added.shape c.in_ok-store_command.ensures.local ∙ ap₂ with_subcommand with_key (top c.in_ok-store_command.ensures.app)) c.subcommand-4.ensures

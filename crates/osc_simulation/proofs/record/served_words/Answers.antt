@@ -3,7 +3,7 @@ use Rattle.std.proofs.lemmas.Result.{IfOk-weaker}
 use Rattle.osc_model.specs.declared.context.ContextName.{ContextName}
 use Rattle.osc_simulation.specs.{holder_text, code_text}
 use Rattle.osc_simulation.proofs.Printing.{served_pieces}
-use Rattle.osc_simulation.proofs.record.served_line.Goals as goal
+use Rattle.osc_simulation.proofs.record.served_words.Goals as goal
 
 pub returns : goal.returns
 returns c =

@@ -1,0 +1,7 @@
+pub mod Columns
+pub mod Keys
+pub mod Scenes
+pub mod Runs
+pub mod Marks
+pub mod Diagrams
+pub use Diagrams.{IsDiagram, IsDiagramOf, Shows}
