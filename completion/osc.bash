@@ -3,21 +3,23 @@
 
 # words: words
 declare -gA _osc_words=(
-    ["osc"]="sim token key server proxy client lab help --help -h --version -V"
-    ["sim"]="--bytes --lines --only --help -h"
+    ["osc"]="sim token key store server proxy client lab help --help -h --version -V"
+    ["sim"]="--bytes --lines --only --diagram --pcap --help -h"
     ["token"]="--key --key-file --aud --id --secret --secret-file --scope --salt --context --alg --exp --for --nbf --iv --help -h"
     ["key"]="--help -h"
+    ["store"]="--help -h"
     ["server"]="--config --check --turns --log --help -h"
     ["proxy"]="--config --check --turns --log --help -h"
     ["client"]="--turns --timeout --method --path --payload --text --payload-file --format --config --raw --check --help -h"
     ["lab"]="--turns --help -h"
-    ["help"]="sim token key server proxy client lab"
+    ["help"]="sim token key store server proxy client lab"
 )
 # words: end
 
 # words: values
 declare -gA _osc_values=(
     ["sim --only"]=CLIENT
+    ["sim --pcap"]=FILE
     ["token --key"]=HEX
     ["token --key-file"]=FILE
     ["token --aud"]=TEXT
@@ -32,6 +34,7 @@ declare -gA _osc_values=(
     ["token --for"]=TIME
     ["token --nbf"]=N
     ["token --iv"]=HEX
+    ["store"]=FILE
     ["server --config"]=FILE
     ["server --turns"]=N
     ["proxy --config"]=FILE

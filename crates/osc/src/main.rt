@@ -1,15 +1,16 @@
-//! `osc`: CoAP nodes that are protected by OSCORE. What its subcommands do stands in `osc_programs` and `osc_lab`, and how they are asked in `osc_words`.
+//! `osc`: CoAP nodes that are protected by OSCORE. What its subcommands do is in `osc_programs` and `osc_lab`, and how they are asked in `osc_words`.
 #![tactic(auto)]
 
 use osc_lab::lab;
 use osc_programs::{
-    AtOnce, Ended, Faults, Kept, Lines, Noted, TraceForm, ask, check_client, check_proxy,
-    check_server, ended_by, ended_by_io, filled, forward, issue_key, issue_token, running_fault,
-    serve, sim, started_by_io, status, token_fault, token_warning, with_payload,
+    AtOnce, Ended, Faults, Kept, Lines, Noted, TraceForm, Wary, ask, check_client, check_proxy,
+    check_server, draw, ended_by, ended_by_io, filled, forward, issue_key, issue_token, list_store,
+    running_fault, serve, sim, started_by_io, status, token_fault, token_warning, with_payload,
+    write_capture,
 };
-use osc_script::{ClientName, form_of};
+use osc_script::form_of;
 use osc_words::{
-    ClientWords, FileName, NodeWords, Source, TokenAsked, TokenWords, Words, WordsError,
+    ClientWords, FileName, NodeWords, SimWords, Source, TokenAsked, TokenWords, Words, WordsError,
     fault_line, read_words,
 };
 use std::alloc::AllocError;
@@ -44,9 +45,10 @@ fn run(rt: &HostRuntime) -> io::Result<Ended> {
 /// Does what these words ask for.
 fn follow(rt: &HostRuntime, words: Words) -> Ended {
     match words {
-        Words::Sim { bytes, lines, only } => run_sim(rt, TraceForm { bytes, lines }, only),
+        Words::Sim(words) => run_sim(rt, &words),
         Words::Token(asked) => token(rt, asked),
         Words::Key => key(rt),
+        Words::Store(file) => tell(rt, store(rt, &file)),
         Words::Server(words) => tell(rt, run_server(rt, &words)),
         Words::Proxy(words) => tell(rt, run_proxy(rt, &words)),
         Words::Client(words) => tell(rt, run_client(rt, words)),
@@ -66,12 +68,12 @@ fn announce(rt: &HostRuntime, words: &Words) {
 /// What is read from the standard input, if anything is.
 fn awaited(words: &Words) -> Option<&'static str> {
     match words {
-        Words::Sim { .. } | Words::Lab { .. } => {
+        Words::Sim(_) | Words::Lab { .. } => {
             Some("reading the script from standard input; end with Ctrl-D")
         }
         Words::Server(words) | Words::Proxy(words) => awaited_settings(&words.config),
         Words::Client(words) => awaited_settings(&words.config),
-        Words::Token(_) | Words::Key => None,
+        Words::Token(_) | Words::Key | Words::Store(_) => None,
     }
 }
 
@@ -84,10 +86,20 @@ fn awaited_settings(config: &Option<FileName>) -> Option<&'static str> {
 
 // ---- scripts
 
-fn run_sim(rt: &HostRuntime, form: TraceForm, only: Option<ClientName>) -> Ended {
+/// A script's trace, or its diagram, goes to the standard output, and then its datagrams to their file where that is wanted.
+fn run_sim(rt: &HostRuntime, words: &SimWords) -> Ended {
     let mut input = Kept::new(rt.alloc(), Noted::new(rt.reader()));
     let mut output = Noted::new(io::writer(rt));
-    let ended = sim(rt.alloc(), &mut input, &mut output, form, only);
+    let ended = match words.diagram {
+        Some(form) => draw(rt.alloc(), &mut input, &mut output, form),
+        None => {
+            let form = TraceForm {
+                bytes: words.bytes,
+                lines: words.lines,
+            };
+            sim(rt.alloc(), &mut input, &mut output, form, words.only)
+        }
+    };
     tell_line(rt, ended, input.kept());
     tell_streams(
         rt,
@@ -95,7 +107,55 @@ fn run_sim(rt: &HostRuntime, form: TraceForm, only: Option<ClientName>) -> Ended
         STANDARD_INPUT,
         input.inner().fault(),
         output.fault(),
-    )
+    );
+    match (ended, &words.pcap) {
+        (Ended::Done, Some(name)) => capture(rt, input.kept(), name.as_str()),
+        _ => ended,
+    }
+}
+
+/// The datagrams of a script's run go to the file of this name, and the keys to one beside it.
+fn capture(rt: &HostRuntime, script: Option<&[u8]>, name: &str) -> Ended {
+    match (script, keys_name(rt, name)) {
+        (Some(script), Ok(keys)) => capture_to(rt, script, name, keys.as_str()),
+        _ => {
+            notice(rt, "out of memory");
+            Ended::OutOfMemory
+        }
+    }
+}
+
+/// The name of the file of keys beside this one.
+fn keys_name(rt: &HostRuntime, name: &str) -> Result<String, AllocError> {
+    format!(in rt.alloc(); "{name}.keys")
+}
+
+fn capture_to(rt: &HostRuntime, script: &[u8], name: &str, keys_name: &str) -> Ended {
+    match File::create(rt, name) {
+        Ok(file) => match File::create(rt, keys_name) {
+            Ok(keys) => capture_in(rt, script, (name, file), (keys_name, keys)),
+            Err(error) => unwritten(rt, keys_name, &error),
+        },
+        Err(error) => unwritten(rt, name, &error),
+    }
+}
+
+fn capture_in(rt: &HostRuntime, script: &[u8], file: (&str, File), keys: (&str, File)) -> Ended {
+    let mut datagrams = Noted::new(file.1);
+    let mut lines = Noted::new(keys.1);
+    let ended = write_capture(rt.alloc(), script, &mut datagrams, &mut lines);
+    if ended == Ended::OutOfMemory {
+        notice(rt, "out of memory");
+    }
+    tell_fault(rt, file.0, datagrams.fault());
+    tell_fault(rt, keys.0, lines.fault());
+    ended
+}
+
+/// A file can't be made.
+fn unwritten(rt: &HostRuntime, name: &str, error: &io::Error) -> Ended {
+    tell_fault(rt, name, Some(error.kind()));
+    ended_by_io(error)
 }
 
 fn run_lab(rt: &HostRuntime, turns: u64) -> Ended {
@@ -174,6 +234,13 @@ fn server_from<I: Read + Drop>(
     tell_streams(rt, ended, name, input.fault(), output.fault())
 }
 
+/// What the store in this file holds goes to the standard output.
+fn store(rt: &HostRuntime, file: &FileName) -> Ended {
+    let mut output = Noted::new(io::writer(rt));
+    let ended = list_store(rt, file.as_str(), Wary, &mut output);
+    tell_streams(rt, ended, STANDARD_INPUT, None, output.fault())
+}
+
 /// A proxy likewise.
 fn run_proxy(rt: &HostRuntime, words: &NodeWords) -> Ended {
     match &words.config {
@@ -208,7 +275,7 @@ fn proxy_from<I: Read + Drop>(
 
 // ---- a client
 
-/// A client, with the payload of its file where that stands in one.
+/// A client, with the payload of its file where that is in one.
 fn run_client(rt: &HostRuntime, words: ClientWords) -> Ended {
     let payload_file = payload_file(rt, &words);
     match with_payload(rt.alloc(), words, payload_file) {
@@ -217,7 +284,7 @@ fn run_client(rt: &HostRuntime, words: ClientWords) -> Ended {
     }
 }
 
-/// The file that the payload stands in, if it does and the file can be opened.
+/// The file that the payload is in, if it does and the file can be opened.
 fn payload_file(rt: &HostRuntime, words: &ClientWords) -> Option<File> {
     match &words.payload_file {
         Some(name) => File::open(rt, name.as_str()).ok(),
@@ -265,7 +332,7 @@ fn key(rt: &HostRuntime) -> Ended {
     tell_streams(rt, ended, STANDARD_INPUT, None, output.fault())
 }
 
-/// Reads the clock and the files that the key and the secret may stand in, and prints the token.
+/// Reads the clock and the files that the key and the secret may be in, and prints the token.
 fn token(rt: &HostRuntime, asked: TokenAsked) -> Ended {
     match rt.since_1970() {
         Ok(since_1970) => token_at(rt, asked, since_1970.as_secs()),
@@ -286,7 +353,7 @@ fn token_at(rt: &HostRuntime, asked: TokenAsked, now: u64) -> Ended {
     }
 }
 
-/// The file that a value stands in, if it does and the file can be opened.
+/// The file that a value is in, if it does and the file can be opened.
 fn opened<T>(rt: &HostRuntime, source: &Source<T>) -> Option<File> {
     match source {
         Source::Given(_) => None,

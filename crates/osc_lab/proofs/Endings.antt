@@ -2,7 +2,7 @@
 use Rattle.std.proofs.Common.{◌≢◌}
 use Rattle.osc_programs.specs.{CannotLab, EndsLab, IsFault}
 use Rattle.osc_programs.specs.declared.ended.Ended.{Ended}
-use Rattle.osc_programs.specs.declared.ended.Ended.TheVariants.{Done, BadCommandLine, BadLine, BadSettings, OutOfMemory, Failed, PortFailed, NotDone}
+use Rattle.osc_programs.specs.declared.ended.Ended.TheVariants.{Done, BadCommandLine, BadLine, BadSettings, OutOfMemory, Failed, PortFailed, NotDone, Unopened, NotKept}
 
 pub fault_lab : (ended : Ended) → IsFault ended → CannotLab ended
 fault_lab Done f = absurd f
@@ -13,6 +13,8 @@ fault_lab OutOfMemory f = f
 fault_lab Failed f = f
 fault_lab PortFailed f = f
 fault_lab NotDone f = absurd f
+fault_lab (Unopened error) f = absurd f
+fault_lab (NotKept error) f = absurd f
 
 pub cannot_lab : (ended : Ended) → CannotLab ended → EndsLab ended
 cannot_lab Done f = tt
@@ -23,6 +25,8 @@ cannot_lab OutOfMemory f = f
 cannot_lab Failed f = f
 cannot_lab PortFailed f = f
 cannot_lab NotDone f = f
+cannot_lab (Unopened error) f = absurd f
+cannot_lab (NotKept error) f = absurd f
 
 pub lab_no_end : (ended : Ended) → CannotLab ended → ended ≢ Done
 lab_no_end Done f e = f
@@ -33,3 +37,5 @@ lab_no_end OutOfMemory f e = absurd cc
 lab_no_end Failed f e = absurd cc
 lab_no_end PortFailed f e = absurd cc
 lab_no_end NotDone f e = absurd cc
+lab_no_end (Unopened error) f e = absurd cc
+lab_no_end (NotKept error) f e = absurd cc

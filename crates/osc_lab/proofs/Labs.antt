@@ -139,7 +139,7 @@ leads_more first between last so_far (goes deed next _ further step) = goes deed
 
 -- ---- the whole
 
--- what came of the lines, and the last lines behind it
+-- the outcome of the lines, and the last lines after it
 pub prints_by : (turns : ℕ) (lines : List Line) (first last : Lab) (a b c : Option (List ℕ))
     → (text : List ℕ) × TellsLines (rules_of turns lines) first lines text last × Appends a b text
     → (held : Bool) × (IsTrue held ↔ Premise last.minted last.steps) × Appends b c (end_text last.nodes.server.tree (length (history last.steps)) held)

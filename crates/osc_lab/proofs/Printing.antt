@@ -1,4 +1,4 @@
--- The pieces of a line, one behind the other.
+-- The pieces of a line, one after the other.
 use Rattle.std.proofs.Common.{◌≡◌, ℕ, List, [], ◌∷◌, ◌++◌, append_assoc, codes}
 use Rattle.osc_simulation.specs.{line}
 

@@ -153,7 +153,7 @@ pub record Rules : Type 0 where
 abbrev pub rules_of : ℕ → List Line → Rules
 rules_of turns lines = record { clients = granted lines; turns = turns }
 
--- What comes of one of those, whose client has this number: it begins, and then the nodes take whole turns, as many as there may be as long
+-- The outcome of one of those, whose client has this number: it begins, and then the nodes take whole turns, as many as there may be as long
 -- as it waits. What clients learn by that is told, in order, and then that the line's client waits still, where it does.
 pub record TellsLine (rules : Rules) (asked : Line) (number : ℕ) (old : Lab) (text : List ℕ) (new : Lab) : Type 0 where
   pub begun : Lab
@@ -166,7 +166,7 @@ pub record TellsLine (rules : Rules) (asked : Line) (number : ℕ) (old : Lab) (
   pub learns : learnt new.steps ≡ learnt old.steps ++ more
   pub is : text ≡ all_told rules.clients more ++ open_text (name_of_number rules.clients number) (is_waiting new.nodes.clients number)
 
--- what comes of a line, by the client that it has do something: other lines set the lab up
+-- the outcome of a line, by the client that it has do something: other lines set the lab up
 abbrev pub ComesOf : Rules → Line → Option ClientName → Lab → List ℕ → Lab → Type 0
 ComesOf rules asked None old text new = (text ≡ []) × (new ≡ old)
 ComesOf rules asked (Some client) old text new = TellsLine rules asked (number_of rules.clients client) old text new
@@ -177,7 +177,7 @@ pub data TellsLines (rules : Rules) (first : Lab) : List Line → List ℕ → L
   next_line : (lines : List Line) (next : Line) (text some : List ℕ) (between last : Lab) → TellsLines rules first lines text between
       → ComesOf rules next (client_of next) between some last → TellsLines rules first (lines ++ next ∷ []) (text ++ some) last
 
--- All that a lab prints: what comes of the lines, and behind it the last lines, by what its nodes noted.
+-- All that a lab prints: the outcome of the lines, and after it the last lines, by what its nodes noted.
 pub record Prints (turns : ℕ) (lines : List Line) (first : Lab) (text : List ℕ) (last : Lab) : Type 0 where
   pub told : List ℕ
   pub tells : TellsLines (rules_of turns lines) first lines told last
@@ -185,7 +185,7 @@ pub record Prints (turns : ℕ) (lines : List Line) (first : Lab) (text : List �
   pub holds : IsTrue held ↔ Premise last.minted last.steps
   pub is : text ≡ told ++ end_text last.nodes.server.tree (length (history last.steps)) held
 
--- What a lab printed that ends early: what came of the lines before, and of the next one all that clients learnt but the last result at
+-- What a lab printed that ends early: the outcome of the lines before, and of the next one all that clients learnt but the last result at
 -- most.
 pub record BreaksOff (turns : ℕ) (lines : List Line) (first : Lab) (text : List ℕ) (last : Lab) : Type 0 where
   pub before : List Line

@@ -1,10 +1,10 @@
 //! The ports of a lab's nodes: their sockets, and the pace that each node keeps.
-ghost use Rattle.std.specs.Prelude.{IfErr};
+ghost use Rattle.std.specs.Prelude.{◌≡◌, IfErr, is_some};
 ghost use Rattle.osc_programs.specs.Ended as ends;
 
 use crate::port::{AddressMap, Known, LabPort};
 use osc_model::Peer;
-use osc_programs::{Ended, UdpPort, bound};
+use osc_programs::{Ended, SocketPort, UdpPort, bound};
 use osc_script::Node;
 use osc_turn::{ClockAndRandom, Pace, Port, Watch};
 use osc_world::{Parts, Placed};
@@ -28,7 +28,9 @@ pub(crate) struct PacedPort<P: Port + Drop> {
 
 impl<P: Port + Drop> PacedPort<P> {
     /// Whether the node took what came in its last turn. Then the next one may be a tick though something waits.
-    pub fn is_busy(&self) -> bool {
+    pub fn is_busy(&self) -> bool
+        ensures { result ≡ is_some self.now.pace.busy_since }
+    {
         self.pace.busy_since.is_some()
     }
 }

@@ -32,7 +32,7 @@ use std::time::Clock;
 /// busy in a whole turn, or until so many whole turns are gone; a client that waits still is `open` then. It writes what the clients
 /// learn, as it comes, and the end lines.
 ///
-/// A script with another line, or one that stands for nothing, does nothing: `BadLine` has the number of the first such line.
+/// A script with another line, or one that means nothing, does nothing: `BadLine` has the number of the first such line.
 pub fn lab<R: Clock + Net + RandomSource, I: Read, W: Write>(
     alloc: Global,
     runtime: &R,
@@ -98,7 +98,7 @@ fn lab_script(alloc: Global, bytes: &[u8]) -> Result<Script, Ended>
     }
 }
 
-// The first line that a lab can't heed, where the line of this number stands for nothing: a line of another kind may stand before it.
+// The first line that a lab can't heed, where the line of this number means nothing: a line of another kind may be before it.
 fn first_bad(alloc: Global, bytes: &[u8], number: u64) -> Ended
     ensures { ends.CannotLab result }
 {
@@ -210,7 +210,7 @@ fn parts_of(alloc: Global, names: &Names, lines: &[Line]) -> Result<Parts, Ended
 
 // ---- what the clients ask
 
-// What comes of the lines, one after another, and the end lines: over any ports.
+// The outcome of the lines, one after another, and the end lines: over any ports.
 fn run<W: Watch + Drop, P: Port + Drop, O: Write>(
     means: &mut Means<W, P>,
     nodes: &mut LabNodes,
@@ -230,7 +230,7 @@ fn run<W: Watch + Drop, P: Port + Drop, O: Write>(
     tell_end(means.alloc, nodes, writer)
 }
 
-// What comes of the lines.
+// The outcome of the lines.
 fn run_lines<W: Watch + Drop, P: Port + Drop, O: Write>(
     means: &mut Means<W, P>,
     nodes: &mut LabNodes,
@@ -253,7 +253,7 @@ fn run_lines<W: Watch + Drop, P: Port + Drop, O: Write>(
     Ok(())
 }
 
-// What comes of one line.
+// The outcome of one line.
 fn run_line<W: Watch + Drop, P: Port + Drop, O: Write>(
     means: &mut Means<W, P>,
     nodes: &mut LabNodes,

@@ -3,6 +3,9 @@ pub mod Appended
 pub mod Talking
 pub mod Reports
 pub mod Taken
+pub mod Stored
 pub mod OpenPaths
 pub mod Printing
 pub mod PayloadFiles
+pub mod FirstTree
+pub mod Openings

@@ -10,7 +10,7 @@ use Rattle.osc_programs.specs.declared.refusals.Refusals.{Refusals}
 use Rattle.osc_programs.specs.{Report, sent, untold, lost, report_text, line_text, step_text, untold_text, lost_text, told_of, refusals_behind, told_by, refusals_after, reports_of, told_with, Told, Tells}
 use Rattle.osc_programs.proofs.Appended.{appends_more, appends_none}
 
--- ---- some, and more behind them
+-- ---- some, and more after them
 
 flat_more : (some more : List Report) → flat_map report_text (some ++ more) ≡ flat_map report_text some ++ flat_map report_text more
 flat_more [] more = refl

@@ -6,11 +6,11 @@ use Rattle.osc_model.specs.declared.step.Datagram.{Datagram}
 use Rattle.osc_model.specs.declared.step.Step.{Step}
 use Rattle.osc_programs.specs.{IsFault, NoSettings, EndsNode, EndsTurns, EndsTold, EndsClient, CannotTalk, CannotAsk, Running, Runs, Shown, Turns, and_then}
 use Rattle.osc_run.specs.{Cause}
-use Rattle.osc_turn.specs.{IsSeeded, ClockAndRandomState, CameIn, IsRefusedIn, Received, grown}
+use Rattle.osc_turn.specs.{IsOfSeed, IsSeeded, ClockAndRandomState, CameIn, IsRefusedIn, Received, grown}
 use Rattle.osc_programs.specs.Turning.{GoesOn}
 use Rattle.osc_programs.specs.Turning as turning
 use Rattle.osc_programs.specs.declared.ended.Ended.{Ended}
-use Rattle.osc_programs.specs.declared.ended.Ended.TheVariants.{Done, BadCommandLine, BadLine, BadSettings, OutOfMemory, Failed, PortFailed, NotDone}
+use Rattle.osc_programs.specs.declared.ended.Ended.TheVariants.{Done, BadCommandLine, BadLine, BadSettings, OutOfMemory, Failed, PortFailed, NotDone, Unopened, NotKept}
 use Rattle.osc_turn.specs.declared.error.TurnError.{TurnError}
 pub use Rattle.osc_programs.proofs.Reports.{tells_more, tells_none}
 
@@ -35,6 +35,8 @@ no_end OutOfMemory f e = absurd cc
 no_end Failed f e = absurd cc
 no_end PortFailed f e = absurd cc
 no_end NotDone f e = absurd cc
+no_end (Unopened error) f e = absurd cc
+no_end (NotKept error) f e = absurd cc
 
 pub settings_no_end : (ended : Ended) → NoSettings ended → ended ≢ Done
 settings_no_end Done f e = f
@@ -45,6 +47,8 @@ settings_no_end OutOfMemory f e = absurd cc
 settings_no_end Failed f e = absurd cc
 settings_no_end PortFailed f e = absurd cc
 settings_no_end NotDone f e = absurd cc
+settings_no_end (Unopened error) f e = absurd cc
+settings_no_end (NotKept error) f e = absurd cc
 
 pub ask_no_end : (request : Request) (ended : Ended) → CannotAsk request ended → ended ≢ Done
 ask_no_end request Done f e = f
@@ -55,6 +59,8 @@ ask_no_end request OutOfMemory f e = absurd cc
 ask_no_end request Failed f e = absurd cc
 ask_no_end request PortFailed f e = absurd cc
 ask_no_end request NotDone f e = absurd cc
+ask_no_end request (Unopened error) f e = absurd cc
+ask_no_end request (NotKept error) f e = absurd cc
 
 pub ask_not_done : (request : Request) (ended : Ended) → CannotAsk request ended → ended ≢ NotDone
 ask_not_done request Done f e = absurd cc
@@ -65,6 +71,8 @@ ask_not_done request OutOfMemory f e = absurd cc
 ask_not_done request Failed f e = absurd cc
 ask_not_done request PortFailed f e = absurd cc
 ask_not_done request NotDone f e = f
+ask_not_done request (Unopened error) f e = absurd cc
+ask_not_done request (NotKept error) f e = absurd cc
 
 pub fault_turns : (ended : Ended) → IsFault ended → EndsTurns ended
 fault_turns Done f = absurd f
@@ -75,6 +83,8 @@ fault_turns OutOfMemory f = f
 fault_turns Failed f = f
 fault_turns PortFailed f = f
 fault_turns NotDone f = absurd f
+fault_turns (Unopened error) f = absurd f
+fault_turns (NotKept error) f = absurd f
 
 pub turns_node : (ended : Ended) → EndsTurns ended → EndsNode ended
 turns_node Done f = tt
@@ -85,6 +95,8 @@ turns_node OutOfMemory f = f
 turns_node Failed f = f
 turns_node PortFailed f = f
 turns_node NotDone f = absurd f
+turns_node (Unopened error) f = absurd f
+turns_node (NotKept error) f = absurd f
 
 pub turns_not_bad : (ended : Ended) → EndsTurns ended → ended ≢ BadSettings
 turns_not_bad Done f e = absurd cc
@@ -95,6 +107,8 @@ turns_not_bad OutOfMemory f e = absurd cc
 turns_not_bad Failed f e = absurd cc
 turns_not_bad PortFailed f e = absurd cc
 turns_not_bad NotDone f e = absurd cc
+turns_not_bad (Unopened error) f e = absurd cc
+turns_not_bad (NotKept error) f e = absurd cc
 
 pub fault_not_bad : (ended : Ended) → IsFault ended → ended ≢ BadSettings
 fault_not_bad Done f e = absurd cc
@@ -105,6 +119,8 @@ fault_not_bad OutOfMemory f e = absurd cc
 fault_not_bad Failed f e = absurd cc
 fault_not_bad PortFailed f e = absurd cc
 fault_not_bad NotDone f e = absurd cc
+fault_not_bad (Unopened error) f e = absurd cc
+fault_not_bad (NotKept error) f e = absurd cc
 
 pub talk_not_bad : (request : Request) (ended : Ended) → CannotTalk request ended → ended ≢ BadSettings
 talk_not_bad request Done f e = absurd cc
@@ -115,6 +131,8 @@ talk_not_bad request OutOfMemory f e = absurd cc
 talk_not_bad request Failed f e = absurd cc
 talk_not_bad request PortFailed f e = absurd cc
 talk_not_bad request NotDone f e = absurd cc
+talk_not_bad request (Unopened error) f e = absurd cc
+talk_not_bad request (NotKept error) f e = absurd cc
 
 pub told_not_bad : (ended : Ended) → EndsTold ended → ended ≢ BadSettings
 told_not_bad Done f e = absurd cc
@@ -125,6 +143,8 @@ told_not_bad OutOfMemory f e = absurd cc
 told_not_bad Failed f e = absurd cc
 told_not_bad PortFailed f e = absurd cc
 told_not_bad NotDone f e = absurd cc
+told_not_bad (Unopened error) f e = absurd cc
+told_not_bad (NotKept error) f e = absurd cc
 
 pub settings_node : (ended : Ended) → NoSettings ended → EndsNode ended
 settings_node Done f = absurd f
@@ -135,6 +155,8 @@ settings_node OutOfMemory f = f
 settings_node Failed f = f
 settings_node PortFailed f = f
 settings_node NotDone f = absurd f
+settings_node (Unopened error) f = absurd f
+settings_node (NotKept error) f = absurd f
 
 pub fault_talk : (request : Request) (ended : Ended) → IsFault ended → CannotTalk request ended
 fault_talk request Done f = absurd f
@@ -145,6 +167,8 @@ fault_talk request OutOfMemory f = f
 fault_talk request Failed f = f
 fault_talk request PortFailed f = f
 fault_talk request NotDone f = absurd f
+fault_talk request (Unopened error) f = absurd f
+fault_talk request (NotKept error) f = absurd f
 
 pub talk_ask : (request : Request) (ended : Ended) → CannotTalk request ended → CannotAsk request ended
 talk_ask request Done f = absurd f
@@ -155,6 +179,8 @@ talk_ask request OutOfMemory f = f
 talk_ask request Failed f = f
 talk_ask request PortFailed f = f
 talk_ask request NotDone f = absurd f
+talk_ask request (Unopened error) f = absurd f
+talk_ask request (NotKept error) f = absurd f
 
 pub settings_ask : (request : Request) (ended : Ended) → NoSettings ended → CannotAsk request ended
 settings_ask request Done f = absurd f
@@ -165,6 +191,8 @@ settings_ask request OutOfMemory f = f
 settings_ask request Failed f = f
 settings_ask request PortFailed f = f
 settings_ask request NotDone f = absurd f
+settings_ask request (Unopened error) f = absurd f
+settings_ask request (NotKept error) f = absurd f
 
 pub ask_client : (request : Request) (ended : Ended) → CannotAsk request ended → EndsClient request ended
 ask_client request Done f = absurd f
@@ -175,6 +203,8 @@ ask_client request OutOfMemory f = f
 ask_client request Failed f = f
 ask_client request PortFailed f = f
 ask_client request NotDone f = absurd f
+ask_client request (Unopened error) f = absurd f
+ask_client request (NotKept error) f = absurd f
 
 pub told_client : (request : Request) (ended : Ended) → EndsTold ended → EndsClient request ended
 told_client request Done f = f
@@ -185,6 +215,8 @@ told_client request OutOfMemory f = f
 told_client request Failed f = f
 told_client request PortFailed f = absurd f
 told_client request NotDone f = f
+told_client request (Unopened error) f = absurd f
+told_client request (NotKept error) f = absurd f
 
 -- ---- turns
 
@@ -206,16 +238,23 @@ pub one_more : {N : Type 0} (acts : N → Moment → Bool) (is_step : N → Caus
 one_more acts is_step n first between last shown next taken turn =
     subst (λ (k : ℕ). Turns acts is_step k first (and_then shown next) last) (sym (add-one n)) (turning.more n first between last shown next taken turn)
 
--- who ended well took all turns
-pub runs : {N : Type 0} (acts : N → Moment → Bool) (is_step : N → Cause → Step → N → Type 0) (turns taken : ℕ) (old new : N) (start : ClockAndRandomState) (out : List Datagram) (log : List ℕ) (last : Running N) (ended : Ended)
-    → IsSeeded start → Turns acts is_step taken (record { node = old; busy = None; supply = start }) (record { sent = out; text = log }) last → new ≡ last.node
-    → ((ended ≡ Done) × (taken ≡ turns)) ⊎ ((ended ≢ Done) × (taken < turns)) → ended ≡ Done → Runs acts is_step turns log old new
-runs acts is_step turns taken old new start out log last ended seeded all is_last (inl done) e = record {
-  start = start;
-  seeded = seeded;
-  sent = out;
-  last = last;
-  takes = subst (λ (n : ℕ). Turns acts is_step n (record { node = old; busy = None; supply = start }) (record { sent = out; text = log }) last) done.1 all;
-  ends = is_last;
-}
-runs acts is_step turns taken old new start out log last ended seeded all is_last (inr other) e = absurd (other.0 e)
+-- who ended well took all turns, drew by this seed, and handed on all that they sent
+pub runs : {N : Type 0} (gave : List ℕ → Type 0) (acts : N → Moment → Bool) (is_step : N → Cause → Step → N → Type 0) (turns taken : ℕ) (old new : N) (start : ClockAndRandomState) (out : List Datagram) (log : List ℕ) (last : Running N) (ended : Ended)
+    (sent sent_after : Option (List Datagram))
+    → IsSeeded start → IsOfSeed gave start.generator → Turns acts is_step taken (record { node = old; busy = None; supply = start }) (record { sent = out; text = log }) last → new ≡ last.node
+    → sent_after ≡ grown sent out
+    → ((ended ≡ Done) × (taken ≡ turns)) ⊎ ((ended ≢ Done) × (taken < turns)) → ended ≡ Done
+    → (all : Runs acts is_step turns log old new) × IsOfSeed gave all.start.generator × (sent_after ≡ grown sent all.sent)
+runs gave acts is_step turns taken old new start out log last ended sent sent_after seeded given all is_last handed (inl done) e = (
+  record {
+    start = start;
+    seeded = seeded;
+    sent = out;
+    last = last;
+    takes = subst (λ (n : ℕ). Turns acts is_step n (record { node = old; busy = None; supply = start }) (record { sent = out; text = log }) last) done.1 all;
+    ends = is_last;
+  },
+  given,
+  handed,
+)
+runs gave acts is_step turns taken old new start out log last ended sent sent_after seeded given all is_last handed (inr other) e = absurd (other.0 e)

@@ -21,7 +21,7 @@ some_more (Some x) P Q more known = more x known
 abbrev pub Turn : Running Client → Step → Running Client → Type 0
 Turn old step new = TakesTurn acts_at (IsStep is_sealing) old step new
 
--- What comes of the turns that are left, from this client on, comes of all turns from the first one on, behind what was sent so far.
+-- The outcome of the turns that are left, from this client on, is that of all turns from the first one on, after what was sent so far.
 abbrev pub GoOn : ℕ → ℕ → Running Client → Running Client → List Datagram → Type 0
 GoOn most left first now sent =
     (outcome : Outcome) (rest : ℕ) (last : Running Client) (more : List Datagram)

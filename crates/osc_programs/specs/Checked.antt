@@ -35,9 +35,14 @@ abbrev pub resource_line : ResourceSetting → List ℕ
 resource_line resource =
     line (codes "resource " ++ map shown_byte resource.path ++ codes " " ++ format_text resource.format ++ codes " " ++ decimal (length resource.payload) ++ codes " bytes")
 
+-- store FILE, where it has one
+abbrev pub store_text : Option (List ℕ) → List ℕ
+store_text None = []
+store_text (Some file) = shown_line (codes "store") file
+
 abbrev pub server_text : ServerSettings → List ℕ
 server_text settings =
-    address_line (codes "bind") settings.bind ++ shown_line (codes "audience") settings.audience
+    address_line (codes "bind") settings.bind ++ shown_line (codes "audience") settings.audience ++ store_text settings.store
     ++ flat_map (shown_line (codes "open")) settings.open.items ++ flat_map resource_line settings.resources.items
 
 -- ---- of a proxy

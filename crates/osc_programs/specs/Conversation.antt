@@ -37,14 +37,14 @@ pub record Sends (request : Request) (old : Running Client) (step : Step) (new :
   pub asks : Asks is_sealing tag_of old.node (record { at = now; draw = draw; request = request }) step new.node
   pub busy : new.busy ≡ old.busy
 
--- ---- what comes of them
+-- ---- the outcome of them
 
--- what came of a client's steps: all that they sent, in order, and the last result, or none where it still waits
+-- the outcome of a client's steps: all that they sent, in order, and the last result, or none where it still waits
 pub record Upshot : Type 0 where
   pub sent : List Datagram
   pub outcome : Outcome
 
--- behind what was sent before
+-- after what was sent before
 abbrev pub after_sending : List Datagram → Upshot → Upshot
 after_sending before upshot = record upshot { sent = before ++ upshot.sent }
 
@@ -52,7 +52,7 @@ after_sending before upshot = record upshot { sent = before ++ upshot.sent }
 abbrev pub at_once : Outcome → Upshot
 at_once outcome = record { sent = []; outcome = outcome }
 
--- With so many turns left it takes turns until it has learnt something, if it hasn't yet: what came of it, and how many turns are left
+-- With so many turns left it takes turns until it has learnt something, if it hasn't yet: the outcome, and how many turns are left
 -- then. It is `Open` where it still waits and no turn is left, and only there.
 pub data Waits : ℕ → Option ClientResult → Running Client → Upshot → ℕ → Running Client → Type 0 where
   told : (left : ℕ) (client : Running Client) (result : ClientResult) → Waits left (Some result) client (at_once (Told result)) left client

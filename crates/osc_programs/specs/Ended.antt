@@ -11,7 +11,7 @@ use Rattle.osc_token.specs.declared.claims.Claims.{Claims}
 use Rattle.osc_words.specs.declared.words.WordsError.{WordsError}
 use Rattle.osc_words.specs.declared.words.WordsError.TheVariants.{Clap, Value, NotOne, Unread, Memory}
 use Rattle.osc_programs.specs.declared.ended.Ended.{Ended}
-use Rattle.osc_programs.specs.declared.ended.Ended.TheVariants.{Done, BadCommandLine, BadLine, BadSettings, OutOfMemory, Failed, PortFailed, NotDone}
+use Rattle.osc_programs.specs.declared.ended.Ended.TheVariants.{Done, BadCommandLine, BadLine, BadSettings, OutOfMemory, Failed, PortFailed, NotDone, Unopened, NotKept}
 
 abbrev pub status_of : Ended → ℕ
 status_of Done = 0
@@ -22,6 +22,8 @@ status_of OutOfMemory = 3
 status_of Failed = 4
 status_of PortFailed = 4
 status_of NotDone = 1
+status_of (Unopened error) = 4
+status_of (NotKept error) = 4
 
 -- ---- how each program may end
 
@@ -68,7 +70,42 @@ abbrev pub EndsTurns : Ended → Type 0
 EndsTurns Done = Unit {0}
 EndsTurns other = IsFault other
 
--- `osc server` and `osc proxy`
+-- a turn of a node whose steps are kept fails
+abbrev pub EndsUnkept : Ended → Type 0
+EndsUnkept (NotKept error) = Unit {0}
+EndsUnkept other = IsFault other
+
+-- the turns of such a node
+abbrev pub EndsKept : Ended → Type 0
+EndsKept Done = Unit {0}
+EndsKept other = EndsUnkept other
+
+-- a store can't be opened
+abbrev pub NotOpened : Ended → Type 0
+NotOpened (Unopened error) = Unit {0}
+NotOpened other = IsFault other
+
+-- or its first resources aren't kept
+abbrev pub NoStore : Ended → Type 0
+NoStore (NotKept error) = Unit {0}
+NoStore other = NotOpened other
+
+-- a server's turns, with a store or without
+abbrev pub EndsServing : Ended → Type 0
+EndsServing (Unopened error) = Unit {0}
+EndsServing other = EndsKept other
+
+-- `osc server`
+abbrev pub EndsServer : Ended → Type 0
+EndsServer BadSettings = Unit {0}
+EndsServer other = EndsServing other
+
+-- `osc store`
+abbrev pub EndsStore : Ended → Type 0
+EndsStore Done = Unit {0}
+EndsStore other = NotOpened other
+
+-- `osc proxy`, and settings that are only read
 abbrev pub EndsNode : Ended → Type 0
 EndsNode Done = Unit {0}
 EndsNode other = NoSettings other
@@ -83,7 +120,7 @@ abbrev pub CannotAsk : Request → Ended → Type 0
 CannotAsk request BadSettings = Unit {0}
 CannotAsk request other = CannotTalk request other
 
--- what came of it was told, or not
+-- the outcome was told, or not
 abbrev pub EndsTold : Ended → Type 0
 EndsTold Done = Unit {0}
 EndsTold NotDone = Unit {0}
@@ -113,7 +150,7 @@ ended_by (NotOne option) = BadCommandLine
 ended_by (Unread option) = Failed
 ended_by Memory = OutOfMemory
 
--- want of memory is told apart from other faults of an input or an output
+-- lack of memory is told apart from other faults of an input or an output
 abbrev pub ended_by_io : ErrorKind → Ended
 ended_by_io kind.OutOfMemory = OutOfMemory
 ended_by_io _ = Failed

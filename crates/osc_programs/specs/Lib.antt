@@ -1,3 +1,4 @@
+pub mod Drawing
 pub mod Ended
 pub mod TokenLine
 pub mod TokenFiles
@@ -5,15 +6,21 @@ pub mod Log
 pub mod Unread
 pub mod Turning
 pub mod Serving
+pub mod System
+pub mod Kept
+pub mod Storing
 pub mod Conversation
 pub mod Checked
 pub mod KeyLine
 pub mod PayloadFile
 pub use Checked.{grant_line, resource_line, shown_line, target_line}
 pub use Conversation.{GoesOn, GoesOnBy, Requests, Upshot, Waits, after_sending, at_once, still, told, turns}
-pub use Ended.{CannotAsk, CannotLab, CannotTalk, EndsClient, EndsLab, EndsNode, EndsSim, EndsTold, EndsTurns, IsFault, NoSettings}
+pub use Ended.{CannotAsk, CannotLab, CannotTalk, EndsClient, EndsKept, EndsLab, EndsNode, EndsServer, EndsServing, EndsSim, EndsStore, EndsTold, EndsTurns, EndsUnkept, IsFault, NoSettings, NoStore, NotOpened}
+pub use Kept.{LeavesKept, LeavesNode, StaysKept}
 pub use Log.{Report, Tells, Told, Writes, line_text, lost, lost_text, refusals_after, refusals_behind, report_text, reports_of, sent, shown_byte, step_text, told_by, told_of, told_with, untold, untold_text, with_line}
 pub use PayloadFile.{IsWithPayload, with_payload}
 pub use Serving.{target_of, tree_of, with_resource}
+pub use Storing.{BeginsBy, BeginsWith, IsOpened, store_lines, stored_line}
+pub use System.{RunsOn}
 pub use Turning.{Running, Runs, Shown, TakesTurn, Turns, and_then}
 pub use Unread.{IsUnreadText, IsWhy, TellsWhy, unread_text, unsaid_text}

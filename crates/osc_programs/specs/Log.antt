@@ -214,11 +214,11 @@ abbrev pub told_with : Option Refusals → List Report → List ℕ
 told_with None reports = flat_map report_text reports
 told_with (Some refusals) reports = told_by refusals reports
 
--- Of these lines, all but the refusals that are left out were told, behind what was told before, unless one couldn't be written.
+-- Of these lines, all but the refusals that are left out were told, after what was told before, unless one couldn't be written.
 abbrev pub Tells : Told → Told → List ℕ → Type 0
 Tells old new text = new.dropped ≡ 0 → (old.dropped ≡ 0) × (reports : List Report) × (text ≡ flat_map report_text reports)
     × (new.refusals ≡ option_map (λ refusals. refusals_after refusals reports) old.refusals) × Appends old.text new.text (told_with old.refusals reports)
 
--- this, which is of no step, was told behind what was told before, unless it couldn't be written
+-- this, which is of no step, was told after what was told before, unless it couldn't be written
 abbrev pub Writes : Told → Told → List ℕ → Type 0
 Writes old new text = new.dropped ≡ 0 → (old.dropped ≡ 0) × (new.refusals ≡ old.refusals) × Appends old.text new.text text

@@ -32,15 +32,15 @@ tree_of resources = fold with_resource map.empty resources
 abbrev pub remembered_posts : ℕ
 remembered_posts = 8
 
--- the server of these settings, which did nothing yet: it has their resources and no contexts, and a GET of the open paths needs no protection
-pub record IsServerOf (settings : ServerSettings) (server : Server) : Type 0 where
+-- the server of these settings, which did nothing yet: it has these resources and no contexts, and a GET of the open paths needs no protection
+pub record IsServerOf (settings : ServerSettings) (resources : Tree) (server : Server) : Type 0 where
   pub key : server.desk.key ≡ settings.key
   pub old_key : server.desk.old_key ≡ settings.old_key
   pub audience : server.desk.audience ≡ settings.audience
   pub rules : server.desk.rules ≡ record { revoked = settings.revoked; seconds = settings.context_seconds; remembered = remembered_posts }
   pub contexts : server.desk.table ≡ []
   pub open_paths : server.open_scope ≡ set.from_list (map (λ path. exactly path Get) settings.open.items)
-  pub tree : server.tree ≡ tree_of settings.resources.items
+  pub tree : server.tree ≡ resources
   pub endpoint : server.endpoint ≡ fresh
 
 abbrev pub target_of : TargetSetting → Target
@@ -58,11 +58,11 @@ pub record IsProxyOf (settings : ProxySettings) (proxy : Proxy) : Type 0 where
 abbrev pub proxy_acts : Proxy → Moment → Bool
 proxy_acts proxy now = proxy_acts_at now proxy
 
--- The server of these settings takes so many turns, and this there is to tell of them.
-pub record Serves (settings : ServerSettings) (turns : ℕ) (log : List ℕ) : Type 0 where
+-- The server of these settings, with these resources at first, takes so many turns, and this there is to tell of them.
+pub record Serves (settings : ServerSettings) (tree : Tree) (turns : ℕ) (log : List ℕ) : Type 0 where
   pub first : Server
   pub last : Server
-  pub is_server : IsServerOf settings first
+  pub is_server : IsServerOf settings tree first
   pub runs : Runs server_acts (IsStepOfServer is_sealing) turns log first last
 
 -- The proxy of these settings takes so many turns, and this there is to tell of them.

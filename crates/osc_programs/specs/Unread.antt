@@ -1,5 +1,5 @@
--- Why settings are none, as `osc server --log` and `osc proxy --log` tell it before `settings: bad`: the key and what should stand there,
--- never what stands there.
+-- Why settings are none, as `osc server --log` and `osc proxy --log` tell it before `settings: bad`: the key and what should be there,
+-- never what is there.
 use Rattle.std.specs.Prelude.{◌≡◌, ◌≢◌, ◌⊎◌, ℕ, List, ◌++◌, map, Option, IfSome, codes, decimal}
 use Rattle.std.specs.Str.{IsUtf8}
 use Rattle.toml.specs.Data.{Members}
@@ -38,7 +38,7 @@ IsUnreadText why text = (text ≡ unread_text why) ⊎ (text ≡ unsaid_text)
 
 -- ---- of which bytes
 
--- want of memory apart, the bytes are no UTF-8, and so no TOML, or their text is at fault so
+-- lack of memory apart, the bytes are no UTF-8, and so no TOML, or their text is at fault so
 abbrev pub IsWhy : (Members → SettingsError → Type 0) → List ℕ → SettingsError → Type 0
 IsWhy Is bytes why = ((¬ IsUtf8 bytes) × (why ≡ NotToml)) ⊎ Lacks Is bytes why
 

@@ -1,5 +1,5 @@
 //! A client that runs on a socket: one exchange, and one protected request.
-ghost use Rattle.std.specs.Prelude.{◌≡◌, ◌⊎◌, List, IfErr, IfOk, IfSome, None, option_map, string_bytes};
+ghost use Rattle.std.specs.Prelude.{◌≡◌, ◌⊎◌, List, IfErr, IfOk, IfSome, None, Some, option_map, string_bytes};
 ghost use Rattle.std.specs.Io.KnownBytes.{Appends};
 ghost use Rattle.osc_client.specs.{acts_at, IsStep, HostAndPort};
 ghost use Rattle.osc_client.specs.State.{State as AnyClient};
@@ -12,6 +12,7 @@ ghost use Rattle.osc_settings.specs.declared.client.ClientSettings.{ClientSettin
 ghost use Rattle.osc_simulation.specs.{is_sealing};
 ghost use Rattle.osc_programs.specs.Conversation as spec;
 ghost use Rattle.osc_programs.specs.Ended as ends;
+ghost use Rattle.osc_programs.specs.System as system;
 ghost use Rattle.osc_programs.specs.Turning as turning;
 ghost use Rattle.osc_programs.specs.declared.asking.Outcome.{Outcome as AnyOutcome};
 
@@ -19,24 +20,23 @@ use crate::ended::Ended;
 use crate::issue::written;
 use crate::log::Log;
 use crate::reading::client_settings;
-use crate::running::{connected, copy_of, send, tell_failure};
+use crate::running::{copy_of, opened, send, tell_failure};
 use crate::supply::{moment_and_draw, supply_of};
 use crate::turns::take_turn;
+use crate::udp::Sockets;
 use osc_authz::ClientDesk;
 use osc_ccm::Suite;
 use osc_client::{Client, Origin, Route};
 use osc_model::{Bytes, ClientResult, Peer, Request, Step};
 use osc_settings::ClientSettings;
 use osc_simulation::learnt_text;
-use osc_turn::{ClockAndRandom, Pace, Port, Turned, Watch};
+use osc_turn::{ClockAndRandom, Pace, Port, Seeds, Turned, Watch};
 use osc_words::ClientWords;
 use std::alloc::{AllocError, Global};
 use std::io::{Eprint, Read, Write};
-use std::net::Net;
-use std::random::RandomSource;
 use std::time::Clock;
 
-/// What came of a program's client at last: its last result, or none where it still waited when its turns were gone.
+/// The outcome of a program's client at last: its last result, or none where it still waited when its turns were gone.
 #[derive(Drop)]
 pub(crate) enum Outcome {
     /// The last result.
@@ -49,7 +49,7 @@ pub(crate) enum Outcome {
 /// the words, protected. The line of its last result is written, or `c1 open` where the turns are gone before. Where the words want it raw, only
 /// the payload of an answer is written, and the line of any other end goes to the standard error. Where there are no settings, the log tells
 /// why; where the port fails, a line on the standard error does.
-pub fn ask<R: Clock + Eprint + Net + RandomSource, I: Read, L: Log, W: Write>(
+pub fn ask<R: Clock + Eprint + Seeds + Sockets, I: Read, L: Log, W: Write>(
     alloc: Global,
     runtime: &R,
     reader: &mut I,
@@ -59,7 +59,8 @@ pub fn ask<R: Clock + Eprint + Net + RandomSource, I: Read, L: Log, W: Write>(
 ) -> Ended
     ensures told { (result ≡ Ended.Done) ⊎ (result ≡ Ended.NotDone) → (first last : AnyClient) × (outcome : AnyOutcome) × (settings : AnySettings)
         × IfSome (I.remaining reader.old) (λ text. StandsFor AreClientSettings text settings) × spec.IsClientOf settings first
-        × spec.Talks words.now.turns words.now.request first outcome last
+        × (talks : spec.Talks words.now.turns words.now.request first outcome last)
+        × system.RunsOn (R.gave runtime.now) (R.opened runtime.now settings.bind (Some settings.peer)) R.Socket.sent talks.start talks.sent
         × (result ≡ spec.ended_by_outcome outcome) × Appends (W.contents writer.old) (W.contents writer.new) (spec.printed_text words.now.raw outcome) }
     ensures bad { result ≡ Ended.BadSettings → TellsWhy (λ document. IsKeyFault (IsClientFault document)) (I.remaining reader.old) (L.told log.old) (L.told log.new) }
     ensures ends { ends.EndsClient words.now.request result }
@@ -142,7 +143,7 @@ fn ended_by_outcome(outcome: &Outcome) -> Ended
 
 // ---- the client
 
-fn outcome_of<R: Clock + Eprint + Net + RandomSource, I: Read, L: Log>(
+fn outcome_of<R: Clock + Eprint + Seeds + Sockets, I: Read, L: Log>(
     alloc: Global,
     runtime: &R,
     reader: &mut I,
@@ -151,7 +152,8 @@ fn outcome_of<R: Clock + Eprint + Net + RandomSource, I: Read, L: Log>(
 ) -> Result<Outcome, Ended>
     ensures talks { IfOk result (λ outcome. (first last : AnyClient) × (settings : AnySettings)
         × IfSome (I.remaining reader.old) (λ text. StandsFor AreClientSettings text settings) × spec.IsClientOf settings first
-        × spec.Talks words.now.turns words.now.request first outcome last) }
+        × (talks : spec.Talks words.now.turns words.now.request first outcome last)
+        × system.RunsOn (R.gave runtime.now) (R.opened runtime.now settings.bind (Some settings.peer)) R.Socket.sent talks.start talks.sent) }
     ensures bad { IfErr result (λ ended. ended ≡ Ended.BadSettings → TellsWhy (λ document. IsKeyFault (IsClientFault document)) (I.remaining reader.old) (L.told log.old) (L.told log.new)) }
     ensures ends { IfErr result (ends.CannotAsk words.now.request) }
 {
@@ -215,7 +217,7 @@ struct Talking<W: Watch + Drop> {
 }
 
 // The client's conversation at its own address, with the peer that everything goes to.
-fn run_at<R: Clock + Eprint + Net + RandomSource>(
+fn run_at<R: Clock + Eprint + Seeds + Sockets>(
     alloc: Global,
     runtime: &R,
     bind: Peer,
@@ -223,10 +225,11 @@ fn run_at<R: Clock + Eprint + Net + RandomSource>(
     client: Client,
     words: &ClientWords,
 ) -> Result<Outcome, Ended>
-    ensures talks { IfOk result (λ outcome. (last : AnyClient) × spec.Talks words.now.turns words.now.request client outcome last) }
+    ensures talks { IfOk result (λ outcome. (last : AnyClient) × (talks : spec.Talks words.now.turns words.now.request client outcome last)
+        × system.RunsOn (R.gave runtime.now) (R.opened runtime.now bind (Some peer)) R.Socket.sent talks.start talks.sent) }
     ensures ends { IfErr result (ends.CannotTalk words.now.request) }
 {
-    let mut port = connected(alloc, runtime, bind, peer)?;
+    let mut port = opened(alloc, runtime, bind, Some(peer))?;
     let supply = supply_of(runtime)?;
     let mut talking = Talking {
         client,
@@ -256,7 +259,7 @@ fn run<W: Watch + Drop, P: Port>(
     go_on(alloc, port, talking, &mut turns, words, exchanged)
 }
 
-// The request, where what came of the post lets it be sent.
+// The request, where the outcome of the post lets it be sent.
 fn go_on<W: Watch + Drop, P: Port>(
     alloc: Global,
     port: &mut P,
@@ -296,7 +299,7 @@ fn go_on_by<W: Watch + Drop, P: Port>(
     }
 }
 
-// Sends the request, and waits for what comes of it.
+// Sends the request, and waits for the outcome.
 fn ask_and_wait<W: Watch + Drop, P: Port>(
     alloc: Global,
     port: &mut P,

@@ -5,20 +5,25 @@ ghost use Rattle.osc_programs.specs.Checked as spec;
 
 use crate::log::shown;
 use osc_model::{Bytes, Path, Peer};
-use osc_settings::{ClientSettings, ProxySettings, ResourceSetting, ServerSettings, TargetSetting};
+use osc_settings::{
+    ClientSettings, ProxySettings, ResourceSetting, ServerSettings, StoreFile, TargetSetting,
+};
 use std::alloc::{AllocError, Global};
 use std::net::Ipv4Addr;
 
-/// Of a server: `bind ADDRESS`, `audience TEXT`, `open PATH` for each open path, and `resource PATH FORMAT N bytes` for each resource.
+/// Of a server: `bind ADDRESS`, `audience TEXT`, `store FILE` where it has one, `open PATH` for each open path, and `resource PATH FORMAT N bytes`
+/// for each resource.
 pub(crate) fn server_text(alloc: Global, settings: &ServerSettings) -> Result<Vec<u8>, AllocError>
     ensures { IfOk result (λ text. text.items ≡ spec.server_text settings.now) }
 {
     let bind = address_line(alloc, "bind", settings.bind)?;
     let audience = shown_line(alloc, "audience", settings.audience.as_str().as_bytes())?;
+    let store = store_text(alloc, &settings.store)?;
     let open = open_lines(alloc, &settings.open)?;
     let resources = resource_lines(alloc, &settings.resources)?;
     let mut text = Vec::from_slice(alloc, bind.as_bytes())?;
     text.extend_from_slice(&audience)?;
+    text.extend_from_slice(&store)?;
     text.extend_from_slice(&open)?;
     text.extend_from_slice(&resources)?;
     Ok(text)
@@ -71,6 +76,15 @@ fn shown_line(alloc: Global, name: &str, bytes: &[u8]) -> Result<Vec<u8>, AllocE
     Ok(text)
 }
 
+fn store_text(alloc: Global, store: &Option<StoreFile>) -> Result<Vec<u8>, AllocError>
+    ensures { IfOk result (λ text. text.items ≡ spec.store_text store.now) }
+{
+    match store {
+        None => Ok(Vec::new(alloc)),
+        Some(file) => shown_line(alloc, "store", file.as_str().as_bytes()),
+    }
+}
+
 fn open_lines(alloc: Global, paths: &[Path]) -> Result<Vec<u8>, AllocError>
     ensures { IfOk result (λ text. text.items ≡ flat_map (spec.shown_line (codes "open")) paths.now) }
 {
@@ -94,9 +108,21 @@ fn resource_lines(alloc: Global, resources: &[ResourceSetting]) -> Result<Vec<u8
 fn resource_line(alloc: Global, resource: &ResourceSetting) -> Result<Vec<u8>, AllocError>
     ensures { IfOk result (λ text. text.items ≡ spec.resource_line resource.now) }
 {
-    let path = shown(alloc, resource.path.text())?;
-    let format = format_text(alloc, resource.format)?;
-    let size = size_text(alloc, &resource.payload)?;
+    resource_text(alloc, &resource.path, resource.format, &resource.payload)
+}
+
+/// `resource PATH FORMAT N bytes`.
+pub(crate) fn resource_text(
+    alloc: Global,
+    path: &Path,
+    format: Option<u16>,
+    payload: &Bytes,
+) -> Result<Vec<u8>, AllocError>
+    ensures { IfOk result (λ text. text.items ≡ spec.resource_line (record { path = path.now; format = format; payload = payload.now })) }
+{
+    let path = shown(alloc, path.text())?;
+    let format = format_text(alloc, format)?;
+    let size = size_text(alloc, payload)?;
     let mut text = Vec::from_slice(alloc, b"resource ")?;
     text.extend_from_slice(&path)?;
     text.push(b' ')?;

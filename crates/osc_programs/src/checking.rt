@@ -104,7 +104,7 @@ fn say_client<W: Write>(alloc: Global, settings: &ClientSettings, writer: &mut W
     }
 }
 
-fn said<W: Write>(text: &[u8], writer: &mut W) -> Ended
+pub(crate) fn said<W: Write>(text: &[u8], writer: &mut W) -> Ended
     ensures done { result ≡ Ended.Done → Appends (W.contents writer.old) (W.contents writer.new) text.now }
     ensures ends { ends.EndsTurns result }
 {

@@ -4,6 +4,7 @@ ghost use Rattle.std.specs.Prelude.{◌≡◌, ◌⊎◌, Some, IfOk, option_map
 ghost use Rattle.osc_programs.specs.Ended as spec;
 
 use clap::error::ErrorKind as WordsKind;
+use osc_store::{KeepError, OpenError};
 use osc_words::{TokenWords, WordsError};
 use std::alloc::{AllocError, Global};
 use std::io::{self, ErrorKind};
@@ -24,10 +25,14 @@ pub enum Ended {
     PortFailed,
     /// The last result of `osc client` is no answer of class 2.
     NotDone,
+    /// The store isn't opened.
+    Unopened(OpenError),
+    /// What a step changed isn't kept in the store, so nothing of the step was sent.
+    NotKept(KeepError),
 }
 
 /// The exit status: 0, 1 for a client without an answer of class 2, 2 for a bad command line, bad settings or a bad line, 3 for want of
-/// memory, and 4 for a socket, an input or an output that failed.
+/// memory, and 4 for a socket, an input, an output or a store that failed.
 pub fn status(ended: Ended) -> u8
     ensures { result ≡ spec.status_of ended }
 {
@@ -36,7 +41,7 @@ pub fn status(ended: Ended) -> u8
         Ended::NotDone => 1,
         Ended::BadCommandLine | Ended::BadLine(_) | Ended::BadSettings => 2,
         Ended::OutOfMemory => 3,
-        Ended::Failed | Ended::PortFailed => 4,
+        Ended::Failed | Ended::PortFailed | Ended::Unopened(_) | Ended::NotKept(_) => 4,
     }
 }
 
@@ -62,7 +67,7 @@ fn ended_by_kind(kind: WordsKind) -> Ended
     }
 }
 
-/// How a program ends whose input or output failed so: want of memory is told apart.
+/// How a program ends whose input or output failed so: lack of memory is told apart.
 pub fn ended_by_io(error: &io::Error) -> Ended
     ensures value { result ≡ spec.ended_by_io (error_kind error.now) }
     ensures either { (result ≡ Ended.OutOfMemory) ⊎ (result ≡ Ended.Failed) }
@@ -94,6 +99,8 @@ pub fn running_fault(alloc: Global, ended: Ended) -> Result<Option<String>, Allo
         Ended::OutOfMemory => said(alloc, "out of memory"),
         Ended::PortFailed => said(alloc, "port failed"),
         Ended::Done | Ended::NotDone | Ended::BadCommandLine | Ended::Failed => Ok(None),
+        // The line of a store has its file's name, and is told where that is known.
+        Ended::Unopened(_) | Ended::NotKept(_) => Ok(None),
     }
 }
 

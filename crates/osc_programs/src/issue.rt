@@ -1,24 +1,23 @@
 //! A token's words in, the token out.
 ghost use Rattle.std.specs.Prelude.{◌≡◌, ◌≢◌, ◌⊎◌, ◌<◌, ◌≤◌, ℕ, List, [], IfOk, IfSome, None, Ok, Err, length, string_bytes};
 ghost use Rattle.std.specs.Io.KnownBytes.{Appends};
-ghost use Rattle.rand_core.specs.Stream.{fill_bytes};
 ghost use Rattle.osc_cbor.specs.{spelling};
 ghost use Rattle.osc_token.specs.{most_claims, claims_item};
+ghost use Rattle.osc_turn.specs.{IsDrawn};
 ghost use Rattle.osc_programs.specs.Ended as ends;
 ghost use Rattle.osc_programs.specs.TokenLine as spec;
 
 use crate::ended::{Ended, ended_by_io};
 use osc_ccm::Ccm;
 use osc_token::{MintError, mint};
+use osc_turn::{Seeds, generator_of};
 use osc_words::TokenWords;
-use rand::rngs::StdRng;
-use rand::{Rng, SeedableRng};
+use rand::Rng;
 use std::alloc::Global;
 use std::io::{self, Write};
-use std::random::RandomSource;
 
 /// Writes the token that the words ask for, sealed under this IV: its bytes in hexadecimal, and a line feed. It ends as on
-/// a bad command line where the claims have more than 65535 bytes; nothing is written then, nor for want of memory.
+/// a bad command line where the claims have more than 65535 bytes; nothing is written then, nor for lack of memory.
 ///
 /// An IV is used for one token alone under a key.
 pub fn token<W: Write>(alloc: Global, words: &TokenWords, iv: &[u8; 13], writer: &mut W) -> Ended
@@ -52,21 +51,19 @@ fn token_line(alloc: Global, words: &TokenWords, iv: &[u8; 13]) -> Result<String
 }
 
 /// An IV that is drawn at random: the first bytes of a generator whose seed comes from the source.
-pub fn drawn_iv<S: RandomSource>(source: &S) -> io::Result<[u8; 13]>
-    ensures { IfOk result (λ iv. (seed : List ℕ) × (length seed ≡ 32)
-        × (iv ≡ (fill_bytes 13 (⟦<StdRng as Rng>⟧.stream (⟦<StdRng as SeedableRng>⟧.of_seed seed))).0)) }
+pub fn drawn_iv<S: Seeds>(source: &S) -> io::Result<[u8; 13]>
+    ensures { IfOk result (λ iv. IsDrawn (S.gave source.now) 13 iv) }
 {
-    let mut rng: StdRng = rand::make_rng(source)?;
+    let mut generator = generator_of(source)?;
     let mut iv = [0; 13];
-    rng.fill_bytes(&mut iv);
+    generator.fill_bytes(&mut iv);
     Ok(iv)
 }
 
 /// The IV that the words ask for, or one that is drawn.
-pub fn iv_of<S: RandomSource>(source: &S, words: &TokenWords) -> io::Result<[u8; 13]>
+pub fn iv_of<S: Seeds>(source: &S, words: &TokenWords) -> io::Result<[u8; 13]>
     ensures asked { IfSome words.now.iv (λ iv. result ≡ Ok iv) }
-    ensures drawn { words.now.iv ≡ None → IfOk result (λ iv. (seed : List ℕ) × (length seed ≡ 32)
-        × (iv ≡ (fill_bytes 13 (⟦<StdRng as Rng>⟧.stream (⟦<StdRng as SeedableRng>⟧.of_seed seed))).0)) }
+    ensures drawn { words.now.iv ≡ None → IfOk result (λ iv. IsDrawn (S.gave source.now) 13 iv) }
 {
     match words.iv {
         Some(iv) => Ok(iv),
@@ -75,7 +72,7 @@ pub fn iv_of<S: RandomSource>(source: &S, words: &TokenWords) -> io::Result<[u8;
 }
 
 /// Writes the token that the words ask for, under their IV or one that is drawn, as [`token`] does.
-pub fn issue_token<S: RandomSource, W: Write>(
+pub fn issue_token<S: Seeds, W: Write>(
     alloc: Global,
     source: &S,
     words: &TokenWords,
@@ -83,9 +80,8 @@ pub fn issue_token<S: RandomSource, W: Write>(
 ) -> Ended
     ensures asked { result ≡ Ended.Done → IfSome words.now.iv (λ iv. (text : List ℕ)
         × spec.IsTokenLine words.now.claims words.now.key iv text × Appends (W.contents writer.old) (W.contents writer.new) text) }
-    ensures drawn { result ≡ Ended.Done → words.now.iv ≡ None → (seed : List ℕ) × (length seed ≡ 32) × ((text : List ℕ)
-        × spec.IsTokenLine words.now.claims words.now.key (fill_bytes 13 (⟦<StdRng as Rng>⟧.stream (⟦<StdRng as SeedableRng>⟧.of_seed seed))).0 text
-        × Appends (W.contents writer.old) (W.contents writer.new) text) }
+    ensures drawn { result ≡ Ended.Done → words.now.iv ≡ None → (iv : List ℕ) × IsDrawn (S.gave source.now) 13 iv × ((text : List ℕ)
+        × spec.IsTokenLine words.now.claims words.now.key iv text × Appends (W.contents writer.old) (W.contents writer.new) text) }
     ensures too_long { result ≡ Ended.BadCommandLine → (most_claims < length (spelling (claims_item words.now.claims)))
         × Appends (W.contents writer.old) (W.contents writer.new) [] }
     ensures never_too_long { most_claims < length (spelling (claims_item words.now.claims)) → result ≢ Ended.Done }

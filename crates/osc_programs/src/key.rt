@@ -1,22 +1,21 @@
 //! A key that is drawn at random.
-ghost use Rattle.std.specs.Prelude.{◌≡◌, ℕ, List, IfOk, length, string_bytes};
+ghost use Rattle.std.specs.Prelude.{◌≡◌, ℕ, List, IfOk, string_bytes};
 ghost use Rattle.std.specs.Io.KnownBytes.{Appends};
-ghost use Rattle.rand_core.specs.Stream.{fill_bytes};
+ghost use Rattle.osc_turn.specs.{IsDrawn};
 ghost use Rattle.osc_programs.specs.Ended as ends;
 ghost use Rattle.osc_programs.specs.KeyLine.{key_text};
 
 use crate::ended::{Ended, ended_by_io};
 use crate::issue::written;
-use rand::rngs::StdRng;
-use rand::{Rng, SeedableRng};
+use osc_turn::{Seeds, generator_of};
+use rand::Rng;
 use std::alloc::{AllocError, Global};
 use std::io::{self, Write};
-use std::random::RandomSource;
 
 /// Writes 16 bytes in hexadecimal, and a line feed: the first bytes of a generator whose seed comes from the source.
-pub fn issue_key<S: RandomSource, W: Write>(alloc: Global, source: &S, writer: &mut W) -> Ended
-    ensures done { result ≡ Ended.Done → (seed : List ℕ) × (length seed ≡ 32)
-        × Appends (W.contents writer.old) (W.contents writer.new) (key_text (fill_bytes 16 (⟦<StdRng as Rng>⟧.stream (⟦<StdRng as SeedableRng>⟧.of_seed seed))).0) }
+pub fn issue_key<S: Seeds, W: Write>(alloc: Global, source: &S, writer: &mut W) -> Ended
+    ensures done { result ≡ Ended.Done → (key : List ℕ) × IsDrawn (S.gave source.now) 16 key
+        × Appends (W.contents writer.old) (W.contents writer.new) (key_text key) }
     ensures ends { ends.EndsToken result }
 {
     match drawn_key(source) {
@@ -25,13 +24,12 @@ pub fn issue_key<S: RandomSource, W: Write>(alloc: Global, source: &S, writer: &
     }
 }
 
-fn drawn_key<S: RandomSource>(source: &S) -> io::Result<[u8; 16]>
-    ensures { IfOk result (λ key. (seed : List ℕ) × (length seed ≡ 32)
-        × (key ≡ (fill_bytes 16 (⟦<StdRng as Rng>⟧.stream (⟦<StdRng as SeedableRng>⟧.of_seed seed))).0)) }
+fn drawn_key<S: Seeds>(source: &S) -> io::Result<[u8; 16]>
+    ensures { IfOk result (λ key. IsDrawn (S.gave source.now) 16 key) }
 {
-    let mut rng: StdRng = rand::make_rng(source)?;
+    let mut generator = generator_of(source)?;
     let mut key = [0; 16];
-    rng.fill_bytes(&mut key);
+    generator.fill_bytes(&mut key);
     Ok(key)
 }
 

@@ -215,7 +215,7 @@ fn dropped_line(alloc: Global, count: u64) -> Result<String, AllocError>
 
 // ---- what is told of a step
 
-// The lines that are told of a step, behind these refusals, and the refusals then.
+// The lines that are told of a step, after these refusals, and the refusals then.
 fn told_text(
     alloc: Global,
     now: Moment,
@@ -288,7 +288,7 @@ fn left_out_line(alloc: Global, now: Moment, count: u64) -> Result<String, Alloc
 // ---- a step
 
 /// All lines of a step at this moment: `MOMENT A.B.C.D:PORT WHAT` for each datagram that it sends, where WHAT is `refused CODE: WHY`,
-/// `served METHOD PATH: CODE` or else `sent CODE`. Nothing of a payload or a key stands in them.
+/// `served METHOD PATH: CODE` or else `sent CODE`. Nothing of a payload or a key is in them.
 pub fn step_text(alloc: Global, now: Moment, step: &Step) -> Result<Vec<u8>, AllocError>
     ensures { IfOk result (λ text. text.items ≡ spec.step_text now step.now) }
 {

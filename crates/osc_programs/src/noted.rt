@@ -1,5 +1,5 @@
 //! Why an input or an output failed, and what an input gave.
-ghost use Rattle.std.specs.Prelude.{◌≡◌};
+ghost use Rattle.std.specs.Prelude.{◌≡◌, ◌⊎◌, ◌++◌, None, option_map};
 
 use std::alloc::Global;
 use std::io::{self, ErrorKind, Read, Write};
@@ -87,14 +87,21 @@ impl<T: Drop> Kept<T> {
     }
 
     /// What it gave, where there was memory for all of it.
-    pub fn kept(&self) -> Option<&[u8]> {
+    pub fn kept(&self) -> Option<&[u8]>
+        ensures { option_map (λ bytes. bytes.now) result ≡ option_map (λ bytes. bytes.items) self.now.bytes }
+    {
         match &self.bytes {
             Some(bytes) => Some(bytes.as_slice()),
             None => None,
         }
     }
 
-    fn keep(&mut self, given: &[u8]) {
+    // Keeps this too, or nothing from here on where there is no memory for it.
+    fn keep(&mut self, given: &[u8])
+        ensures kept { (self.new.bytes ≡ None)
+            ⊎ (option_map (λ bytes. bytes.items) self.new.bytes ≡ option_map (λ bytes. bytes.items ++ given.now) self.old.bytes) }
+        ensures inner { self.new.inner ≡ self.old.inner }
+    {
         let kept = match &mut self.bytes {
             Some(bytes) => bytes.extend_from_slice(given).is_ok(),
             None => false,

@@ -1,4 +1,4 @@
-//! The payload of a request that stands in a file.
+//! The payload of a request that is in a file.
 ghost use Rattle.std.specs.Prelude.{◌≡◌, IfErr, IfOk, IfSome, MatchResult, option_and_then};
 ghost use Rattle.osc_programs.specs.PayloadFile as spec;
 
@@ -10,7 +10,7 @@ use std::alloc::Global;
 use std::io::Read;
 
 /// What the client is asked for, with the payload that is given, or that the file holds which is opened for it. The file is read only where the
-/// payload stands in one, and then a missing one is one that can't be read.
+/// payload is in one, and then a missing one is one that can't be read.
 ///
 /// # Errors
 ///

@@ -111,7 +111,7 @@ pub fn bytes_of<I: Read>(alloc: Global, reader: &mut I) -> Result<Vec<u8>, Ended
     }
 }
 
-// How a program ends without settings. The log tells why, but for want of memory.
+// How a program ends without settings. The log tells why, but for lack of memory.
 fn ended_without<L: Log>(alloc: Global, log: &mut L, why: &SettingsError) -> Ended
     ensures memory { why.now ≡ SettingsError.Memory → result ≡ Ended.OutOfMemory }
     ensures told { result ≡ Ended.BadSettings → (text : List ℕ) × spec.IsUnreadText why.now text × Writes (L.told log.old) (L.told log.new) text }

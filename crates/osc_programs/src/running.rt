@@ -1,25 +1,30 @@
 //! Nodes that run on a socket: a server, and a proxy.
 ghost use Rattle.std.specs.FinMap as map;
 ghost use Rattle.std.specs.FinSet as set;
-ghost use Rattle.std.specs.Prelude.{◌≡◌, ◌<◌, ◌≤◌, ℕ, List, IfErr, IfOk, IfSome, OnOk, length, map, option_map};
+ghost use Rattle.std.specs.Prelude.{◌≡◌, ◌<◌, ◌≤◌, ℕ, List, IfErr, IfOk, IfSome, OnOk, None, Some, length, map, option_map};
 ghost use Rattle.osc_model.specs.{longest_payload, most_resources, exactly};
 ghost use Rattle.osc_model.specs.declared.code.Method.TheVariants as AnyMethod;
-ghost use Rattle.osc_turn.specs.{grown};
+ghost use Rattle.osc_turn.specs.{IsOfSeed, grown};
 ghost use Rattle.osc_programs.specs.Ended as ends;
 ghost use Rattle.osc_programs.specs.Log.{Tells};
 ghost use Rattle.osc_programs.specs.Serving as spec;
+ghost use Rattle.osc_programs.specs.Storing.{BeginsWith};
+ghost use Rattle.osc_programs.specs.System as system;
+ghost use Rattle.osc_model.specs.Tree.{Tree as AnyTree};
 ghost use Rattle.osc_programs.specs.Turning as turning;
 ghost use Rattle.osc_programs.specs.Unread.{TellsWhy};
 ghost use Rattle.osc_settings.specs.{StandsFor, IsFaultOfProxy, IsKeyFault, IsServerFault, AreProxySettings, AreServerSettings};
 ghost use Rattle.osc_settings.specs.declared.proxy.ProxySettings.{ProxySettings as ForwardedBy};
 ghost use Rattle.osc_settings.specs.declared.server.ServerSettings.{ServerSettings as ServedBy};
 
-use crate::ended::{Ended, ended_by_io};
+use crate::ended::Ended;
 use crate::log::Log;
 use crate::reading::{proxy_settings, server_settings};
+use crate::store::{Stores, tell_unkept};
+use crate::storing::serve_stored;
 use crate::supply::supply_of;
 use crate::turns::take_turns;
-use crate::udp::UdpPort;
+use crate::udp::{SocketPort, Sockets, Why};
 use osc_authz::{ContextRules, DeskParts, ServerDesk};
 use osc_ccm::Suite;
 use osc_model::laws::permissions_are_ordered;
@@ -30,27 +35,30 @@ use osc_scope::Scope;
 use osc_server::Server;
 use osc_settings::{ProxySettings, ResourceSetting, ServerSettings, TargetSetting};
 use osc_tree::{LONGEST_PAYLOAD, Tree};
-use osc_turn::{Port, send_all};
+use osc_turn::{Port, Seeds, send_all};
 use std::alloc::{AllocError, Global};
-use std::io::{self, Eprint, ErrorKind, Read};
-use std::net::Net;
-use std::random::RandomSource;
+use std::io::{Eprint, ErrorKind, Read};
 use std::time::Clock;
 
 /// Runs a server with the settings that the reader gives, for so many turns. It tells once, on the standard error, where it
 /// listens, if that can be written, and the log tells of each turn. A datagram that can't be sent is lost, as on the way, and so is one
 /// for whose step there is no memory; a receive that fails ends it. Where there are no settings, the log tells why.
-pub fn serve<R: Clock + Eprint + Net + RandomSource, I: Read, L: Log>(
+///
+/// Where the settings name a store, its resources are those that the store holds, and what a step changed is kept before anything of the step is
+/// sent; a store that isn't opened, or doesn't keep a change, ends it, and a line on the standard error tells why.
+pub fn serve<R: Clock + Eprint + Seeds + Sockets + Stores, I: Read, L: Log>(
     alloc: Global,
     runtime: &R,
     reader: &mut I,
     log: &mut L,
     turns: u64,
 ) -> Ended
-    ensures done { result ≡ Ended.Done → (settings : ServedBy) × (text : List ℕ) × IfSome (I.remaining reader.old) (λ bytes. StandsFor AreServerSettings bytes settings)
-        × spec.Serves settings turns text × Tells (L.told log.old) (L.told log.new) text }
+    ensures done { result ≡ Ended.Done → (settings : ServedBy) × (tree : AnyTree) × (text : List ℕ) × IfSome (I.remaining reader.old) (λ bytes. StandsFor AreServerSettings bytes settings)
+        × BeginsWith (R.holds runtime.now) settings tree
+        × (serves : spec.Serves settings tree turns text) × system.RunsOn (R.gave runtime.now) (R.opened runtime.now settings.bind None) R.Socket.sent serves.runs.start serves.runs.sent
+        × Tells (L.told log.old) (L.told log.new) text }
     ensures bad { result ≡ Ended.BadSettings → TellsWhy (λ document. IsKeyFault (IsServerFault document)) (I.remaining reader.old) (L.told log.old) (L.told log.new) }
-    ensures ends { ends.EndsNode result }
+    ensures ends { ends.EndsServer result }
 {
     match server_settings(alloc, reader, log) {
         Ok(settings) => serve_by(alloc, runtime, settings, log, turns),
@@ -59,7 +67,7 @@ pub fn serve<R: Clock + Eprint + Net + RandomSource, I: Read, L: Log>(
 }
 
 /// Runs a forward proxy with the settings that the reader gives, as `serve` runs a server.
-pub fn forward<R: Clock + Eprint + Net + RandomSource, I: Read, L: Log>(
+pub fn forward<R: Clock + Eprint + Seeds + Sockets, I: Read, L: Log>(
     alloc: Global,
     runtime: &R,
     reader: &mut I,
@@ -67,7 +75,8 @@ pub fn forward<R: Clock + Eprint + Net + RandomSource, I: Read, L: Log>(
     turns: u64,
 ) -> Ended
     ensures done { result ≡ Ended.Done → (settings : ForwardedBy) × (text : List ℕ) × IfSome (I.remaining reader.old) (λ bytes. StandsFor AreProxySettings bytes settings)
-        × spec.Forwards settings turns text × Tells (L.told log.old) (L.told log.new) text }
+        × (forwards : spec.Forwards settings turns text) × system.RunsOn (R.gave runtime.now) (R.opened runtime.now settings.bind None) R.Socket.sent forwards.runs.start forwards.runs.sent
+        × Tells (L.told log.old) (L.told log.new) text }
     ensures bad { result ≡ Ended.BadSettings → TellsWhy IsFaultOfProxy (I.remaining reader.old) (L.told log.old) (L.told log.new) }
     ensures ends { ends.EndsNode result }
 {
@@ -79,14 +88,46 @@ pub fn forward<R: Clock + Eprint + Net + RandomSource, I: Read, L: Log>(
 
 // ---- nodes
 
-fn serve_by<R: Clock + Eprint + Net + RandomSource, L: Log>(
+fn serve_by<R: Clock + Eprint + Seeds + Sockets + Stores, L: Log>(
     alloc: Global,
     runtime: &R,
     settings: ServerSettings,
     log: &mut L,
     turns: u64,
 ) -> Ended
-    ensures done { result ≡ Ended.Done → (text : List ℕ) × spec.Serves settings turns text × Tells (L.told log.old) (L.told log.new) text }
+    ensures done { result ≡ Ended.Done → (tree : AnyTree) × (text : List ℕ) × BeginsWith (R.holds runtime.now) settings tree
+        × (serves : spec.Serves settings tree turns text) × system.RunsOn (R.gave runtime.now) (R.opened runtime.now settings.bind None) R.Socket.sent serves.runs.start serves.runs.sent
+        × Tells (L.told log.old) (L.told log.new) text }
+    ensures ends { ends.EndsServing result }
+{
+    let file = match &settings.store {
+        None => return serve_from_settings(alloc, runtime, settings, log, turns),
+        Some(file) => String::from_str(alloc, file.as_str()),
+    };
+    match file {
+        Ok(file) => match runtime.open_store(file.as_str(), &settings.resources) {
+            Ok(stored) => {
+                let ended = serve_stored(alloc, runtime, settings, stored, log, turns);
+                tell_unkept(alloc, runtime, file.as_str(), ended);
+                ended
+            }
+            Err(ended) => ended,
+        },
+        Err(_) => Ended::OutOfMemory,
+    }
+}
+
+// Without a store.
+fn serve_from_settings<R: Clock + Eprint + Seeds + Sockets, L: Log>(
+    alloc: Global,
+    runtime: &R,
+    settings: ServerSettings,
+    log: &mut L,
+    turns: u64,
+) -> Ended
+    ensures done { result ≡ Ended.Done → (text : List ℕ)
+        × (serves : spec.Serves settings (spec.tree_of settings.resources.items) turns text) × system.RunsOn (R.gave runtime.now) (R.opened runtime.now settings.bind None) R.Socket.sent serves.runs.start serves.runs.sent
+        × Tells (L.told log.old) (L.told log.new) text }
     ensures ends { ends.EndsTurns result }
 {
     let bind = settings.bind;
@@ -96,14 +137,16 @@ fn serve_by<R: Clock + Eprint + Net + RandomSource, L: Log>(
     }
 }
 
-fn forward_by<R: Clock + Eprint + Net + RandomSource, L: Log>(
+fn forward_by<R: Clock + Eprint + Seeds + Sockets, L: Log>(
     alloc: Global,
     runtime: &R,
     settings: ProxySettings,
     log: &mut L,
     turns: u64,
 ) -> Ended
-    ensures done { result ≡ Ended.Done → (text : List ℕ) × spec.Forwards settings turns text × Tells (L.told log.old) (L.told log.new) text }
+    ensures done { result ≡ Ended.Done → (text : List ℕ)
+        × (forwards : spec.Forwards settings turns text) × system.RunsOn (R.gave runtime.now) (R.opened runtime.now settings.bind None) R.Socket.sent forwards.runs.start forwards.runs.sent
+        × Tells (L.told log.old) (L.told log.new) text }
     ensures ends { ends.EndsTurns result }
 {
     let bind = settings.bind;
@@ -116,9 +159,9 @@ fn forward_by<R: Clock + Eprint + Net + RandomSource, L: Log>(
 // How many posts of each token id a server knows again.
 const REMEMBERED: u8 = 8;
 
-// A server with these resources, and without contexts.
+// A server with the resources of its settings, and without contexts.
 fn server_of(alloc: Global, settings: ServerSettings) -> Result<Server, Ended>
-    ensures server { IfOk result (λ server. spec.IsServerOf settings server) }
+    ensures server { IfOk result (λ server. spec.IsServerOf settings (spec.tree_of settings.resources.items) server) }
     ensures fault { IfErr result ends.IsFault }
 {
     let tree = tree_of(alloc, &settings.resources)?;
@@ -128,9 +171,13 @@ fn server_of(alloc: Global, settings: ServerSettings) -> Result<Server, Ended>
     }
 }
 
-fn server_with(alloc: Global, settings: ServerSettings, tree: Tree) -> Result<Server, AllocError>
-    requires { tree ≡ spec.tree_of settings.resources.items }
-    ensures { IfOk result (λ server. spec.IsServerOf settings server) }
+/// A server with these resources, and without contexts.
+pub(crate) fn server_with(
+    alloc: Global,
+    settings: ServerSettings,
+    tree: Tree,
+) -> Result<Server, AllocError>
+    ensures { IfOk result (λ server. spec.IsServerOf settings tree server) }
 {
     let ServerSettings {
         key,
@@ -170,8 +217,12 @@ fn tree_of(alloc: Global, resources: &[ResourceSetting]) -> Result<Tree, Ended>
     Ok(tree)
 }
 
-// Settings are so many, and so short, that there is room for each.
-fn add_resource(alloc: Global, tree: &mut Tree, setting: &ResourceSetting) -> Result<(), Ended>
+/// Puts a resource into the tree. Settings are so many, and so short, that there is room for each.
+pub(crate) fn add_resource(
+    alloc: Global,
+    tree: &mut Tree,
+    setting: &ResourceSetting,
+) -> Result<(), Ended>
     ensures added { OnOk result (tree.new ≡ spec.with_resource tree.old setting.now) }
     ensures fault { IfErr result ends.IsFault }
 {
@@ -239,7 +290,7 @@ fn target_of(setting: &TargetSetting) -> Result<Target, AllocError>
 // ---- turns
 
 // The node takes so many turns at this address.
-fn run<R: Clock + Eprint + Net + RandomSource, N: Node<Suite>, L: Log>(
+fn run<R: Clock + Eprint + Seeds + Sockets, N: Node<Suite>, L: Log>(
     alloc: Global,
     runtime: &R,
     bind: Peer,
@@ -247,73 +298,57 @@ fn run<R: Clock + Eprint + Net + RandomSource, N: Node<Suite>, L: Log>(
     log: &mut L,
     turns: u64,
 ) -> Ended
-    ensures done { result ≡ Ended.Done
-        → (text : List ℕ) × turning.Runs N.acts N.is_step turns text node.old node.new × Tells (L.told log.old) (L.told log.new) text }
+    ensures done { result ≡ Ended.Done → (text : List ℕ)
+        × (runs : turning.Runs N.acts N.is_step turns text node.old node.new) × system.RunsOn (R.gave runtime.now) (R.opened runtime.now bind None) R.Socket.sent runs.start runs.sent
+        × Tells (L.told log.old) (L.told log.new) text }
     ensures ends { ends.EndsTurns result }
 {
-    match bound_telling(alloc, runtime, bind) {
+    match opened(alloc, runtime, bind, None) {
         Ok(mut port) => started(alloc, runtime, &mut port, node, log, turns),
         Err(ended) => ended,
     }
 }
 
 /// A port at this address.
-pub fn bound<R: Net>(runtime: &R, bind: Peer) -> Result<UdpPort, Ended>
+pub fn bound<R: Sockets>(runtime: &R, bind: Peer) -> Result<R::Socket, Ended>
+    ensures opened { IfOk result (R.opened runtime.now bind None) }
     ensures fault { IfErr result ends.IsFault }
 {
-    match UdpPort::bind(runtime, bind) {
+    match runtime.open_port(bind, None) {
         Ok(port) => Ok(port),
-        Err(error) => Err(ended_by_port(&error)),
+        Err(why) => Err(ended_by_port(&why)),
     }
 }
 
-// The same; where there is none, a line on the standard error tells why.
-fn bound_telling<R: Eprint + Net>(alloc: Global, runtime: &R, bind: Peer) -> Result<UdpPort, Ended>
-    ensures fault { IfErr result ends.IsFault }
-{
-    match UdpPort::bind(runtime, bind) {
-        Ok(port) => Ok(port),
-        Err(error) => {
-            tell_port(alloc, runtime, "bind", Some(bind), error.kind());
-            Err(ended_by_port(&error))
-        }
-    }
-}
-
-/// A port at this address, at which nothing comes in but from this peer; where there is none, a line on the standard error tells why.
-pub(crate) fn connected<R: Eprint + Net>(
+/// A port at this address, at which nothing comes in but from this peer, if one is named; where there is none, a line on the standard
+/// error tells why.
+pub(crate) fn opened<R: Eprint + Sockets>(
     alloc: Global,
     runtime: &R,
     bind: Peer,
-    peer: Peer,
-) -> Result<UdpPort, Ended>
+    peer: Option<Peer>,
+) -> Result<R::Socket, Ended>
+    ensures opened { IfOk result (R.opened runtime.now bind peer) }
     ensures fault { IfErr result ends.IsFault }
 {
-    let mut port = bound_telling(alloc, runtime, bind)?;
-    match port.connect(peer) {
-        Ok(()) => Ok(port),
-        Err(error) => {
-            tell_port(alloc, runtime, "send to", Some(peer), error.kind());
-            Err(ended_by_port(&error))
+    match runtime.open_port(bind, peer) {
+        Ok(port) => Ok(port),
+        Err(why) => {
+            tell_port(alloc, runtime, &why);
+            Err(ended_by_port(&why))
         }
     }
 }
 
 /// Where the port failed, a line on the standard error tells why, if that can be written.
-pub(crate) fn tell_failure<R: Eprint>(alloc: Global, runtime: &R, port: &UdpPort) {
+pub(crate) fn tell_failure<R: Eprint, P: SocketPort>(alloc: Global, runtime: &R, port: &P) {
     if let Some(why) = port.why() {
-        tell_port(alloc, runtime, why.what, why.peer, why.kind);
+        tell_port(alloc, runtime, &why);
     }
 }
 
-fn tell_port<R: Eprint>(
-    alloc: Global,
-    runtime: &R,
-    what: &str,
-    peer: Option<Peer>,
-    kind: ErrorKind,
-) {
-    if let Ok(line) = port_line(alloc, what, peer, kind) {
+fn tell_port<R: Eprint>(alloc: Global, runtime: &R, why: &Why) {
+    if let Ok(line) = port_line(alloc, why.what, why.peer, why.kind) {
         let _told = runtime.eprintln(line.as_str());
     }
 }
@@ -333,25 +368,26 @@ fn port_line(
 }
 
 // How a program ends that has no port.
-fn ended_by_port(error: &io::Error) -> Ended
+fn ended_by_port(why: &Why) -> Ended
     ensures { ends.IsFault result }
 {
-    match ended_by_io(error) {
-        Ended::OutOfMemory => Ended::OutOfMemory,
+    match why.kind {
+        ErrorKind::OutOfMemory => Ended::OutOfMemory,
         _ => Ended::PortFailed,
     }
 }
 
-fn started<R: Clock + Eprint + RandomSource, N: Node<Suite>, L: Log>(
+fn started<R: Clock + Eprint + Seeds, P: SocketPort, N: Node<Suite>, L: Log>(
     alloc: Global,
     runtime: &R,
-    port: &mut UdpPort,
+    port: &mut P,
     node: &mut N,
     log: &mut L,
     turns: u64,
 ) -> Ended
-    ensures done { result ≡ Ended.Done
-        → (text : List ℕ) × turning.Runs N.acts N.is_step turns text node.old node.new × Tells (L.told log.old) (L.told log.new) text }
+    ensures done { result ≡ Ended.Done → (text : List ℕ)
+        × (runs : turning.Runs N.acts N.is_step turns text node.old node.new) × IsOfSeed (R.gave runtime.now) runs.start.generator
+        × (P.sent port.new ≡ grown (P.sent port.old) runs.sent) × Tells (L.told log.old) (L.told log.new) text }
     ensures ends { ends.EndsTurns result }
 {
     tell_address(alloc, runtime, port);
@@ -365,8 +401,13 @@ fn started<R: Clock + Eprint + RandomSource, N: Node<Suite>, L: Log>(
     }
 }
 
-// Tells why the port failed, where that ended the node.
-fn tell_end<R: Eprint>(alloc: Global, runtime: &R, port: &UdpPort, ended: Ended) {
+/// Tells why the port failed, where that ended the node.
+pub(crate) fn tell_end<R: Eprint, P: SocketPort>(
+    alloc: Global,
+    runtime: &R,
+    port: &P,
+    ended: Ended,
+) {
     if ended == Ended::PortFailed {
         tell_failure(alloc, runtime, port);
     }
@@ -376,8 +417,8 @@ fn tell_end<R: Eprint>(alloc: Global, runtime: &R, port: &UdpPort, ended: Ended)
 const EVERY_ADDRESS: &str =
     "answers leave from the address that the system picks, and a client that asked another address of this machine doesn't know them: bind one address";
 
-// `listening on A.B.C.D:PORT`, on the standard error, and at 0.0.0.0 a line more. A notice that can't be written is nobody's failure.
-fn tell_address<R: Eprint>(alloc: Global, runtime: &R, port: &UdpPort) {
+/// `listening on A.B.C.D:PORT`, on the standard error, and at 0.0.0.0 a line more. A notice that can't be written is nobody's failure.
+pub(crate) fn tell_address<R: Eprint, P: SocketPort>(alloc: Global, runtime: &R, port: &P) {
     if let Some(peer) = port.address() {
         if let Ok(line) = address_line(alloc, peer) {
             let _told = runtime.eprintln(line.as_str());

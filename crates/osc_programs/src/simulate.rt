@@ -15,7 +15,7 @@ use std::io::{Read, Write};
 
 /// Runs the script that the reader gives, and writes its trace in this form, line by line: each line's events as it is done, then the
 /// end lines, and then what the entries of the client of `only` are answered alone, if there is one. A script with a line that stands for
-/// nothing does nothing: the number of the first such line is all that is written. For want of memory the lines so far are written, and
+/// nothing does nothing: the number of the first such line is all that is written. For lack of memory the lines so far are written, and
 /// `out of memory` last.
 pub fn sim<R: Read, W: Write>(
     alloc: Global,
@@ -37,15 +37,15 @@ pub fn sim<R: Read, W: Write>(
     }
 }
 
-// Tells last that memory was wanting; where this can't be written, the first fault counts.
-fn told_last<W: Write>(writer: &mut W) -> Ended
+/// Tells last that memory ran out; where this can't be written, the first fault counts.
+pub(crate) fn told_last<W: Write>(writer: &mut W) -> Ended
     ensures { result ≡ Ended.OutOfMemory }
 {
     let _last = written(writer, b"out of memory\n");
     Ended::OutOfMemory
 }
 
-// The same, but that want of memory isn't told.
+// The same, but that lack of memory isn't told.
 fn run<R: Read, W: Write>(
     alloc: Global,
     reader: &mut R,
@@ -68,7 +68,7 @@ fn run<R: Read, W: Write>(
 
 /// Runs the script of these bytes, and writes its trace in this form, line by line, each flushed before the next is done: each line's
 /// events, then the end lines, and then what the entries of the client of `only` are answered alone, if there is one; of a script with a
-/// line that stands for nothing the number of the first such line alone. For want of memory the lines so far are written.
+/// line that means nothing the number of the first such line alone. For lack of memory the lines so far are written.
 pub fn run_script<W: Write>(
     alloc: Global,
     script: &[u8],
@@ -90,7 +90,8 @@ pub fn run_script<W: Write>(
     }
 }
 
-fn tell_bad_line<W: Write>(alloc: Global, number: u64, writer: &mut W) -> Ended
+/// `line N: bad`.
+pub(crate) fn tell_bad_line<W: Write>(alloc: Global, number: u64, writer: &mut W) -> Ended
     ensures bad { (n : ℕ) → result ≡ Ended.BadLine n → (number ≡ n) × Appends (W.contents writer.old) (W.contents writer.new) (bad_line_text n) }
     ensures cut { result ≡ Ended.OutOfMemory → writer.new ≡ writer.old }
     ensures cases { (result ≡ Ended.BadLine number) ⊎ ((result ≡ Ended.OutOfMemory) ⊎ (result ≡ Ended.Failed)) }

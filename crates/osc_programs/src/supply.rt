@@ -5,15 +5,13 @@ ghost use Rattle.osc_programs.specs.Ended as ends;
 
 use crate::ended::{Ended, ended_by_io};
 use osc_model::{Draw, Moment};
-use osc_turn::{ClockAndRandom, SystemWatch, Watch};
-use std::random::RandomSource;
+use osc_turn::{ClockAndRandom, Seeds, SystemWatch, Watch};
 use std::time::Clock;
 
 /// Over the clock of this runtime, with a generator whose seed comes from the system.
-pub fn supply_of<R: Clock + RandomSource>(
-    runtime: &R,
-) -> Result<ClockAndRandom<SystemWatch<'_, R>>, Ended>
+pub fn supply_of<R: Clock + Seeds>(runtime: &R) -> Result<ClockAndRandom<SystemWatch<'_, R>>, Ended>
     ensures seeded { IfOk result (λ supply. spec.IsSeeded supply) }
+    ensures given { IfOk result (λ supply. spec.IsOfSeed (R.gave runtime.now) supply.generator) }
     ensures fault { IfErr result ends.IsFault }
 {
     match ClockAndRandom::of_system(runtime) {

@@ -1,4 +1,4 @@
-//! What the key and the secret of a token are, where they stand in files.
+//! What the key and the secret of a token are, where they are in files.
 ghost use Rattle.std.specs.Prelude.{◌≡◌, ◌⊎◌, IfErr, IfOk, IfSome, MatchResult, option_and_then};
 ghost use Rattle.osc_programs.specs.TokenFiles as spec;
 ghost use Rattle.osc_script.specs.{SpellsHexWithin};
@@ -19,7 +19,7 @@ use std::io::Read;
 /// # Errors
 ///
 /// `Unread` for a file that can't be read, `Value` for one that holds no such value, the key's before the secret's, and `Memory` for
-/// want of memory.
+/// lack of memory.
 pub fn filled<K: Read + Drop, S: Read + Drop>(
     alloc: Global,
     asked: TokenAsked,

@@ -1,5 +1,7 @@
 //! A port over a UDP socket.
-ghost use Rattle.std.specs.Prelude.{◌≡◌, ◌<◌, IfOk, None, OnErr, OnOk};
+ghost use Rattle.std.specs.Prelude.{⊤, ◌≡◌, ◌<◌, IfOk, IfSome, None, OnErr, OnOk, Option};
+ghost use Rattle.osc_model.specs.declared.node.Peer.{Peer as AnyPeer};
+ghost use Rattle.osc_programs.specs.declared.udp.Why.{Why as AnyWhy};
 
 use osc_model::Peer;
 use osc_turn::{Port, PortFault};
@@ -10,15 +12,61 @@ use std::time::Duration;
 // The longest wait of one receive, in milliseconds.
 const WAIT_MILLIS: u64 = 10;
 
-/// Why a port failed.
+/// Why a port failed, or could not be opened.
 #[derive(Clone, Copy, Debug)]
-pub(crate) struct Why {
+pub struct Why {
     /// What it was to do.
     pub what: &'static str,
     /// To or from whom, if that is known.
     pub peer: Option<Peer>,
     /// What the system said.
     pub kind: ErrorKind,
+}
+
+/// A port over a socket.
+pub trait SocketPort: Port {
+    // The system told that it listens at this address.
+    ghost listens: { Self → AnyPeer → Type 0 };
+
+    // Why it failed last, if it did.
+    ghost why: { Self → Option AnyWhy };
+
+    /// The address at which it listens, where the system tells it.
+    fn address(&self) -> Option<Peer>
+        ensures { IfSome result (listens self.now) };
+
+    /// Why it failed last, if it did.
+    fn why(&self) -> Option<Why>
+        ensures { result ≡ why self.now };
+}
+
+/// What opens ports. Contracts see at which address it opened each, and from whom anything comes in there.
+pub trait Sockets {
+    /// Its ports.
+    type Socket: SocketPort + Drop;
+
+    // It opened this port at this address, for what comes from this peer alone, if one is named.
+    ghost opened: { Self → AnyPeer → Option AnyPeer → Self.Socket → Type 0 };
+
+    /// A port at this address; the system picks the number of a port of 0. Where a peer is named, nothing comes in but from there: the
+    /// system drops the datagrams of other addresses, and no receive ends for one of them.
+    ///
+    /// # Errors
+    ///
+    /// Those of the system, such as that of an address that is in use, or of one to which no way leads.
+    fn open_port(&self, at: Peer, peer: Option<Peer>) -> Result<Self::Socket, Why>
+        ensures { IfOk result (opened self.now at peer) };
+}
+
+/// The sockets of a runtime: nothing can be said of what it opens.
+impl<N: Net> Sockets for N {
+    type Socket = UdpPort;
+
+    ghost opened = { λ _ _ _ _. ⊤ };
+
+    fn open_port(&self, at: Peer, peer: Option<Peer>) -> Result<UdpPort, Why> {
+        UdpPort::opened(self, at, peer)
+    }
 }
 
 /// A port over a UDP socket (RFC 7252 section 3) with an IPv4 address. A receive waits for at most 10 milliseconds.
@@ -33,13 +81,25 @@ pub struct UdpPort {
 }
 
 impl UdpPort {
-    /// A port at this address; the system picks the number of a port of 0.
-    ///
-    /// # Errors
-    ///
-    /// Those of the system, such as that of an address that is in use.
-    pub fn bind<N: Net>(net: &N, at: Peer) -> io::Result<UdpPort>
-        ensures { IfOk result (λ port. port.failures ≡ 0) }
+    // A port at this address, for what comes from this peer alone, if one is named.
+    fn opened<N: Net>(net: &N, at: Peer, peer: Option<Peer>) -> Result<UdpPort, Why>
+        ensures failures { IfOk result (λ port. port.failures ≡ 0) }
+        ensures peer { IfOk result (λ port. port.peer ≡ peer) }
+    {
+        match UdpPort::bind(net, at) {
+            Ok(port) => port.connected(peer),
+            Err(error) => Err(Why {
+                what: "bind",
+                peer: Some(at),
+                kind: error.kind(),
+            }),
+        }
+    }
+
+    // A port at this address.
+    fn bind<N: Net>(net: &N, at: Peer) -> io::Result<UdpPort>
+        ensures failures { IfOk result (λ port. port.failures ≡ 0) }
+        ensures peer { IfOk result (λ port. port.peer ≡ None) }
     {
         let socket = UdpSocket::bind(net, socket_address(at))?;
         socket.set_read_timeout(Some(Duration::from_millis(WAIT_MILLIS)))?;
@@ -51,30 +111,23 @@ impl UdpPort {
         })
     }
 
-    /// From here on, only this peer's datagrams come in: the system drops those of other addresses, and no receive ends for one of them.
-    ///
-    /// # Errors
-    ///
-    /// Those of the system, such as that of an address to which no way leads.
-    pub fn connect(&mut self, peer: Peer) -> io::Result<()>
-        ensures { self.new.failures ≡ self.old.failures }
+    // From here on, only this peer's datagrams come in, if one is named.
+    fn connected(mut self, peer: Option<Peer>) -> Result<UdpPort, Why>
+        ensures failures { IfOk result (λ port. port.failures ≡ self.failures) }
+        ensures peer { IfOk result (λ port. port.peer ≡ peer) }
     {
-        self.socket.connect(socket_address(peer))?;
-        self.peer = Some(peer);
-        Ok(())
-    }
-
-    /// The address at which it listens, where the system tells it.
-    pub fn address(&self) -> Option<Peer> {
-        match self.socket.local_addr() {
-            Ok(address) => peer_of(address),
-            Err(_) => None,
+        self.peer = peer;
+        let Some(named) = peer else {
+            return Ok(self);
+        };
+        match self.socket.connect(socket_address(named)) {
+            Ok(()) => Ok(self),
+            Err(error) => Err(Why {
+                what: "send to",
+                peer,
+                kind: error.kind(),
+            }),
         }
-    }
-
-    /// Why it failed last, if it did.
-    pub(crate) fn why(&self) -> Option<Why> {
-        self.why
     }
 
     // Counts a failure. One that can't be counted any more isn't told, as if nothing had come or all had gone.
@@ -90,6 +143,24 @@ impl UdpPort {
         }
         self.failures += 1;
         Err(PortFault)
+    }
+}
+
+impl SocketPort for UdpPort {
+    // Nothing can be said of the addresses that the system tells.
+    ghost listens = { λ _ _. ⊤ };
+
+    ghost why = { λ port. port.why };
+
+    fn address(&self) -> Option<Peer> {
+        match self.socket.local_addr() {
+            Ok(address) => peer_of(address),
+            Err(_) => None,
+        }
+    }
+
+    fn why(&self) -> Option<Why> {
+        self.why
     }
 }
 

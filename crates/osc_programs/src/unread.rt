@@ -10,7 +10,7 @@ use crate::log::shown;
 use osc_settings::{KeyFault, SettingsError, SettingsKey};
 use std::alloc::{AllocError, Global};
 
-/// The line of this error: `settings: WHY`, where WHY names the key and says what should stand there. Nothing of what stands there is in
+/// The line of this error: `settings: WHY`, where WHY names the key and says what should be there. Nothing of what is there is in
 /// it.
 pub fn unread_text(alloc: Global, why: &SettingsError) -> Result<Vec<u8>, AllocError>
     ensures { IfOk result (λ text. text.items ≡ spec.unread_text why.now) }
@@ -81,7 +81,7 @@ fn wrong_text(alloc: Global, key: SettingsKey) -> Result<Vec<u8>, AllocError>
     named_text(alloc, key, b" should be ")
 }
 
-// `key NAME`, these words, and what should stand there.
+// `key NAME`, these words, and what should be there.
 fn named_text(alloc: Global, key: SettingsKey, words: &[u8]) -> Result<Vec<u8>, AllocError>
     ensures { IfOk result (λ text. text.items ≡ codes "key " ++ name_of key ++ words.now ++ form_of key) }
 {

@@ -39,7 +39,7 @@ none_at Stands (c ∷ ds) i d lt none [] h = h
 none_at Stands (c ∷ ds) zero d lt none (x ∷ xs) h = none x h.0
 none_at Stands (c ∷ ds) (suc i) d lt none (x ∷ xs) h = none_at Stands ds i d (omega arith) none xs h.1
 
--- one that stands for nothing
+-- one that means nothing
 none_stands : {X : Type 0} (Stands : Data → X → Type 0) (ds : List Value) (i : ℕ) (d : Value) → i < length ds → d ≡ get_or ds i d
     → ((x : X) → ¬ Stands (view d) x) → (xs : List X) → ¬ StandForEach Stands (items_view ds) xs
 none_stands Stands ds i d lt is none = none_at Stands ds i d lt (λ x s. none x (subst (λ v. Stands (view v) x) (sym is) s))

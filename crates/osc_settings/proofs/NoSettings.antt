@@ -1,7 +1,7 @@
 -- A document that is at fault stands for no settings.
 use Rattle.std.proofs.Common.{◌≡◌, ◌≢◌, ℕ, zero, suc, List, [], ◌∷◌, Option, Some, None, refl, inl, inr, sym, ◌∙◌, subst}
 use Rattle.toml.specs.Data.{Data, Items, Members, no_items, item, array, get_member}
-use Rattle.osc_settings.specs.{IsPortAt, IsSecondsAt, ListedAt, MayBeSecondsAt, MaySpellAt, SpelledAt, StandForEach, other_key, IsArrayAt, IsClientFault, IsFaultAt, IsFaultOfProxy, IsFirstFault, IsItemFault, IsKeyFault, IsOriginFault, IsOther, IsServerFault, IsTargetFault, IsTextAt, IsWrongAt, name_of, AreClientSettings, AreProxySettings, AreServerSettings, IsOrigin, IsPathText, IsTarget, IsTargetTable, client_keys, proxy_keys, server_keys, target_keys, IsAddress, IsHost, IsOpenAddress, IsRevocationPath, SpellsBytes, SpellsHex}
+use Rattle.osc_settings.specs.{IsPortAt, IsSecondsAt, ListedAt, MayBeSecondsAt, MaySpellAt, SpelledAt, StandForEach, other_key, IsArrayAt, IsClientFault, IsFaultAt, IsFaultOfProxy, IsFirstFault, IsItemFault, IsKeyFault, IsOriginFault, IsOther, IsServerFault, IsTargetFault, IsTextAt, IsWrongAt, name_of, AreClientSettings, AreProxySettings, AreServerSettings, IsOrigin, IsPathText, IsTarget, IsTargetTable, client_keys, proxy_keys, server_keys, target_keys, IsAddress, IsFileName, IsHost, IsOpenAddress, IsRevocationPath, SpellsBytes, SpellsHex}
 use Rattle.osc_settings.specs.declared.client.ClientSettings.{ClientSettings}
 use Rattle.osc_settings.specs.declared.error.KeyFault.{KeyFault}
 use Rattle.osc_settings.specs.declared.error.SettingsError.{SettingsError}
@@ -70,9 +70,12 @@ server_fault document fault s h a = elim h [
               | inl revoked ↦ no_may key.Revoked IsRevocationPath document fault s.revoked revoked a.revoked
               | inr taken ↦ elim taken.1 [
                 | inl seconds ↦ no_seconds key.ContextSeconds document fault s.context_seconds seconds a.context_seconds
-                | inr kept ↦ elim a.resources [
-                  | inl there ↦ kept.1.1 s.resources.items there
-                  | inr out ↦ some_there (get_member (name_of key.Resource) document) kept.1.0 out.0
+                | inr timed ↦ elim timed.1 [
+                  | inl store ↦ no_may key.Store IsFileName document fault s.store store a.store
+                  | inr kept ↦ elim a.resources [
+                    | inl there ↦ kept.1.1 s.resources.items there
+                    | inr out ↦ some_there (get_member (name_of key.Resource) document) kept.1.0 out.0
+                  ]
                 ]
               ]
             ]

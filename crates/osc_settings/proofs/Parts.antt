@@ -21,7 +21,7 @@ fault_within F G Memory so h = tt
 
 -- ---- what may be left out
 
--- what stands there can't be missing
+-- what is there can't be missing
 wrong_there : {X : Type 0} (key : SettingsKey) (Stands : List ℕ → Members → X → Type 0) (document : Members) (fault : KeyFault)
     → is_some (get_member (name_of key) document) ≡ true → IsFaultAt key Stands document fault → IsWrongAt key Stands document fault
 wrong_there key Stands document fault there h = elim h [ inl wrong ↦ wrong | inr missing ↦ absurd (some_there (get_member (name_of key) document) there missing.0) ]

@@ -1,4 +1,4 @@
--- What stands at a key, and what it spells.
+-- What is at a key, and what it spells.
 use Rattle.std.proofs.Common.{◌≡◌, ℕ, ℤ, List, Option, Some, None, Result, Ok, Err, refl, sym, ap, subst, ◌∙◌, inl, inr, if◌then◌else◌, MatchResult}
 use Rattle.std.specs.Option.{is_some, option_and_then}
 use Rattle.toml.specs.Data.{Data, Items, Members, string, integer, array, table, as_str, as_integer, as_array, as_table, get_member}
@@ -49,7 +49,7 @@ text_there key text document e = there as_str string (get_member key document) t
 one_text : (found : Option Data) (text other : List ℕ) → found ≡ Some (string text) → found ≡ Some (string other) → other ≡ text
 one_text found text other e f = cc
 
--- such a value doesn't stand at the key, and what does is of another type, if anything is there
+-- such a value doesn't be at the key, and what does is of another type, if anything is there
 untyped : {X : Type 0} (key : SettingsKey) (Stands : List ℕ → Members → X → Type 0) (document : Members)
     → ((x : X) → ¬ Stands (name_of key) document x) → IsKeyFault (IsFaultAt key Stands document) (untyped_at key document)
 untyped key Stands document none = by (get_member (name_of key) document) refl
@@ -91,7 +91,7 @@ no_text key document error none is = untyped_as key IsTextAt document error is (
 
 -- ---- integers
 
--- an integer stands at the key, and is the number of this
+-- an integer is at the key, and is the number of this
 abbrev pub NumberedAt : {X : Type 0} → (ℤ → X → Type 0) → List ℕ → Members → X → Type 0
 NumberedAt Numbers key document x = (number : ℤ) × (get_member key document ≡ Some (integer number)) × Numbers number x
 

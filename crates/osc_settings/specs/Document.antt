@@ -1,4 +1,4 @@
--- What stands in a document of TOML, key by key.
+-- What is in a document of TOML, key by key.
 use Rattle.std.specs.Prelude.{◌≡◌, ℕ, ℤ, if◌then◌else◌, List, [], ◌∷◌, Option, Some, None, IsSomeAnd}
 use Rattle.std.specs.List.{list_any}
 use Rattle.std.specs.Str.{bytes_eq}
@@ -18,11 +18,11 @@ abbrev pub other_key : List SettingsKey → Members → Option (List ℕ)
 other_key keys no_members = None
 other_key keys (member name value rest) = if list_any (λ key. bytes_eq name (name_of key)) keys then other_key keys rest else Some name
 
--- nothing stands at the key
+-- nothing is at the key
 abbrev pub IsLeftOut : List ℕ → Members → Type 0
 IsLeftOut key document = get_member key document ≡ None
 
--- a text stands at the key, and spells this
+-- a text is at the key, and spells this
 abbrev pub SpelledAt : {X : Type 0} → List ℕ → (List ℕ → X → Type 0) → Members → X → Type 0
 SpelledAt key Spells document x = (text : List ℕ) × (get_member key document ≡ Some (string text)) × Spells text x
 
@@ -31,15 +31,15 @@ abbrev pub MaySpellAt : {X : Type 0} → List ℕ → (List ℕ → X → Type 0
 MaySpellAt key Spells document None = IsLeftOut key document
 MaySpellAt key Spells document (Some x) = SpelledAt key Spells document x
 
--- an integer stands at the key, and is a port
+-- an integer is at the key, and is a port
 abbrev pub IsPortAt : List ℕ → Members → ℕ → Type 0
 IsPortAt key document port = (number : ℤ) × (get_member key document ≡ Some (integer number)) × IsPort number port
 
--- an integer stands at the key, and is the number of an algorithm
+-- an integer is at the key, and is the number of an algorithm
 abbrev pub IsAlgorithmAt : List ℕ → Members → Algorithm → Type 0
 IsAlgorithmAt key document algorithm = (number : ℤ) × (get_member key document ≡ Some (integer number)) × IsAlgorithm number algorithm
 
--- an integer stands at the key, and is a number of seconds
+-- an integer is at the key, and is a number of seconds
 abbrev pub IsSecondsAt : List ℕ → Members → ℕ → Type 0
 IsSecondsAt key document seconds = (number : ℤ) × (get_member key document ≡ Some (integer number)) × IsSeconds number seconds
 
@@ -54,6 +54,6 @@ StandForEach Stands no_items [] = Unit {0}
 StandForEach Stands (item value items) (x ∷ xs) = Stands value x × StandForEach Stands items xs
 StandForEach Stands items xs = ⊥
 
--- an array of such items stands at the key
+-- an array of such items is at the key
 abbrev pub ListedAt : {X : Type 0} → List ℕ → (Data → X → Type 0) → Members → List X → Type 0
 ListedAt key Stands document xs = (items : Items) × (get_member key document ≡ Some (array items)) × StandForEach Stands items xs

@@ -1,5 +1,5 @@
 -- Why a text gives no settings: the first fault. A key that should not be there comes before all else, the first in the order of the
--- bytes of their names; then the keys, in the order in which they stand here.
+-- bytes of their names; then the keys, in the order in which they are here.
 use Rattle.std.specs.Prelude.{◌≡◌, ◌⊎◌, ℕ, zero, suc, true, List, Option, Some, None, is_some, IsSomeAnd}
 use Rattle.toml.specs.Data.{Data, Items, Members, no_items, item, array, table, string, get_member}
 use Rattle.toml.specs.Parse.{parse_document}
@@ -7,7 +7,7 @@ use Rattle.osc_model.specs.declared.node.Peer.{Peer}
 use Rattle.osc_settings.specs.Document.{other_key, IsLeftOut, SpelledAt, IsAlgorithmAt, IsPortAt, IsSecondsAt, ListedAt}
 use Rattle.osc_settings.specs.Keys.{name_of}
 use Rattle.osc_settings.specs.Settings.{server_keys, proxy_keys, target_keys, client_keys, AreResourcesAt, IsOrigin, IsPathText, IsTargetTable}
-use Rattle.osc_settings.specs.Values.{IsAddress, IsHost, IsOpenAddress, IsRevocationPath, SpellsHex, SpellsBytes}
+use Rattle.osc_settings.specs.Values.{IsAddress, IsFileName, IsHost, IsOpenAddress, IsRevocationPath, SpellsHex, SpellsBytes}
 use Rattle.osc_settings.specs.declared.error.KeyFault.{KeyFault}
 use Rattle.osc_settings.specs.declared.error.KeyFault.TheVariants.{Unknown, Missing, Wrong}
 use Rattle.osc_settings.specs.declared.error.SettingsError.{SettingsError}
@@ -22,11 +22,11 @@ use Rattle.osc_settings.specs.declared.proxy.TargetSetting.{TargetSetting}
 abbrev pub IsOther : List SettingsKey → Members → KeyFault → Type 0
 IsOther keys document fault = (name : List ℕ) × (other_key keys document ≡ Some name) × (fault ≡ Unknown name)
 
--- something stands at the key, but no such value
+-- something is at the key, but no such value
 abbrev pub IsWrongAt : {X : Type 0} → SettingsKey → (List ℕ → Members → X → Type 0) → Members → KeyFault → Type 0
 IsWrongAt {X} key Stands document fault = (is_some (get_member (name_of key) document) ≡ true) × ((x : X) → ¬ Stands (name_of key) document x) × (fault ≡ Wrong key)
 
--- so, or nothing stands there
+-- so, or nothing is there
 abbrev pub IsFaultAt : {X : Type 0} → SettingsKey → (List ℕ → Members → X → Type 0) → Members → KeyFault → Type 0
 IsFaultAt key Stands document fault = IsWrongAt key Stands document fault ⊎ (IsLeftOut (name_of key) document × (fault ≡ Missing key))
 
@@ -36,7 +36,7 @@ IsFaultAt key Stands document fault = IsWrongAt key Stands document fault ⊎ (I
 abbrev pub OnlyThen : List SettingsKey → Members → (KeyFault → Type 0) → KeyFault → Type 0
 OnlyThen keys document Later fault = IsOther keys document fault ⊎ ((other_key keys document ≡ None) × Later fault)
 
--- such a value stands at the key, and then there is this fault; or the key has it
+-- such a value is at the key, and then there is this fault; or the key has it
 abbrev pub KeyThen : {X : Type 0} → SettingsKey → (List ℕ → Members → X → Type 0) → Members → (KeyFault → Type 0) → KeyFault → Type 0
 KeyThen {X} key Stands document Later fault = IsFaultAt key Stands document fault ⊎ (((x : X) × Stands (name_of key) document x) × Later fault)
 
@@ -47,7 +47,7 @@ MayThen {X} key Stands document Later fault =
 
 -- ---- of a server
 
--- this text stands at the key
+-- this text is at the key
 abbrev pub IsTextAt : List ℕ → Members → List ℕ → Type 0
 IsTextAt key document text = get_member key document ≡ Some (string text)
 
@@ -61,7 +61,8 @@ IsServerFault document =
     (KeyThen key.Open (λ key. ListedAt key IsPathText) document
     (MayThen key.Revoked (λ key. SpelledAt key IsRevocationPath) document
     (MayThen key.ContextSeconds IsSecondsAt document
-    (IsWrongAt key.Resource AreResourcesAt document))))))))
+    (MayThen key.Store (λ key. SpelledAt key IsFileName) document
+    (IsWrongAt key.Resource AreResourcesAt document)))))))))
 
 -- ---- of a proxy
 
@@ -107,7 +108,7 @@ pub record IsFaultIn (document : Members) (number : ℕ) (fault : KeyFault) : Ty
 
 -- ---- of a client
 
--- where a host stands there, a port if one does, and then the host; a port without a host lacks it
+-- where a host is there, a port if one does, and then the host; a port without a host lacks it
 abbrev pub IsOriginFault : Members → KeyFault → Type 0
 IsOriginFault document fault =
     ((is_some (get_member (name_of key.Host) document) ≡ true) × MayThen key.Port IsPortAt document (IsWrongAt key.Host (λ key. SpelledAt key IsHost) document) fault)
@@ -130,7 +131,7 @@ IsClientFault document =
 
 -- ---- of a text
 
--- want of memory apart, a key is at fault so
+-- lack of memory apart, a key is at fault so
 abbrev pub IsKeyFault : (KeyFault → Type 0) → SettingsError → Type 0
 IsKeyFault Is (error.Key fault) = Is fault
 IsKeyFault Is error.Memory = Unit {0}
@@ -141,7 +142,7 @@ abbrev pub IsFaultOfProxy : Members → SettingsError → Type 0
 IsFaultOfProxy document (error.Target number fault) = IsFaultIn document number fault
 IsFaultOfProxy document other = IsKeyFault (IsProxyFault document) other
 
--- want of memory apart, the text is no document, or one that is at fault so
+-- lack of memory apart, the text is no document, or one that is at fault so
 abbrev pub Lacks : (Members → SettingsError → Type 0) → List ℕ → SettingsError → Type 0
 Lacks Is text error.NotToml = parse_document text ≡ None
 Lacks Is text error.Memory = Unit {0}

@@ -1,7 +1,7 @@
--- The keys of settings: their names, and what should stand at each, in words.
+-- The keys of settings: their names, and what should be at each, in words.
 use Rattle.std.specs.Prelude.{ℕ, List, codes}
 use Rattle.osc_settings.specs.declared.key.SettingsKey.{SettingsKey}
-use Rattle.osc_settings.specs.declared.key.SettingsKey.TheVariants.{Alg, Audience, Bind, Context, ContextSeconds, Format, Hex, Host, Key, OldKey, Open, Path, Peer, Port, Resource, Revoked, Salt, Secret, Target, Text, To, Token}
+use Rattle.osc_settings.specs.declared.key.SettingsKey.TheVariants.{Alg, Audience, Bind, Context, ContextSeconds, Format, Hex, Host, Key, OldKey, Open, Path, Peer, Port, Resource, Revoked, Salt, Secret, Store, Target, Text, To, Token}
 
 abbrev pub name_of : SettingsKey → List ℕ
 name_of Alg = codes "alg"
@@ -22,6 +22,7 @@ name_of Resource = codes "resource"
 name_of Revoked = codes "revoked"
 name_of Salt = codes "salt"
 name_of Secret = codes "secret"
+name_of Store = codes "store"
 name_of Target = codes "target"
 name_of Text = codes "text"
 name_of To = codes "to"
@@ -46,6 +47,7 @@ form_of Resource = codes "at most 1024 tables [[resource]] of path, format where
 form_of Revoked = codes "a path of at most 4 segments, as '/revoked'"
 form_of Salt = codes "a text of at most 64 bytes in hexadecimal"
 form_of Secret = codes "a text of 1 to 64 bytes in hexadecimal"
+form_of Store = codes "a text, the name of a file"
 form_of Target = codes "tables [[target]] of host, port and to"
 form_of Text = codes "a text"
 form_of To = codes "a text of an address and a port, as 127.0.0.1:5683"

@@ -9,4 +9,4 @@ pub use Document.{IsAlgorithmAt, IsLeftOut, IsPortAt, IsSecondsAt, ListedAt, May
 pub use Faults.{IsArrayAt, IsClientFault, IsFaultAt, IsFaultOfProxy, IsFirstFault, IsItemFault, IsKeyFault, IsOriginFault, IsOther, IsProxyFault, IsServerFault, IsTargetFault, IsTextAt, IsWrongAt, Lacks}
 pub use Keys.{form_of, name_of}
 pub use Settings.{AreClientSettings, AreProxySettings, AreResources, AreResourcesAt, AreServerSettings, IsContentOf, IsFormatOf, IsOrigin, IsOriginPort, IsPathOf, IsPathText, IsResource, IsResourceTable, IsSalt, IsTarget, IsTargetTable, client_keys, proxy_keys, server_keys, target_keys}
-pub use Values.{IsAddress, IsAddressFrom, IsAlgorithm, IsHost, IsOpenAddress, IsPort, IsRevocationPath, IsSeconds, SpellsBytes, SpellsHex}
+pub use Values.{IsAddress, IsAddressFrom, IsAlgorithm, IsFileName, IsHost, IsOpenAddress, IsPort, IsRevocationPath, IsSeconds, SpellsBytes, SpellsHex}

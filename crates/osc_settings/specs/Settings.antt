@@ -5,7 +5,7 @@ use Rattle.osc_model.specs.{IsPath, longest_payload, most_resources}
 use Rattle.osc_model.specs.declared.algorithm.Algorithm.{Algorithm}
 use Rattle.osc_model.specs.declared.algorithm.Algorithm.TheVariants.{EightByteTag}
 use Rattle.osc_settings.specs.Document.{other_key, IsLeftOut, SpelledAt, MaySpellAt, IsAlgorithmAt, IsPortAt, MayBeSecondsAt, ListedAt}
-use Rattle.osc_settings.specs.Values.{IsAddress, IsHost, IsOpenAddress, IsRevocationPath, SpellsHex, SpellsBytes}
+use Rattle.osc_settings.specs.Values.{IsAddress, IsFileName, IsHost, IsOpenAddress, IsRevocationPath, SpellsHex, SpellsBytes}
 use Rattle.osc_settings.specs.declared.client.ClientSettings.{ClientSettings}
 use Rattle.osc_settings.specs.declared.key.SettingsKey.{SettingsKey}
 use Rattle.osc_settings.specs.declared.key.SettingsKey.TheVariants as key
@@ -17,12 +17,12 @@ use Rattle.osc_settings.specs.declared.server.ServerSettings.{ServerSettings}
 -- ---- of a server
 
 abbrev pub server_keys : List SettingsKey
-server_keys = key.Audience ∷ key.Bind ∷ key.ContextSeconds ∷ key.Key ∷ key.OldKey ∷ key.Open ∷ key.Resource ∷ key.Revoked ∷ []
+server_keys = key.Audience ∷ key.Bind ∷ key.ContextSeconds ∷ key.Key ∷ key.OldKey ∷ key.Open ∷ key.Resource ∷ key.Revoked ∷ key.Store ∷ []
 
 abbrev pub resource_keys : List SettingsKey
 resource_keys = key.Format ∷ key.Hex ∷ key.Path ∷ key.Text ∷ []
 
--- the path of a resource, by what stands there
+-- the path of a resource, by what is there
 abbrev pub IsPathOf : Option Data → List ℕ → Type 0
 IsPathOf (Some (string text)) path = (path ≡ text) × IsPath path
 IsPathOf found path = ⊥
@@ -33,7 +33,7 @@ IsFormatOf None None = Unit {0}
 IsFormatOf (Some (integer number)) (Some format) = (number ≡ pos format) × (format ≤ 65535)
 IsFormatOf found format = ⊥
 
--- its payload, by what stands at `text` and at `hex`: one of them does, with at most 512 bytes
+-- its payload, by what is at `text` and at `hex`: one of them does, with at most 512 bytes
 abbrev pub IsContentOf : Option Data → Option Data → List ℕ → Type 0
 IsContentOf (Some (string text)) None payload = (payload ≡ text) × (length payload ≤ longest_payload)
 IsContentOf None (Some (string text)) payload = SpellsBytes 0 longest_payload text payload
@@ -70,6 +70,7 @@ pub record AreServerSettings (document : Members) (settings : ServerSettings) : 
   pub open_paths : ListedAt (codes "open") IsPathText document settings.open.items
   pub revoked : MaySpellAt (codes "revoked") IsRevocationPath document settings.revoked
   pub context_seconds : MayBeSecondsAt (codes "context_seconds") document settings.context_seconds
+  pub store : MaySpellAt (codes "store") IsFileName document settings.store
   pub resources : AreResources document settings.resources.items
 
 -- ---- of a proxy

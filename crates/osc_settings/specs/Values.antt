@@ -40,6 +40,10 @@ pub record SpellsBytes (least most : ℕ) (text bytes : List ℕ) : Type 0 where
 abbrev pub IsHost : List ℕ → List ℕ → Type 0
 IsHost text host = (host ≡ text) × (1 ≤ length host) × (length host ≤ 255)
 
+-- the name of a file: a text that isn't empty
+abbrev pub IsFileName : List ℕ → List ℕ → Type 0
+IsFileName text name = (name ≡ text) × (1 ≤ length name)
+
 -- a path of at most 4 segments, below which resources revoke tokens: those of a token's id, of at most 64 bytes, are four more, and a path
 -- has at most eight
 abbrev pub IsRevocationPath : List ℕ → List ℕ → Type 0

@@ -72,7 +72,7 @@ impl fmt::Debug for ClientSettings {
 /// # Errors
 ///
 /// The first fault where the text is no such document, `bind` before `peer`, `port`, `host`, `token`, `secret`, `salt`, `context` and `alg`,
-/// and `Memory` for want of memory.
+/// and `Memory` for lack of memory.
 pub fn read_client_settings(alloc: Global, text: &str) -> Result<ClientSettings, SettingsError>
     ensures read { IfOk result (StandsFor AreClientSettings text.now) }
     ensures lacks { IfErr result (Lacks (λ document. IsKeyFault (IsClientFault document)) text.now) }

@@ -1,4 +1,4 @@
-//! What stands in a document of TOML, key by key.
+//! What is in a document of TOML, key by key.
 ghost use Rattle.std.specs.Prelude.{◌≡◌, IfOk, MatchResult, None, Some, find, is_some, not, option_and_then, option_map, string_bytes};
 ghost use Rattle.std.specs.BTreeMap.{keys as keys_of};
 ghost use Rattle.std.specs.List.{list_any};
@@ -12,10 +12,11 @@ ghost use Rattle.osc_settings.specs.Faults.{IsFaultAt, IsKeyFault, IsOther};
 ghost use Rattle.osc_settings.specs.Keys.{name_of};
 ghost use Rattle.osc_settings.specs.Inner.Reading as reading;
 ghost use Rattle.osc_settings.specs.Inner.Reading.{IsNoDocument, text_at};
-ghost use Rattle.osc_settings.specs.Values.{IsAddressFrom, IsHost, IsRevocationPath, SpellsBytes, SpellsHex};
+ghost use Rattle.osc_settings.specs.Values.{IsAddressFrom, IsFileName, IsHost, IsRevocationPath, SpellsBytes, SpellsHex};
 
 use crate::error::{KeyFault, SettingsError, ValueError};
 use crate::key::SettingsKey;
+use crate::store_file::StoreFile;
 use crate::values;
 use osc_model::{Algorithm, Bytes, Path, Peer};
 use std::alloc::{AllocError, Global};
@@ -74,7 +75,7 @@ fn is_one_of(keys: &[SettingsKey], name: &str) -> bool
     keys.iter().any(|key| name == key.name())
 }
 
-/// Whether something stands at a key.
+/// Whether something is at a key.
 pub(crate) fn has(key: SettingsKey, table: &Table) -> bool
     ensures { result ≡ is_some (get_member (name_of key) (table_view table.now)) }
 {
@@ -110,7 +111,7 @@ fn integer_at(key: SettingsKey, table: &Table) -> Option<i64>
     value_at(key, table)?.as_integer()
 }
 
-/// The value that was read of what stands at a key.
+/// The value that was read of what is at a key.
 pub(crate) fn read_at<T: Drop>(
     key: SettingsKey,
     read: Result<T, ValueError>,
@@ -123,7 +124,7 @@ pub(crate) fn read_at<T: Drop>(
     }
 }
 
-/// The fault of a key where nothing stands, or nothing of its type.
+/// The fault of a key where nothing is, or nothing of its type.
 pub(crate) fn untyped_at(key: SettingsKey, table: &Table) -> SettingsError
     ensures { result ≡ reading.untyped_at key (table_view table.now) }
 {
@@ -218,6 +219,20 @@ pub(crate) fn revocation_path_at(
 {
     match text_at(key, table) {
         Some(text) => read_at(key, values::revocation_path(alloc, text)),
+        None => Err(untyped_at(key, table)),
+    }
+}
+
+/// The file at a key.
+pub(crate) fn store_file_at(
+    alloc: Global,
+    key: SettingsKey,
+    table: &Table,
+) -> Result<StoreFile, SettingsError>
+    ensures { MatchResult result (SpelledAt (name_of key) IsFileName (table_view table.now)) (IsKeyFault (IsFaultAt key (λ name. SpelledAt name IsFileName) (table_view table.now))) }
+{
+    match text_at(key, table) {
+        Some(text) => read_at(key, values::store_file(alloc, text)),
         None => Err(untyped_at(key, table)),
     }
 }

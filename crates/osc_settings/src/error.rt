@@ -26,14 +26,14 @@ pub enum SettingsError {
     Memory,
 }
 
-/// What is wrong with a key. The value that stands there isn't told.
+/// What is wrong with a key. The value that is there isn't told.
 #[derive(Debug, Drop)]
 pub enum KeyFault {
     /// It is none of these settings: its name.
     Unknown(Bytes),
     /// It is left out.
     Missing(SettingsKey),
-    /// What stands there is no value that it may have.
+    /// What is there is no value that it may have.
     Wrong(SettingsKey),
 }
 
@@ -75,7 +75,7 @@ pub(crate) enum ValueError {
 }
 
 impl ValueError {
-    /// The fault of the key where it stands.
+    /// The fault of the key where it is.
     pub(crate) fn at(self, key: SettingsKey) -> SettingsError
         ensures { result ≡ spec.fault_at key self }
     {

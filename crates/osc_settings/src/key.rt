@@ -23,6 +23,7 @@ pub enum SettingsKey {
     Revoked,
     Salt,
     Secret,
+    Store,
     Target,
     Text,
     To,
@@ -53,6 +54,7 @@ impl SettingsKey {
             SettingsKey::Revoked => "revoked",
             SettingsKey::Salt => "salt",
             SettingsKey::Secret => "secret",
+            SettingsKey::Store => "store",
             SettingsKey::Target => "target",
             SettingsKey::Text => "text",
             SettingsKey::To => "to",
@@ -60,7 +62,7 @@ impl SettingsKey {
         }
     }
 
-    /// What should stand at it, in words.
+    /// What should be at it, in words.
     pub fn form(self) -> &'static str
         ensures { result.now ≡ form_of self }
     {
@@ -85,6 +87,7 @@ impl SettingsKey {
             }
             SettingsKey::Revoked => "a path of at most 4 segments, as '/revoked'",
             SettingsKey::Secret => "a text of 1 to 64 bytes in hexadecimal",
+            SettingsKey::Store => "a text, the name of a file",
             SettingsKey::Target => "tables [[target]] of host, port and to",
             SettingsKey::Text => "a text",
             SettingsKey::Hex | SettingsKey::Token => "a text of bytes in hexadecimal",

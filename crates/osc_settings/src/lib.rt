@@ -8,6 +8,7 @@ mod key;
 mod proxy;
 mod resource;
 mod server;
+mod store_file;
 mod values;
 
 pub use client::{ClientSettings, read_client_settings};
@@ -16,3 +17,4 @@ pub use key::SettingsKey;
 pub use proxy::{ProxySettings, TargetSetting, read_proxy_settings};
 pub use resource::ResourceSetting;
 pub use server::{ServerSettings, read_server_settings};
+pub use store_file::StoreFile;

@@ -46,7 +46,7 @@ pub struct TargetSetting {
 /// # Errors
 ///
 /// The first fault where the text is no such document, `bind` before `target`, and of a target `port` before `to` and `host`; and `Memory`
-/// for want of memory.
+/// for lack of memory.
 pub fn read_proxy_settings(alloc: Global, text: &str) -> Result<ProxySettings, SettingsError>
     ensures read { IfOk result (StandsFor AreProxySettings text.now) }
     ensures lacks { IfErr result (Lacks IsFaultOfProxy text.now) }

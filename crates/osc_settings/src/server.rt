@@ -5,17 +5,18 @@ ghost use Rattle.osc_settings.specs.Document.{IsSecondsAt, ListedAt, MayBeSecond
 ghost use Rattle.osc_settings.specs.Faults.{IsFaultAt, IsKeyFault, IsServerFault, IsTextAt, IsWrongAt, Lacks};
 ghost use Rattle.osc_settings.specs.Inner.Reading.{AllListedAt, IsRefusal, StandForAll};
 ghost use Rattle.osc_settings.specs.Settings.{AreServerSettings, IsPathText};
-ghost use Rattle.osc_settings.specs.Values.{IsRevocationPath, SpellsBytes};
+ghost use Rattle.osc_settings.specs.Values.{IsFileName, IsRevocationPath, SpellsBytes};
 ghost use Rattle.osc_settings.specs.declared.key.SettingsKey.TheVariants as AnyKey;
 ghost use Rattle.osc_settings.specs.declared.server.ServerSettings.{ServerSettings as AnySettings};
 
 use crate::document::{
     address_at, array_at, document, has, items_at, only, read_at, revocation_path_at, seconds_at,
-    text_at, untyped_at,
+    store_file_at, text_at, untyped_at,
 };
 use crate::error::{SettingsError, ValueError};
 use crate::key::SettingsKey;
 use crate::resource::{ResourceSetting, resources};
+use crate::store_file::StoreFile;
 use crate::values;
 use osc_model::{Path, Peer};
 use osc_token::Audience;
@@ -24,7 +25,7 @@ use std::fmt;
 use toml::{Table, Value};
 
 /// The keys of its settings.
-const KEYS: [SettingsKey; 8] = [
+const KEYS: [SettingsKey; 9] = [
     SettingsKey::Audience,
     SettingsKey::Bind,
     SettingsKey::ContextSeconds,
@@ -33,6 +34,7 @@ const KEYS: [SettingsKey; 8] = [
     SettingsKey::Open,
     SettingsKey::Resource,
     SettingsKey::Revoked,
+    SettingsKey::Store,
 ];
 
 /// What a server is told.
@@ -55,6 +57,8 @@ pub struct ServerSettings {
     /// How many seconds after the post that made it a security context counts no more: `context_seconds`, from 1 to 4294967295. Left out: as
     /// long as its token does.
     pub context_seconds: Option<u32>,
+    /// The file of its store: `store`, the name of a file. Left out: its resources end with the process.
+    pub store: Option<StoreFile>,
 }
 
 // The key isn't printed.
@@ -65,12 +69,12 @@ impl fmt::Debug for ServerSettings {
 }
 
 /// Reads the settings of a server: a document with the keys `bind`, `key`, `audience` and `open`, if need be with `old_key`,
-/// `revoked`, `context_seconds` and `resource`, and with no other. A resource has the keys `path`, and `text` or `hex`, if need be `format`, and no other.
+/// `revoked`, `context_seconds`, `store` and `resource`, and with no other. A resource has the keys `path`, and `text` or `hex`, if need be `format`, and no other.
 ///
 /// # Errors
 ///
 /// The first fault where the text is no such document, `bind` before `key`, `old_key`, `audience`, `open`, `revoked`,
-/// `context_seconds` and `resource`, and `Memory` for want of memory.
+/// `context_seconds`, `store` and `resource`, and `Memory` for lack of memory.
 pub fn read_server_settings(alloc: Global, text: &str) -> Result<ServerSettings, SettingsError>
     ensures read { IfOk result (StandsFor AreServerSettings text.now) }
     ensures lacks { IfErr result (Lacks (λ document. IsKeyFault (IsServerFault document)) text.now) }
@@ -92,6 +96,7 @@ fn settings_in(alloc: Global, table: &Table) -> Result<ServerSettings, SettingsE
         open: open_paths(alloc, table)?,
         revoked: revoked(alloc, table)?,
         context_seconds: context_seconds(table)?,
+        store: store(alloc, table)?,
         resources: resources(alloc, table)?,
     })
 }
@@ -149,6 +154,18 @@ fn context_seconds(table: &Table) -> Result<Option<u32>, SettingsError>
 {
     if has(SettingsKey::ContextSeconds, table) {
         Ok(Some(seconds_at(SettingsKey::ContextSeconds, table)?))
+    } else {
+        Ok(None)
+    }
+}
+
+fn store(alloc: Global, table: &Table) -> Result<Option<StoreFile>, SettingsError>
+    ensures { MatchResult result
+        (MaySpellAt (codes "store") IsFileName (table_view table.now))
+        (IsKeyFault (IsWrongAt AnyKey.Store (λ name. SpelledAt name IsFileName) (table_view table.now))) }
+{
+    if has(SettingsKey::Store, table) {
+        Ok(Some(store_file_at(alloc, SettingsKey::Store, table)?))
     } else {
         Ok(None)
     }

@@ -3,9 +3,10 @@ ghost use Rattle.std.specs.Prelude.{◌≡◌, ◌==◌, ◌↔◌, length, IfOk
 ghost use Rattle.std.specs.Net.Grammar.{IsSocketV4Text};
 ghost use Rattle.std.specs.Net.Text.{socket_v4_text};
 ghost use Rattle.osc_settings.specs.Inner.Reading.{IsRefusal, SpellsPath};
-ghost use Rattle.osc_settings.specs.Values.{IsAddressFrom, IsAlgorithm, IsHost, IsPort, IsRevocationPath, IsSeconds, SpellsBytes, SpellsHex};
+ghost use Rattle.osc_settings.specs.Values.{IsAddressFrom, IsAlgorithm, IsFileName, IsHost, IsPort, IsRevocationPath, IsSeconds, SpellsBytes, SpellsHex};
 
 use crate::error::ValueError;
+use crate::store_file::StoreFile;
 use hex::{FromHex, FromHexError};
 use osc_model::{Algorithm, Bytes, Path, Peer};
 use std::alloc::{AllocError, Global};
@@ -103,6 +104,16 @@ pub(crate) fn host(alloc: Global, text: &str) -> Result<Bytes, ValueError>
         return Err(ValueError::Bad);
     }
     Ok(Bytes::from_slice(alloc, text.as_bytes())?)
+}
+
+/// The file of a name.
+pub(crate) fn store_file(alloc: Global, text: &str) -> Result<StoreFile, ValueError>
+    ensures { MatchResult result (IsFileName text.now) (IsRefusal (IsFileName text.now)) }
+{
+    if text.is_empty() {
+        return Err(ValueError::Bad);
+    }
+    Ok(StoreFile::new(alloc, text)?)
 }
 
 /// The path of a text.

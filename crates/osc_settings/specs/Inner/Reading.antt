@@ -29,16 +29,16 @@ abbrev pub IsRefusal : {X : Type 0} → (X → Type 0) → ValueError → Type 0
 IsRefusal {X} P Bad = (x : X) → ¬ P x
 IsRefusal P Memory = Unit {0}
 
--- the fault of a key where no such value stands
+-- the fault of a key where no such value is
 abbrev pub fault_at : SettingsKey → ValueError → SettingsError
 fault_at key Bad = error.Key (Wrong key)
 fault_at key Memory = error.Memory
 
--- of a key where nothing stands, or nothing of that type
+-- of a key where nothing is, or nothing of that type
 abbrev pub untyped_at : SettingsKey → Members → SettingsError
 untyped_at key document = error.Key (if is_some (get_member (name_of key) document) then Wrong key else Missing key)
 
--- what was read of what stands at the key
+-- what was read of what is at the key
 abbrev pub read_at : {X : Type 0} → SettingsKey → Result X ValueError → Result X SettingsError
 read_at key (Ok x) = Ok x
 read_at key (Err error) = Err (fault_at key error)
@@ -48,13 +48,13 @@ abbrev pub in_target : ℕ → SettingsError → SettingsError
 in_target number (error.Key fault) = error.Target number fault
 in_target number other = other
 
--- want of memory apart, the target of this number is at fault so
+-- lack of memory apart, the target of this number is at fault so
 abbrev pub IsRefusedAs : ℕ → (KeyFault → Type 0) → SettingsError → Type 0
 IsRefusedAs number Is (error.Target n fault) = (n ≡ number) × Is fault
 IsRefusedAs number Is error.Memory = Unit {0}
 IsRefusedAs number Is other = ⊥
 
--- want of memory apart, an item of this array is at fault
+-- lack of memory apart, an item of this array is at fault
 abbrev pub IsItemRefused : Items → SettingsError → Type 0
 IsItemRefused items (error.Target number fault) = (before : ℕ) × (number ≡ suc before) × IsFirstFault items before fault
 IsItemRefused items error.Memory = Unit {0}
@@ -74,7 +74,7 @@ text_at key document = option_and_then as_str (get_member key document)
 abbrev pub StandForAll : {X : Type 0} → (Data → X → Type 0) → Items → Vec X Global → Type 0
 StandForAll Stands items xs = StandForEach Stands items xs.items
 
--- an array of such items stands at the key
+-- an array of such items is at the key
 abbrev pub AllListedAt : {X : Type 0} → List ℕ → (Data → X → Type 0) → Members → Vec X Global → Type 0
 AllListedAt key Stands document xs = ListedAt key Stands document xs.items
 

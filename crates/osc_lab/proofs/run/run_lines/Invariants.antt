@@ -4,7 +4,7 @@ use Rattle.osc_lab.specs.Inner.Telling.{lab_of}
 use Rattle.osc_lab.specs.{TellsLines}
 use Rattle.osc_lab.proofs.run.run_lines.Given as goal
 
--- what came of the lines so far is told
+-- the outcome of the lines so far is told
 abbrev pub invariant-loop-line : goal.invariant-loop-line
 invariant-loop-line g l =
     (text : List ℕ) × TellsLines (record { clients = l.names; turns = l.turns }) (lab_of l.initial.nodes) (take l.line-index l.lines) text (lab_of l.nodes)

@@ -6,7 +6,7 @@ pub returns-in-Ok : goal.returns-in-Ok
 returns-in-Ok g c =
     let found = c.in-Ok.ensures.talks in
     record {
-      told = λ done. let told = c.told.ensures.told done in (found.0, found.1, c.in-Ok.outcome, found.2, found.3, found.4, found.5, told.0, told.1);
+      told = λ done. let told = c.told.ensures.told done in (found.0, found.1, c.in-Ok.outcome, found.2, found.3, found.4, found.5, found.6, told.0, told.1);
       bad = λ bad. absurd (told_not_bad c.told.result c.told.ensures.ends bad);
       ends = told_client c.args.words.now.request _ c.told.ensures.ends;
     }

@@ -5,7 +5,7 @@ use Rattle.osc_programs.proofs.asking.outcome_of.Goals as goal
 pub returns-clause-talks : goal.returns-clause-talks
 returns-clause-talks g c =
     IfOk-weaker c.run_at.result _ _
-    (λ outcome talks. (c.in_ok-client.client, talks.0, c.in_ok-settings.settings, c.in_ok-settings.ensures.settings, c.in_ok-client.ensures.client, talks.1))
+    (λ outcome talks. (c.in_ok-client.client, talks.0, c.in_ok-settings.settings, c.in_ok-settings.ensures.settings, c.in_ok-client.ensures.client, talks.1, talks.2))
     c.run_at.ensures.talks
 
 pub returns-clause-ends : goal.returns-clause-ends

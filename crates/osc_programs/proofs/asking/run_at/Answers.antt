@@ -15,5 +15,12 @@ returns-clause-talks g c =
         talks = talked.1;
         ends = refl;
       },
+      record {
+        seed = c.in_ok-supply.ensures.given;
+        first = c.in_ok-port.port;
+        last = c.run-outcome.new.port;
+        opened = c.in_ok-port.ensures.opened;
+        handed = talked.2;
+      },
     ))
     c.run-outcome.ensures.converses

@@ -4,7 +4,7 @@ use Rattle.osc_turn.specs.{grown}
 use Rattle.osc_programs.proofs.Talking.{GoOn}
 use Rattle.osc_programs.proofs.asking.wait.Given as goal
 
--- what comes of the turns that are left comes of all, and what was sent so far was handed to the port
+-- the outcome of the turns that are left is that of all, and what was sent so far was handed to the port
 abbrev pub invariant-loop-taken : goal.invariant-loop-taken
 invariant-loop-taken g l =
     (l.taken ≤ l.most) × (sent : List Datagram) × (g.P.Port.sent l.port ≡ grown (g.P.Port.sent l.initial.port) sent)

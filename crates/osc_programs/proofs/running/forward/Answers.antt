@@ -11,7 +11,8 @@ returns-in-Ok g c = record {
         told.0,
         c.in-Ok.ensures.settings,
         told.1,
-        subst (λ log. Tells (g.L.Log.told log) (g.L.Log.told c.forward_by.new.log) told.0) c.in-Ok.ensures.silent told.2,
+        told.2,
+        subst (λ log. Tells (g.L.Log.told log) (g.L.Log.told c.forward_by.new.log) told.0) c.in-Ok.ensures.silent told.3,
       );
   bad = λ bad. absurd (turns_not_bad c.forward_by.result c.forward_by.ensures.ends bad);
   ends = turns_node c.forward_by.result c.forward_by.ensures.ends;

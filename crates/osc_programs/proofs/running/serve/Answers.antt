@@ -1,6 +1,7 @@
 use Rattle.std.proofs.Common.{subst}
 use Rattle.osc_programs.specs.{Tells}
-use Rattle.osc_programs.proofs.Taken.{settings_no_end, settings_node, turns_node, turns_not_bad}
+use Rattle.osc_programs.proofs.Stored.{serving_not_bad, serving_server, settings_server}
+use Rattle.osc_programs.proofs.Taken.{settings_no_end}
 use Rattle.osc_programs.proofs.running.serve.Goals as goal
 
 pub returns-in-Ok : goal.returns-in-Ok
@@ -9,17 +10,20 @@ returns-in-Ok g c = record {
       let told = c.serve_by.ensures.done done in (
         c.in-Ok.settings,
         told.0,
-        c.in-Ok.ensures.settings,
         told.1,
-        subst (λ log. Tells (g.L.Log.told log) (g.L.Log.told c.serve_by.new.log) told.0) c.in-Ok.ensures.silent told.2,
+        c.in-Ok.ensures.settings,
+        told.2,
+        told.3,
+        told.4,
+        subst (λ log. Tells (g.L.Log.told log) (g.L.Log.told c.serve_by.new.log) told.1) c.in-Ok.ensures.silent told.5,
       );
-  bad = λ bad. absurd (turns_not_bad c.serve_by.result c.serve_by.ensures.ends bad);
-  ends = turns_node c.serve_by.result c.serve_by.ensures.ends;
+  bad = λ bad. absurd (serving_not_bad c.serve_by.result c.serve_by.ensures.ends bad);
+  ends = serving_server c.serve_by.result c.serve_by.ensures.ends;
 }
 
 pub returns-in-Err : goal.returns-in-Err
 returns-in-Err g c = record {
   done = λ done. absurd (settings_no_end c.in-Err.ended c.in-Err.ensures.ends done);
   bad = c.in-Err.ensures.bad;
-  ends = settings_node c.in-Err.ended c.in-Err.ensures.ends;
+  ends = settings_server c.in-Err.ended c.in-Err.ensures.ends;
 }

@@ -1,13 +1,22 @@
-use Rattle.osc_programs.proofs.Taken.{no_end, fault_turns}
+use Rattle.std.proofs.Common.{◌∙◌, ℕ, List, subst}
+use Rattle.osc_settings.specs.declared.resource.ResourceSetting.{ResourceSetting}
+use Rattle.osc_programs.proofs.Stored.{begins_stored, begins_without, turns_serving}
 use Rattle.osc_programs.proofs.running.serve_by.Goals as goal
 
-pub returns-in-Ok-clause-done : goal.returns-in-Ok-clause-done
-returns-in-Ok-clause-done g c = λ done.
-    let told = c.run.ensures.done done in
-    (told.0, record { first = c.in-Ok.server; last = c.run.new.node; is_server = c.in-Ok.ensures.server; runs = told.1 }, told.2)
-
-pub returns-in-Err : goal.returns-in-Err
-returns-in-Err g c = record {
-  done = λ done. absurd (no_end c.in-Err.ended c.in-Err.ensures.fault done);
-  ends = fault_turns c.in-Err.ended c.in-Err.ensures.fault;
+pub returns-in-None : goal.returns-in-None
+returns-in-None g c = record {
+  done = λ done.
+      let told = c.serve_from_settings.ensures.done done in
+      (_, told.0, begins_without _ c.args.settings c.in-None.is, told.1, told.2, told.3);
+  ends = turns_serving c.serve_from_settings.result c.serve_from_settings.ensures.ends;
 }
+
+pub returns-in-Ok-open_store-clause-done : goal.returns-in-Ok-open_store-clause-done
+returns-in-Ok-open_store-clause-done g c = λ done.
+    let told = c.serve_stored-ended.ensures.done done in
+    let keeper = c.in-Ok-open_store.stored.0 in
+    let tree = c.in-Ok-open_store.stored.1 in
+    let name = c.as_str-in-Ok.ensures.value ∙ (c.in-Ok.ensures.ok ∙ c.as_str.ensures.text) in
+    let opened = subst (λ (file : List ℕ). g.R.Stores.holds c.args.runtime.now file c.args.settings.resources.items keeper tree) name
+    (subst (λ (first : List ResourceSetting). g.R.Stores.holds c.args.runtime.now c.as_str-in-Ok.result.now first keeper tree) c.deref.ensures.value c.in-Ok-open_store.ensures.opened) in
+    (tree, told.0, begins_stored (g.R.Stores.holds c.args.runtime.now) c.args.settings _ keeper tree c.in-Some.is opened, told.1, told.2, told.3)

@@ -1,0 +1,17 @@
+-- What was opened of a store's files is so of what keeps their changes.
+use Rattle.std.proofs.Common.{◌≡◌, subst, sym}
+use Rattle.std.specs.Bool.{IsTrue}
+use Rattle.sqlite_trees.proofs.Doubt.{clean_of}
+use Rattle.sqlite_trees.specs.Tree.{Trees}
+use Rattle.sqlite_trees.specs.View.{View}
+use Rattle.sqlite_wal.specs.Recovery.{Image}
+use Rattle.osc_model.specs.Tree.{Tree}
+use Rattle.osc_store.specs.{FindsTree, Keeps}
+use Rattle.osc_programs.specs.{IsOpened}
+
+pub opened_by : {S : Type 0} (view : S → View) (recovers : S → Trees → Type 0) (image : Image) (it store : S) (tree : Tree) → it ≡ store
+    → (IsTrue (view store).is_clean → FindsTree image tree) → (IsTrue (view store).is_clean → Keeps view recovers store tree)
+    → IsOpened view recovers image it tree
+opened_by {S} view recovers image it store tree same found kept =
+    subst (λ (s : S). IsOpened view recovers image s tree) (sym same)
+    (record { found = λ clean. found (clean_of (view store).is_clean clean); kept = λ clean. kept (clean_of (view store).is_clean clean) })

@@ -1,0 +1,253 @@
+-- How servers end, with a store or without one.
+use Rattle.std.proofs.Common.{◌≡◌, ◌≢◌, ℕ, List, Option, Some, None, refl, subst, sym}
+use Rattle.osc_model.specs.Tree.{Tree}
+use Rattle.osc_settings.specs.declared.resource.ResourceSetting.{ResourceSetting}
+use Rattle.osc_settings.specs.declared.server.ServerSettings.{ServerSettings}
+use Rattle.osc_model.specs.declared.step.Step.{Step}
+use Rattle.osc_run.specs.{Cause}
+use Rattle.osc_programs.specs.{BeginsBy, BeginsWith, tree_of, EndsKept, EndsServer, EndsServing, EndsStore, EndsTurns, EndsUnkept, IsFault, NoSettings, NoStore, NotOpened, LeavesKept, LeavesNode, StaysKept}
+use Rattle.osc_programs.specs.declared.ended.Ended.{Ended}
+use Rattle.osc_programs.specs.declared.ended.Ended.TheVariants.{Done, BadCommandLine, BadLine, BadSettings, OutOfMemory, Failed, PortFailed, NotDone, Unopened, NotKept}
+
+pub fault_unkept : (ended : Ended) → IsFault ended → EndsUnkept ended
+fault_unkept Done f = absurd f
+fault_unkept BadCommandLine f = absurd f
+fault_unkept (BadLine number) f = absurd f
+fault_unkept BadSettings f = absurd f
+fault_unkept OutOfMemory f = tt
+fault_unkept Failed f = tt
+fault_unkept PortFailed f = tt
+fault_unkept NotDone f = absurd f
+fault_unkept (Unopened error) f = absurd f
+fault_unkept (NotKept error) f = absurd f
+
+pub unkept_kept : (ended : Ended) → EndsUnkept ended → EndsKept ended
+unkept_kept Done f = absurd f
+unkept_kept BadCommandLine f = absurd f
+unkept_kept (BadLine number) f = absurd f
+unkept_kept BadSettings f = absurd f
+unkept_kept OutOfMemory f = tt
+unkept_kept Failed f = tt
+unkept_kept PortFailed f = tt
+unkept_kept NotDone f = absurd f
+unkept_kept (Unopened error) f = absurd f
+unkept_kept (NotKept error) f = tt
+
+pub fault_kept : (ended : Ended) → IsFault ended → EndsKept ended
+fault_kept Done f = absurd f
+fault_kept BadCommandLine f = absurd f
+fault_kept (BadLine number) f = absurd f
+fault_kept BadSettings f = absurd f
+fault_kept OutOfMemory f = tt
+fault_kept Failed f = tt
+fault_kept PortFailed f = tt
+fault_kept NotDone f = absurd f
+fault_kept (Unopened error) f = absurd f
+fault_kept (NotKept error) f = absurd f
+
+pub kept_serving : (ended : Ended) → EndsKept ended → EndsServing ended
+kept_serving Done f = tt
+kept_serving BadCommandLine f = absurd f
+kept_serving (BadLine number) f = absurd f
+kept_serving BadSettings f = absurd f
+kept_serving OutOfMemory f = tt
+kept_serving Failed f = tt
+kept_serving PortFailed f = tt
+kept_serving NotDone f = absurd f
+kept_serving (Unopened error) f = absurd f
+kept_serving (NotKept error) f = tt
+
+pub turns_serving : (ended : Ended) → EndsTurns ended → EndsServing ended
+turns_serving Done f = tt
+turns_serving BadCommandLine f = absurd f
+turns_serving (BadLine number) f = absurd f
+turns_serving BadSettings f = absurd f
+turns_serving OutOfMemory f = tt
+turns_serving Failed f = tt
+turns_serving PortFailed f = tt
+turns_serving NotDone f = absurd f
+turns_serving (Unopened error) f = absurd f
+turns_serving (NotKept error) f = absurd f
+
+pub no_store_serving : (ended : Ended) → NoStore ended → EndsServing ended
+no_store_serving Done f = absurd f
+no_store_serving BadCommandLine f = absurd f
+no_store_serving (BadLine number) f = absurd f
+no_store_serving BadSettings f = absurd f
+no_store_serving OutOfMemory f = tt
+no_store_serving Failed f = tt
+no_store_serving PortFailed f = tt
+no_store_serving NotDone f = absurd f
+no_store_serving (Unopened error) f = tt
+no_store_serving (NotKept error) f = tt
+
+pub serving_server : (ended : Ended) → EndsServing ended → EndsServer ended
+serving_server Done f = tt
+serving_server BadCommandLine f = absurd f
+serving_server (BadLine number) f = absurd f
+serving_server BadSettings f = absurd f
+serving_server OutOfMemory f = tt
+serving_server Failed f = tt
+serving_server PortFailed f = tt
+serving_server NotDone f = absurd f
+serving_server (Unopened error) f = tt
+serving_server (NotKept error) f = tt
+
+pub settings_server : (ended : Ended) → NoSettings ended → EndsServer ended
+settings_server Done f = absurd f
+settings_server BadCommandLine f = absurd f
+settings_server (BadLine number) f = absurd f
+settings_server BadSettings f = tt
+settings_server OutOfMemory f = tt
+settings_server Failed f = tt
+settings_server PortFailed f = tt
+settings_server NotDone f = absurd f
+settings_server (Unopened error) f = absurd f
+settings_server (NotKept error) f = absurd f
+
+pub not_opened_no_store : (ended : Ended) → NotOpened ended → NoStore ended
+not_opened_no_store Done f = absurd f
+not_opened_no_store BadCommandLine f = absurd f
+not_opened_no_store (BadLine number) f = absurd f
+not_opened_no_store BadSettings f = absurd f
+not_opened_no_store OutOfMemory f = tt
+not_opened_no_store Failed f = tt
+not_opened_no_store PortFailed f = tt
+not_opened_no_store NotDone f = absurd f
+not_opened_no_store (Unopened error) f = tt
+not_opened_no_store (NotKept error) f = absurd f
+
+pub fault_no_store : (ended : Ended) → IsFault ended → NoStore ended
+fault_no_store Done f = absurd f
+fault_no_store BadCommandLine f = absurd f
+fault_no_store (BadLine number) f = absurd f
+fault_no_store BadSettings f = absurd f
+fault_no_store OutOfMemory f = tt
+fault_no_store Failed f = tt
+fault_no_store PortFailed f = tt
+fault_no_store NotDone f = absurd f
+fault_no_store (Unopened error) f = absurd f
+fault_no_store (NotKept error) f = absurd f
+
+pub fault_not_opened : (ended : Ended) → IsFault ended → NotOpened ended
+fault_not_opened Done f = absurd f
+fault_not_opened BadCommandLine f = absurd f
+fault_not_opened (BadLine number) f = absurd f
+fault_not_opened BadSettings f = absurd f
+fault_not_opened OutOfMemory f = tt
+fault_not_opened Failed f = tt
+fault_not_opened PortFailed f = tt
+fault_not_opened NotDone f = absurd f
+fault_not_opened (Unopened error) f = absurd f
+fault_not_opened (NotKept error) f = absurd f
+
+pub not_opened_store : (ended : Ended) → NotOpened ended → EndsStore ended
+not_opened_store Done f = absurd f
+not_opened_store BadCommandLine f = absurd f
+not_opened_store (BadLine number) f = absurd f
+not_opened_store BadSettings f = absurd f
+not_opened_store OutOfMemory f = tt
+not_opened_store Failed f = tt
+not_opened_store PortFailed f = tt
+not_opened_store NotDone f = absurd f
+not_opened_store (Unopened error) f = tt
+not_opened_store (NotKept error) f = absurd f
+
+pub turns_store : (ended : Ended) → EndsTurns ended → EndsStore ended
+turns_store Done f = tt
+turns_store BadCommandLine f = absurd f
+turns_store (BadLine number) f = absurd f
+turns_store BadSettings f = absurd f
+turns_store OutOfMemory f = tt
+turns_store Failed f = tt
+turns_store PortFailed f = tt
+turns_store NotDone f = absurd f
+turns_store (Unopened error) f = absurd f
+turns_store (NotKept error) f = absurd f
+
+pub unkept_no_end : (ended : Ended) → EndsUnkept ended → ended ≢ Done
+unkept_no_end Done f e = f
+unkept_no_end BadCommandLine f e = absurd cc
+unkept_no_end (BadLine number) f e = absurd cc
+unkept_no_end BadSettings f e = absurd cc
+unkept_no_end OutOfMemory f e = absurd cc
+unkept_no_end Failed f e = absurd cc
+unkept_no_end PortFailed f e = absurd cc
+unkept_no_end NotDone f e = absurd cc
+unkept_no_end (Unopened error) f e = absurd cc
+unkept_no_end (NotKept error) f e = absurd cc
+
+pub no_store_no_end : (ended : Ended) → NoStore ended → ended ≢ Done
+no_store_no_end Done f e = f
+no_store_no_end BadCommandLine f e = absurd cc
+no_store_no_end (BadLine number) f e = absurd cc
+no_store_no_end BadSettings f e = absurd cc
+no_store_no_end OutOfMemory f e = absurd cc
+no_store_no_end Failed f e = absurd cc
+no_store_no_end PortFailed f e = absurd cc
+no_store_no_end NotDone f e = absurd cc
+no_store_no_end (Unopened error) f e = absurd cc
+no_store_no_end (NotKept error) f e = absurd cc
+
+pub not_opened_no_end : (ended : Ended) → NotOpened ended → ended ≢ Done
+not_opened_no_end Done f e = f
+not_opened_no_end BadCommandLine f e = absurd cc
+not_opened_no_end (BadLine number) f e = absurd cc
+not_opened_no_end BadSettings f e = absurd cc
+not_opened_no_end OutOfMemory f e = absurd cc
+not_opened_no_end Failed f e = absurd cc
+not_opened_no_end PortFailed f e = absurd cc
+not_opened_no_end NotDone f e = absurd cc
+not_opened_no_end (Unopened error) f e = absurd cc
+not_opened_no_end (NotKept error) f e = absurd cc
+
+pub serving_not_bad : (ended : Ended) → EndsServing ended → ended ≢ BadSettings
+serving_not_bad Done f e = absurd cc
+serving_not_bad BadCommandLine f e = absurd cc
+serving_not_bad (BadLine number) f e = absurd cc
+serving_not_bad BadSettings f e = f
+serving_not_bad OutOfMemory f e = absurd cc
+serving_not_bad Failed f e = absurd cc
+serving_not_bad PortFailed f e = absurd cc
+serving_not_bad NotDone f e = absurd cc
+serving_not_bad (Unopened error) f e = absurd cc
+serving_not_bad (NotKept error) f e = absurd cc
+
+-- ---- what a turn leaves that took no step
+
+pub left_alone : {N : Type 0} (is_step : N → Cause → Step → N → Type 0) (ended : Ended) (n : N) → IsFault ended → LeavesNode is_step ended n n
+left_alone is_step Done n f = refl
+left_alone is_step BadCommandLine n f = refl
+left_alone is_step (BadLine number) n f = refl
+left_alone is_step BadSettings n f = refl
+left_alone is_step OutOfMemory n f = refl
+left_alone is_step Failed n f = refl
+left_alone is_step PortFailed n f = refl
+left_alone is_step NotDone n f = refl
+left_alone is_step (Unopened error) n f = refl
+left_alone is_step (NotKept error) n f = absurd f
+
+pub held_alone : {N K : Type 0} (keeps : K → N → Type 0) (may_hold : K → N → N → Type 0) (ended : Ended) (n : N) (keeper : K) → IsFault ended → keeps keeper n
+    → LeavesKept keeps may_hold ended n n keeper
+held_alone keeps may_hold Done n keeper f h = h
+held_alone keeps may_hold BadCommandLine n keeper f h = h
+held_alone keeps may_hold (BadLine number) n keeper f h = h
+held_alone keeps may_hold BadSettings n keeper f h = h
+held_alone keeps may_hold OutOfMemory n keeper f h = h
+held_alone keeps may_hold Failed n keeper f h = h
+held_alone keeps may_hold PortFailed n keeper f h = h
+held_alone keeps may_hold NotDone n keeper f h = h
+held_alone keeps may_hold (Unopened error) n keeper f h = h
+held_alone keeps may_hold (NotKept error) n keeper f h = absurd f
+
+-- ---- what a server begins with
+
+pub begins_without : {K : Type 0} (opened : List ℕ → List ResourceSetting → K → Tree → Type 0) (settings : ServerSettings) → settings.store ≡ None
+    → BeginsWith opened settings (tree_of settings.resources.items)
+begins_without opened settings none =
+    subst (λ (store : Option (List ℕ)). BeginsBy opened store settings.resources.items (tree_of settings.resources.items)) (sym none) refl
+
+pub begins_stored : {K : Type 0} (opened : List ℕ → List ResourceSetting → K → Tree → Type 0) (settings : ServerSettings) (file : List ℕ) (keeper : K) (tree : Tree)
+    → settings.store ≡ Some file → opened file settings.resources.items keeper tree → BeginsWith opened settings tree
+begins_stored opened settings file keeper tree some it =
+    subst (λ (store : Option (List ℕ)). BeginsBy opened store settings.resources.items tree) (sym some) (keeper, it)

@@ -1,0 +1,38 @@
+-- The store of a server: what it begins with, and what of it is listed.
+use Rattle.std.specs.Prelude.{◌≡◌, ℕ, List, [], ◌++◌, Option, Some, None, codes, IsTrue}
+use Rattle.std.specs.List.{flat_map}
+use Rattle.std.specs.FinMap as map
+use Rattle.sqlite_trees.specs.Tree.{Trees}
+use Rattle.sqlite_trees.specs.View.{View, IsClean}
+use Rattle.sqlite_wal.specs.Recovery.{Image}
+use Rattle.osc_model.specs.Tree.{Tree}
+use Rattle.osc_model.specs.declared.resource.Resource.{Resource}
+use Rattle.osc_settings.specs.declared.resource.ResourceSetting.{ResourceSetting}
+use Rattle.osc_settings.specs.declared.server.ServerSettings.{ServerSettings}
+use Rattle.osc_store.specs.{FindsTree, Keeps}
+use Rattle.osc_programs.specs.Checked.{resource_line}
+use Rattle.osc_programs.specs.Serving.{tree_of}
+
+-- A store was opened over files that read so: they are found as this tree, and whatever a crash leaves from now on, the next start finds it.
+-- So it is as long as no wrong answer of the disk was taken as true.
+pub record IsOpened {S : Type 0} (view : S → View) (recovers : S → Trees → Type 0) (image : Image) (it : S) (tree : Tree) : Type 0 where
+  pub found : IsClean (view it) → FindsTree image tree
+  pub kept : IsClean (view it) → Keeps view recovers it tree
+
+-- what a server begins with: what the store in its file was opened with, or without one the resources of its settings
+abbrev pub BeginsBy : {K : Type 0} → (List ℕ → List ResourceSetting → K → Tree → Type 0) → Option (List ℕ) → List ResourceSetting → Tree → Type 0
+BeginsBy opened None resources tree = tree ≡ tree_of resources
+BeginsBy {K} opened (Some file) resources tree = (keeper : K) × opened file resources keeper tree
+
+abbrev pub BeginsWith : {K : Type 0} → (List ℕ → List ResourceSetting → K → Tree → Type 0) → ServerSettings → Tree → Type 0
+BeginsWith opened settings tree = BeginsBy opened settings.store settings.resources.items tree
+
+-- ---- `osc store`
+
+-- resource PATH FORMAT N bytes
+abbrev pub stored_line : List ℕ × Resource → List ℕ
+stored_line entry = resource_line (record { path = entry.0; format = entry.1.format; payload = entry.1.payload })
+
+-- a line for each resource, in the order of the bytes of their paths
+abbrev pub store_lines : Tree → List ℕ
+store_lines tree = flat_map stored_line (map.entries tree)

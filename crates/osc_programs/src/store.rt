@@ -1,0 +1,375 @@
+//! The store of a server: opened, made where there is none yet, and listed.
+ghost use Rattle.std.specs.FinMap as map;
+ghost use Rattle.std.specs.Io.KnownBytes.{Appends};
+ghost use Rattle.std.specs.Prelude.{◌≡◌, ◌++◌, IfErr, IfOk, List, OnOk, fold, ℕ};
+ghost use Rattle.std.specs.List.{flat_map};
+ghost use Rattle.sqlite_store.specs.FileStore.{recovers, view};
+ghost use Rattle.sqlite_wal.specs.Files.{image_at};
+ghost use Rattle.osc_model.specs.Tree.{Tree as AnyTree};
+ghost use Rattle.osc_settings.specs.declared.resource.ResourceSetting.{ResourceSetting as AnySetting};
+ghost use Rattle.osc_programs.specs.Ended as ends;
+ghost use Rattle.osc_programs.specs.Serving.{with_resource};
+ghost use Rattle.osc_programs.specs.Storing as spec;
+
+use crate::checked::resource_text;
+use crate::checking::said;
+use crate::ended::{Ended, ended_by_io};
+use crate::running::add_resource;
+use osc_ccm::Suite;
+use osc_kept::KeepsSteps;
+use osc_model::laws::paths_are_ordered;
+use osc_model::{Path, Resource};
+use osc_server::Server;
+use osc_settings::ResourceSetting;
+use osc_store::{Keeper, Keeping, OpenError, Start, Unknown, Wary};
+use osc_tree::Tree;
+use sqlite_std_file::FileFrom;
+use sqlite_store::FileStore;
+use std::alloc::{AllocError, Global};
+use std::fs::{self, File, OpenOptions};
+use std::io::{self, Eprint, ErrorKind, Write};
+use std::os::unix::fs::OpenOptionsExt;
+
+/// What opens the stores of servers. Contracts see what each held.
+pub trait Stores {
+    /// What keeps the changes of a server.
+    type Keeper: KeepsSteps<Suite, Server> + Drop;
+
+    // The store in the file of this name was opened, or first made of these resources: what keeps its changes, and the resources that it holds.
+    ghost holds: { Self → List ℕ → List AnySetting → Self.Keeper → AnyTree → Type 0 };
+
+    /// Opens the store in this file, with the resources that it holds. Where there is no such file yet, a store of the given resources is made
+    /// first, and is there with all of them or not at all. A file that is no store is left as it is. A line on the standard error tells why none
+    /// is opened.
+    fn open_store(
+        &self,
+        file: &str,
+        first: &[ResourceSetting],
+    ) -> Result<(Self::Keeper, Tree), Ended>
+        ensures opened { IfOk result (λ stored. holds self.now file.now first.now stored.0 stored.1) }
+        ensures ends { IfErr result ends.NoStore };
+}
+
+/// The stores in files of this system. Nothing is supposed of what they hold.
+impl Stores for HostRuntime {
+    type Keeper = Keeper<FileStore<FileFrom<Wary>>>;
+
+    ghost holds = { λ _ _ _ keeper tree. spec.IsOpened view recovers (image_at ⟦<Wary as Start>⟧) keeper.store tree };
+
+    fn open_store(
+        &self,
+        file: &str,
+        first: &[ResourceSetting],
+    ) -> Result<(Keeper<FileStore<FileFrom<Wary>>>, Tree), Ended> {
+        if is_missing(self, file) {
+            make_store(self, file, first)?;
+        }
+        old_store(self, file, Wary)
+    }
+}
+
+/// Writes a line for each resource that the store in this file holds: `resource PATH FORMAT N bytes`, in the order of the bytes of their paths.
+/// A line on the standard error tells why it isn't opened.
+pub fn list_store<S: Start, W: Write>(
+    rt: &HostRuntime,
+    file: &str,
+    start: S,
+    writer: &mut W,
+) -> Ended
+    ensures done { result ≡ Ended.Done → (tree : AnyTree) × Appends (W.contents writer.old) (W.contents writer.new) (spec.store_lines tree) }
+    ensures ends { ends.EndsStore result }
+{
+    if is_missing(rt, file) {
+        return refused_by(rt, file, ErrorKind::NotFound);
+    }
+    match old_store(rt, file, start) {
+        Ok((_keeper, tree)) => list_tree(rt.alloc(), &tree, writer),
+        Err(ended) => ended,
+    }
+}
+
+fn list_tree<W: Write>(alloc: Global, tree: &Tree, writer: &mut W) -> Ended
+    ensures done { result ≡ Ended.Done → Appends (W.contents writer.old) (W.contents writer.new) (spec.store_lines tree.now) }
+    ensures ends { ends.EndsTurns result }
+{
+    match tree_text(alloc, tree) {
+        Ok(text) => said(&text, writer),
+        Err(_) => Ended::OutOfMemory,
+    }
+}
+
+fn tree_text(alloc: Global, tree: &Tree) -> Result<Vec<u8>, AllocError>
+    ensures { IfOk result (λ text. text.items ≡ spec.store_lines tree.now) }
+{
+    let mut text = Vec::new(alloc);
+    for (path, resource) in tree.iter() {
+        text.extend_from_slice(&stored_line(alloc, path, resource)?)?;
+    }
+    Ok(text)
+}
+
+fn stored_line(alloc: Global, path: &Path, resource: &Resource) -> Result<Vec<u8>, AllocError>
+    ensures { IfOk result (λ text. text.items ≡ spec.stored_line (path.now, resource.now)) }
+{
+    resource_text(alloc, path, resource.format, &resource.payload)
+}
+
+// ---- a store that is there
+
+fn old_store<S: Start>(
+    rt: &HostRuntime,
+    file: &str,
+    start: S,
+) -> Result<(Keeper<FileStore<FileFrom<S>>>, Tree), Ended>
+    ensures opened { IfOk result (λ opened. spec.IsOpened view recovers (image_at S.Start) opened.0.store opened.1) }
+    ensures ends { IfErr result ends.NotOpened }
+{
+    match opened(rt, file, start) {
+        Ok(opened) => Ok(opened),
+        Err(error) => Err(refused(rt, file, file, error)),
+    }
+}
+
+fn opened<S: Start>(
+    rt: &HostRuntime,
+    file: &str,
+    start: S,
+) -> Result<(Keeper<FileStore<FileFrom<S>>>, Tree), OpenError>
+    ensures { IfOk result (λ opened. spec.IsOpened view recovers (image_at S.Start) opened.0.store opened.1) }
+{
+    match osc_store::open(rt, file, start) {
+        Ok((store, tree)) => Ok((Keeper::new(rt.alloc(), store), tree)),
+        Err((error, _left)) => Err(error),
+    }
+}
+
+// ---- a first store
+
+// Where a first store is made, beside the file: nothing is at the file's own name before the store is whole.
+#[derive(Drop)]
+struct NewFiles {
+    db: String,
+    log: String,
+    // The log's place in the end.
+    log_to: String,
+}
+
+fn new_files(alloc: Global, file: &str) -> Result<NewFiles, AllocError> {
+    Ok(NewFiles {
+        db: format!(in alloc; "{file}-new")?,
+        log: format!(in alloc; "{file}-new-wal")?,
+        log_to: format!(in alloc; "{file}-wal")?,
+    })
+}
+
+fn make_store(rt: &HostRuntime, file: &str, first: &[ResourceSetting]) -> Result<(), Ended>
+    ensures ends { IfErr result ends.NoStore }
+{
+    let Ok(new) = new_files(rt.alloc(), file) else {
+        return Err(Ended::OutOfMemory);
+    };
+    match blank_store(rt, file, &new) {
+        Ok(blank) => fill_store(rt, file, &new, blank, first),
+        Err(ended) => Err(ended),
+    }
+}
+
+// Keeps these resources in a new store, and gives it its name. As long as it is open, no other server makes one.
+fn fill_store<K: Keeping + Drop>(
+    rt: &HostRuntime,
+    file: &str,
+    new: &NewFiles,
+    blank: (K, Tree),
+    first: &[ResourceSetting],
+) -> Result<(), Ended>
+    ensures ends { IfErr result ends.NoStore }
+{
+    let (mut keeper, mut tree) = blank;
+    match keep_first(rt.alloc(), &mut keeper, &mut tree, first) {
+        Ok(()) => named(rt, file, new),
+        Err(ended) => {
+            tell_unkept(rt.alloc(), rt, file, ended);
+            discard(rt, new);
+            Err(ended)
+        }
+    }
+}
+
+// Gives a new store its name, unless another server made one meanwhile.
+fn named(rt: &HostRuntime, file: &str, new: &NewFiles) -> Result<(), Ended>
+    ensures ends { IfErr result ends.NotOpened }
+{
+    if !is_missing(rt, file) {
+        discard(rt, new);
+        return Err(refused(rt, file, file, OpenError::Busy));
+    }
+    match put_in_place(rt, file, new) {
+        Ok(()) => Ok(()),
+        Err(error) => Err(refused_by_io(rt, file, &error)),
+    }
+}
+
+// Keeps these resources, each over one of the same path.
+fn keep_first<K: Keeping>(
+    alloc: Global,
+    keeper: &mut K,
+    tree: &mut Tree,
+    first: &[ResourceSetting],
+) -> Result<(), Ended>
+    ensures kept { K.keeps keeper.old tree.old → OnOk result (K.keeps keeper.new tree.new) }
+    ensures tree { OnOk result (tree.new ≡ fold with_resource tree.old first.now) }
+    ensures ends { IfErr result ends.NoStore }
+{
+    for resource in first {
+        keep_one(alloc, keeper, tree, resource)?;
+    }
+    Ok(())
+}
+
+fn keep_one<K: Keeping>(
+    alloc: Global,
+    keeper: &mut K,
+    tree: &mut Tree,
+    setting: &ResourceSetting,
+) -> Result<(), Ended>
+    ensures kept { K.keeps keeper.old tree.old → OnOk result (K.keeps keeper.new tree.new) }
+    ensures tree { OnOk result (tree.new ≡ with_resource tree.old setting.now) }
+    ensures ends { IfErr result ends.NoStore }
+{
+    paths_are_ordered();
+    add_resource(alloc, tree, setting)?;
+    match keeper.keep(&setting.path, tree.get(&setting.path)) {
+        Ok(()) => Ok(()),
+        Err(error) => Err(Ended::NotKept(error)),
+    }
+}
+
+// A store without a resource, in new files.
+fn blank_store(
+    rt: &HostRuntime,
+    file: &str,
+    new: &NewFiles,
+) -> Result<(Keeper<FileStore<FileFrom<Unknown>>>, Tree), Ended>
+    ensures ends { IfErr result ends.NotOpened }
+{
+    clear(rt, new)?;
+    create(rt, file, new)?;
+    match opened(rt, new.db.as_str(), Unknown) {
+        Ok(opened) => Ok(opened),
+        Err(error) => {
+            let ended = refused(rt, file, new.db.as_str(), error);
+            discard(rt, new);
+            Err(ended)
+        }
+    }
+}
+
+// What a first start that was cut off left is removed: nobody was served from it. Nothing else is.
+fn clear(rt: &HostRuntime, new: &NewFiles) -> Result<(), Ended>
+    ensures ends { IfErr result ends.NotOpened }
+{
+    if is_missing(rt, new.db.as_str()) {
+        return Ok(());
+    }
+    let opened = old_store(rt, new.db.as_str(), Unknown)?;
+    discard(rt, new);
+    drop(opened);
+    Ok(())
+}
+
+// Makes the file, which this user alone may read and write.
+fn create(rt: &HostRuntime, file: &str, new: &NewFiles) -> Result<(), Ended>
+    ensures ends { IfErr result ends.NotOpened }
+{
+    match OpenOptions::new()
+        .write(true)
+        .create_new(true)
+        .mode(0o600)
+        .open(rt, new.db.as_str())
+    {
+        Ok(_file) => Ok(()),
+        Err(error) => Err(refused_by_io(rt, file, &error)),
+    }
+}
+
+// The log first: the file is never there without it, whenever the power goes.
+fn put_in_place(rt: &HostRuntime, file: &str, new: &NewFiles) -> io::Result<()> {
+    fs::rename(rt, new.log.as_str(), new.log_to.as_str())?;
+    sync_folder(rt, new.db.as_str())?;
+    fs::rename(rt, new.db.as_str(), file)?;
+    sync_folder(rt, file)
+}
+
+fn sync_folder(rt: &HostRuntime, file: &str) -> io::Result<()> {
+    let mut folder = fs::canonicalize(rt, file)?;
+    folder.pop();
+    File::open(rt, folder.as_str())?.sync_all()
+}
+
+fn discard(rt: &HostRuntime, new: &NewFiles) {
+    let _ = fs::remove_file(rt, new.log.as_str());
+    let _ = fs::remove_file(rt, new.db.as_str());
+}
+
+fn is_missing(rt: &HostRuntime, file: &str) -> bool {
+    match fs::symlink_metadata(rt, file) {
+        Ok(_) => false,
+        Err(error) => error.kind() == ErrorKind::NotFound,
+    }
+}
+
+// ---- what is told
+
+/// Where a change wasn't kept in the store in this file, a line on the standard error tells why.
+pub(crate) fn tell_unkept<R: Eprint>(alloc: Global, runtime: &R, file: &str, ended: Ended) {
+    if let Ended::NotKept(error) = ended {
+        if let Ok(line) = format!(in alloc; "store {file}: {error}") {
+            let _told = runtime.eprintln(line.as_str());
+        }
+    }
+}
+
+// The store at this path isn't opened, and a line tells why.
+fn refused(rt: &HostRuntime, file: &str, at: &str, error: OpenError) -> Ended
+    ensures ends { ends.NotOpened result }
+{
+    if error == OpenError::OutOfMemory {
+        return Ended::OutOfMemory;
+    }
+    if error == OpenError::Failed {
+        if let Some(kind) = why_not(rt, at) {
+            return refused_by(rt, file, kind);
+        }
+    }
+    if let Ok(line) = format!(in rt.alloc(); "store {file}: {error}") {
+        let _told = rt.eprintln(line.as_str());
+    }
+    Ended::Unopened(error)
+}
+
+fn refused_by_io(rt: &HostRuntime, file: &str, error: &io::Error) -> Ended
+    ensures ends { ends.NotOpened result }
+{
+    match ended_by_io(error) {
+        Ended::OutOfMemory => Ended::OutOfMemory,
+        _ => refused_by(rt, file, error.kind()),
+    }
+}
+
+fn refused_by(rt: &HostRuntime, file: &str, kind: ErrorKind) -> Ended
+    ensures value { result ≡ Ended.Unopened OpenError.Failed }
+    ensures ends { ends.NotOpened result }
+{
+    if let Ok(line) = format!(in rt.alloc(); "store {file}: {kind}") {
+        let _told = rt.eprintln(line.as_str());
+    }
+    Ended::Unopened(OpenError::Failed)
+}
+
+// What the system says of the file.
+fn why_not(rt: &HostRuntime, file: &str) -> Option<ErrorKind> {
+    match OpenOptions::new().read(true).write(true).open(rt, file) {
+        Ok(_file) => None,
+        Err(error) => Some(error.kind()),
+    }
+}
