@@ -7,7 +7,7 @@ use osc_model::{Algorithm, Bytes, Moment};
 use osc_proxy::Proxy;
 use std::alloc::{AllocError, Global};
 
-/// Makes a client with a token of 73 bytes, which posts it unless `posts` is 0. Answers how many messages are open then; 0 for want of memory.
+/// Makes a client with a token of 73 bytes, which posts it unless `posts` is 0. Answers how many messages are open then; 0 for lack of memory.
 #[unsafe(no_mangle)]
 pub extern "C" fn osc_bench_client(alloc: Global, posts: u8) -> u64 {
     match client_of(alloc) {
@@ -20,7 +20,7 @@ pub extern "C" fn osc_bench_client(alloc: Global, posts: u8) -> u64 {
     }
 }
 
-/// Forwards so many non-confirmable GETs, each from a peer of its own. Answers how many exchanges are open then; 0 for want of memory.
+/// Forwards so many non-confirmable GETs, each from a peer of its own. Answers how many exchanges are open then; 0 for lack of memory.
 #[unsafe(no_mangle)]
 pub extern "C" fn osc_bench_forward(alloc: Global, requests: u8) -> u64 {
     match proxy(alloc) {

@@ -12,7 +12,7 @@ use std::alloc::{AllocError, Global};
 
 /// A client makes a context by an exchange with a server, and then asks so many times: a POST of 64 bytes on `/log`, confirmable and
 /// protected under the next number. What each opens is ended by a Reset of its message, so that the client may ask again. Answers how
-/// many bytes it sent in all; 0 for want of memory.
+/// many bytes it sent in all; 0 for lack of memory.
 #[unsafe(no_mangle)]
 pub extern "C" fn osc_bench_ask(alloc: Global, rounds: u64) -> u64 {
     match client_of(alloc) {

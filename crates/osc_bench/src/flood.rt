@@ -11,7 +11,7 @@ use std::alloc::{AllocError, Global};
 
 /// Writes a valid datagram: number 0 is the second request of the client that `osc_bench_flood_server` serves, a protected GET; each other one
 /// posts a token of its own to authz-info, whose id is the number's two bytes, and that of 65,535 has a scope of 163 subtrees. Answers how many bytes it
-/// has; 0 for want of memory or room.
+/// has; 0 for lack of memory or room.
 #[unsafe(no_mangle)]
 pub extern "C" fn osc_bench_flood_valid(alloc: Global, number: u16, out: &mut [u8]) -> u64 {
     match valid(alloc, number) {
@@ -41,7 +41,7 @@ const MANY: u16 = 65535;
 
 const SUBTREES: u8 = 163;
 
-// A tick comes behind so many datagrams: once in a second.
+// A tick comes after so many datagrams: once in a second.
 const EACH_TICK: u32 = 10_000;
 
 /// Whether a tick comes before the datagram of this place.
@@ -79,7 +79,7 @@ pub(crate) fn ended(alloc: Global, step: Step) -> Result<bool, AllocError> {
     }
 }
 
-/// What stands first in a flood: who sends, as a byte, a datagram behind its length in two bytes, and the rest; none at the end.
+/// What is first in a flood: who sends, as a byte, a datagram after its length in two bytes, and the rest; none at the end.
 pub(crate) fn first_in(flood: &[u8]) -> Option<(u8, &[u8], &[u8])> {
     let [from, high, low, rest @ ..] = flood else {
         return None;
@@ -92,7 +92,7 @@ pub(crate) fn first_in(flood: &[u8]) -> Option<(u8, &[u8], &[u8])> {
     Some((*from, datagram, behind))
 }
 
-/// Where this byte's sender stands: 255 is the server, behind a proxy its target.
+/// Where this byte's sender is: 255 is the server, behind a proxy its target.
 pub(crate) fn origin(from: u8) -> Peer {
     if from == 255 { SERVER } else { place(from) }
 }

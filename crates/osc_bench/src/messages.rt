@@ -26,7 +26,7 @@ pub extern "C" fn osc_bench_parse(datagram: &[u8]) -> u64
 
 /// Serves the datagram so many times, each time with a message ID of its own, so that each is new, and so many milliseconds
 /// after the one before, by a server of so many resources, `/r000` and so on up to 1024 of them, each open. Answers how many
-/// bytes it sent in all; 0 for want of memory, and for a datagram that isn't 4 to 64 bytes long. Where 64 of them come within
+/// bytes it sent in all; 0 for lack of memory, and for a datagram that isn't 4 to 64 bytes long. Where 64 of them come within
 /// 247,000 ms, the duplicate table is full from the 64th round on; where they are as far apart as that, none that was
 /// noted lives when the next one comes.
 #[unsafe(no_mangle)]
@@ -51,7 +51,7 @@ pub extern "C" fn osc_bench_serve(
 }
 
 /// Serves the datagram so many times by a server of one resource, `/r000`, which served it before, and 63 others before
-/// that: each time the full duplicate table answers. Answers how many bytes it sent in all; 0 for want of memory, and for a
+/// that: each time the full duplicate table answers. Answers how many bytes it sent in all; 0 for lack of memory, and for a
 /// datagram that isn't 4 to 64 bytes long.
 #[unsafe(no_mangle)]
 pub extern "C" fn osc_bench_repeat(alloc: Global, datagram: &[u8], rounds: u64) -> u64 {
@@ -114,7 +114,7 @@ fn fill(
     Ok(())
 }
 
-// Serves so many datagrams, which are this one but for their message IDs: those that come behind its own.
+// Serves so many datagrams, which are this one but for their message IDs: those that come after its own.
 fn serve_new(
     alloc: Global,
     server: &mut Server,

@@ -17,7 +17,7 @@ use std::alloc::{AllocError, Global};
 
 /// Serves so many protected GETs of a resource of 64 bytes, at most 4,608, by a server that holds so many contexts, at most 64:
 /// tokens of so many ids were posted to it, and the requests are under the context of the last one. Answers how many bytes
-/// the protected replies have in all; 0 for want of memory, and where the resource doesn't have 64 bytes in the end.
+/// the protected replies have in all; 0 for lack of memory, and where the resource doesn't have 64 bytes in the end.
 ///
 /// Whatever `rounds` is, 4,609 requests are protected first, and the first one, a POST that makes the resource, is served.
 #[unsafe(no_mangle)]
@@ -26,8 +26,8 @@ pub extern "C" fn osc_bench_serve_gets(alloc: Global, contexts: u8, rounds: u16)
 }
 
 /// As `osc_bench_serve_gets`, but for what is asked: POSTs of 64 bytes, which are appended to the resource, and a DELETE
-/// of it behind each eighth of them, since a resource has at most 512 bytes. In the end the resource has to have what was
-/// posted behind the last DELETE.
+/// of it after each eighth of them, since a resource has at most 512 bytes. In the end the resource has to have what was
+/// posted after the last DELETE.
 #[unsafe(no_mangle)]
 pub extern "C" fn osc_bench_serve_posts(alloc: Global, contexts: u8, rounds: u16) -> u64 {
     bytes_served(alloc, contexts, Method::Post, rounds)
@@ -35,7 +35,7 @@ pub extern "C" fn osc_bench_serve_posts(alloc: Global, contexts: u8, rounds: u16
 
 /// Serves so many forged requests, at most 4,608, by a server that holds one context: POSTs of 64 bytes and DELETEs, as
 /// `osc_bench_serve_posts` asks, each under a number of its own and with a bit of its tag turned over. Answers how many bytes the
-/// refusals have in all, which aren't protected; 0 for want of memory, and where the resource doesn't have 64 bytes in the end.
+/// refusals have in all, which aren't protected; 0 for lack of memory, and where the resource doesn't have 64 bytes in the end.
 ///
 /// Whatever `rounds` is, 4,609 requests are protected first, and the first one, a POST that makes the resource, is served as it is.
 #[unsafe(no_mangle)]
@@ -209,7 +209,7 @@ fn plain_request(alloc: Global, method: Method, id: u16) -> Result<Vec<u8>, Allo
     Ok(datagram)
 }
 
-// Serves the first request, and so many of those behind it. How many bytes the protected replies to those have; 0 where the
+// Serves the first request, and so many of those after it. How many bytes the protected replies to those have; 0 where the
 // resource doesn't have what was asked in the end.
 fn serve_some(
     alloc: Global,
@@ -257,7 +257,7 @@ fn refuse_under_first(alloc: Global, server: &mut Server, rounds: u16) -> Result
     sent
 }
 
-// Serves the first request, and so many forgeries of those behind it. How many bytes the refusals have; 0 where the resource doesn't
+// Serves the first request, and so many forgeries of those after it. How many bytes the refusals have; 0 where the resource doesn't
 // have the payload of the first one in the end.
 fn refuse_some(
     alloc: Global,
@@ -358,7 +358,7 @@ fn length_at(tree: &Tree, path: &Path) -> usize {
     }
 }
 
-// How many bytes the resource has once so many requests behind the first one are served; 0 where there is none.
+// How many bytes the resource has once so many requests after the first one are served; 0 where there is none.
 fn length_after(asked: Method, rounds: u16) -> usize
     requires { rounds ≤ MOST_ROUNDS }
 {

@@ -8,11 +8,11 @@ use std::alloc::{AllocError, Global};
 
 /// So many exchanges open at a proxy of one target, the first 16 of them for confirmable GETs, each from a peer of its own; then comes the flood, as at
 /// `osc_bench_flood_server`, the byte 255 for the target; then the proxy ticks at each of its deadlines until it has none. Answers how
-/// many exchanges were open behind the flood; 1,000 for want of memory, and where the proxy has anything open in the end, or doesn't
+/// many exchanges were open after the flood; 1,000 for lack of memory, and where the proxy has anything open in the end, or doesn't
 /// forward the next request.
 ///
-/// A block of 65,521 bytes is taken and given back before the proxy is made, before and behind each datagram of the flood, behind the flood, and
-/// behind all.
+/// A block of 65,521 bytes is taken and given back before the proxy is made, before and after each datagram of the flood, after the flood, and
+/// after all.
 #[unsafe(no_mangle)]
 pub extern "C" fn osc_bench_flood_proxy(alloc: Global, open: u8, flood: &[u8], count: u32) -> u64 {
     open_behind(alloc, open, flood, count).unwrap_or(NOT_FREE)

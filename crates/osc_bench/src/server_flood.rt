@@ -11,12 +11,12 @@ use osc_server::Server;
 use std::alloc::{AllocError, Global};
 
 /// A server of one resource, `/r000`, which is open, serves a client under the context of its token; then comes the flood, so many
-/// datagrams, each behind a byte that says who sends and its length in two bytes, ten in a millisecond, and a tick each second; and behind
-/// it the client asks again. Answers how many datagrams of the flood were answered, and one more; 0 for want of memory, and where
+/// datagrams, each after a byte that says who sends and its length in two bytes, ten in a millisecond, and a tick each second; and after
+/// it the client asks again. Answers how many datagrams of the flood were answered, and one more; 0 for lack of memory, and where
 /// the client isn't served.
 ///
-/// A block of 65,521 bytes is taken and given back before the server is made, before and behind each datagram of the flood, behind the flood, and
-/// behind all.
+/// A block of 65,521 bytes is taken and given back before the server is made, before and after each datagram of the flood, after the flood, and
+/// after all.
 #[unsafe(no_mangle)]
 pub extern "C" fn osc_bench_flood_server(alloc: Global, flood: &[u8], count: u32) -> u64 {
     served_behind(alloc, flood, count).unwrap_or(0)
@@ -74,7 +74,7 @@ pub(crate) fn begin(alloc: Global, server: &mut Server) -> Result<(), AllocError
     Ok(())
 }
 
-// Serves the client's third request behind the flood.
+// Serves the client's third request after the flood.
 fn serve_last(
     alloc: Global,
     server: &mut Server,

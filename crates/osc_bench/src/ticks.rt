@@ -7,7 +7,7 @@ use std::alloc::{AllocError, Global};
 
 /// Ticks so many times beside so many open messages of 64 bytes, at most 1,008, at the moment at which they were sent: nothing is due.
 /// They were sent to one peer after the other: one to each is outstanding, and 15 wait, fewer for the last. Two endpoints have them, and
-/// take turns. Answers how many messages are open at both in the end; 0 for want of memory.
+/// take turns. Answers how many messages are open at both in the end; 0 for lack of memory.
 #[unsafe(no_mangle)]
 pub extern "C" fn osc_bench_tick(alloc: Global, open: u16, rounds: u64) -> u64 {
     match endpoints_with(alloc, open) {
@@ -21,7 +21,7 @@ pub extern "C" fn osc_bench_tick(alloc: Global, open: u16, rounds: u64) -> u64 {
 }
 
 /// Asks so many times for the next deadline beside so many open messages, by turns of the two endpoints that `osc_bench_tick` has.
-/// Answers the sum of the deadlines, in ms; 0 for want of memory.
+/// Answers the sum of the deadlines, in ms; 0 for lack of memory.
 #[unsafe(no_mangle)]
 pub extern "C" fn osc_bench_deadline(alloc: Global, open: u16, rounds: u64) -> u64 {
     match endpoints_with(alloc, open) {
@@ -79,7 +79,7 @@ fn send(alloc: Global, endpoint: &mut Endpoint<MOST_OPEN>, number: u16) -> Resul
     Ok(())
 }
 
-// How many messages are open at all of them behind so many ticks.
+// How many messages are open at all of them after so many ticks.
 fn open_behind(
     alloc: Global,
     endpoints: &mut [Endpoint<MOST_OPEN>],

@@ -11,14 +11,14 @@ use std::alloc::{AllocError, Global};
 /// GET, POST and DELETE on `/log`.
 const SCOPE: &[u8] = b"\x81\x82\x64/log\x0b";
 
-/// Reads a token so many times, and answers how often it was granted; 0 for want of memory.
+/// Reads a token so many times, and answers how often it was granted; 0 for lack of memory.
 #[unsafe(no_mangle)]
 pub extern "C" fn osc_bench_read_token(alloc: Global, rounds: u64) -> u64 {
     tokens_read(alloc, rounds).unwrap_or(0)
 }
 
 /// Posts a token so many times to a desk that has contexts of so many other token ids, and answers how often that made a
-/// context; 0 for want of memory.
+/// context; 0 for lack of memory.
 #[unsafe(no_mangle)]
 pub extern "C" fn osc_bench_post(alloc: Global, others: u8, rounds: u64) -> u64 {
     contexts_made(alloc, others, rounds).unwrap_or(0)
@@ -75,7 +75,7 @@ fn contexts_made(alloc: Global, others: u8, rounds: u64) -> Result<u64, AllocErr
     made
 }
 
-// How many posts made a context, behind those of so many other token ids.
+// How many posts made a context, after those of so many other token ids.
 fn posts_behind(
     alloc: Global,
     desk: &mut ServerDesk,

@@ -10,9 +10,9 @@ use osc_tree::Tree;
 use osc_world::{Draws, Event, Holder, Start, What, World};
 use std::alloc::{AllocError, Global};
 
-/// Four clients begin an exchange each, and then so many requests are asked by them in turn, with a quiet round behind each
+/// Four clients begin an exchange each, and then so many requests are asked by them in turn, with a quiet round after each
 /// exchange and each request: the first is a POST of 64 bytes, which makes the resource, the others are GETs of it. Answers
-/// how many events that were; 0 for want of memory, and unless each request's reply is accepted.
+/// how many events that were; 0 for lack of memory, and unless each request's reply is accepted.
 #[unsafe(no_mangle)]
 pub extern "C" fn osc_bench_world(alloc: Global, requests: u64) -> u64 {
     match world_of_four(alloc) {

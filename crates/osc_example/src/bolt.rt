@@ -19,7 +19,7 @@ pub enum Bolt {
     Jammed,
 }
 
-/// What stands here for the lock's motor, and for the switch that tells whether it got there.
+/// What is here for the lock's motor, and for the switch that tells whether it got there.
 #[derive(Clone, Copy, Debug, PartialEq, Eq)]
 pub enum Motor {
     Runs,

@@ -8,7 +8,7 @@ use std::alloc::AllocError;
 use std::io;
 use thiserror::Error;
 
-/// What ends the program early: want of memory, an output that fails, or a token, a device or a path that was written down wrong.
+/// What ends the program early: lack of memory, an output that fails, or a token, a device or a path that was written down wrong.
 #[derive(Debug, Drop, Error)]
 pub enum Fault {
     #[error("out of memory")]

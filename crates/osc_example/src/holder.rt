@@ -130,7 +130,7 @@ fn request(
     })
 }
 
-/// What this step sends; the step is let go.
+/// What this step sends; the step is dropped.
 fn sent_by(alloc: Global, step: Step) -> Result<Option<Bytes>, Fault> {
     let datagram = sent(alloc, &step);
     drop(step);
@@ -174,7 +174,7 @@ impl Holder {
         sent_by(alloc, step?)
     }
 
-    /// These bytes came from the lock: what the holder learns stands in the step's `notes.result()`.
+    /// These bytes came from the lock: what the holder learns is in the step's `notes.result()`.
     pub fn hears(&mut self, alloc: Global, now: Moment, datagram: &Bytes) -> Result<Step, Fault> {
         let bytes = datagram.as_slice();
         Ok(self.client.on_datagram::<Suite>(alloc, now, LOCK, bytes)?)

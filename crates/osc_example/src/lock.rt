@@ -223,7 +223,7 @@ impl Lock {
         Ok(tell_own(rt, "PUT", place, text, answered(round))?)
     }
 
-    /// Appends this to the log; where that is full, it begins anew.
+    /// Appends this to the log; where that is full, it starts again.
     fn logs(
         &mut self,
         rt: &impl Print,

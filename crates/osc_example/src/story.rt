@@ -52,21 +52,28 @@ fn the_technician_is_overheard(
     posts(rt, alloc, at(10), lock, technician)?;
     let overheard = shuts(rt, alloc, at(11), lock, technician)?;
     wants(rt, alloc, at(12), lock, owner, Wanted::Open)?;
-    if let Some((request, answer)) = overheard {
-        again(rt, alloc, at(13), lock, technician, &request, &answer)?;
-        under_a_new_id(rt, alloc, at(14), lock, technician, &request)?;
+    if let Some(overheard) = overheard {
+        again(rt, alloc, at(13), lock, technician, &overheard)?;
+        under_a_new_id(rt, alloc, at(14), lock, technician, &overheard.request)?;
     }
     reads(rt, alloc, at(15), lock, owner, Place::Actual)
 }
 
-/// The technician wants the lock shut: its request and what it was answered, as they stood on the way.
+/// A request and its answer, as they were on the way.
+#[derive(Drop)]
+struct Overheard {
+    request: Bytes,
+    answer: Bytes,
+}
+
+/// The technician wants the lock shut: what could be overheard then.
 fn shuts(
     rt: &impl Print,
     alloc: Global,
     now: Moment,
     lock: &mut Lock,
     technician: &mut Holder,
-) -> Result<Option<(Bytes, Bytes)>, Fault> {
+) -> Result<Option<Overheard>, Fault> {
     let word = Wanted::Shut.word();
     tell_asked(rt, technician.name, Method::Put, Place::Wanted, word)?;
     let Some(request) = technician.asks(alloc, now, Method::Put, Place::Wanted, word)? else {
@@ -77,7 +84,7 @@ fn shuts(
     };
     learns(rt, alloc, now, technician, &answer)?;
     lock.acts(rt, alloc, now)?;
-    Ok(Some((request, answer)))
+    Ok(Some(Overheard { request, answer }))
 }
 
 /// The same bytes come once more: they are answered as before, and nothing is served.
@@ -87,12 +94,11 @@ fn again(
     now: Moment,
     lock: &mut Lock,
     technician: &Holder,
-    request: &Bytes,
-    answer: &Bytes,
+    overheard: &Overheard,
 ) -> Result<(), Fault> {
     println!(rt; "somebody: the technician's request again, by the same bytes")?;
-    let told = lock.hears(rt, alloc, now, technician.at, request)?;
-    if told.as_ref() == Some(answer) {
+    let told = lock.hears(rt, alloc, now, technician.at, &overheard.request)?;
+    if told.as_ref() == Some(&overheard.answer) {
         println!(rt; "somebody: has the same answer")?;
     }
     lock.acts(rt, alloc, now)

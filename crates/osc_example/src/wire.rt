@@ -4,7 +4,7 @@ ghost use Rattle.std.specs.Prelude.{◌≡◌, Some, IfOk, IfSome};
 use osc_model::{Bytes, Peer, Step};
 use std::alloc::{AllocError, Global};
 
-/// Where the lock stands.
+/// Where the lock is.
 pub const LOCK: Peer = Peer {
     address: [192, 0, 2, 1],
     port: 5683,

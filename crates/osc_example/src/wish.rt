@@ -131,7 +131,7 @@ pub fn heard(rt: &impl Print, alloc: Global, step: &Step) -> Result<Option<Wish>
 }
 
 impl Wish {
-    /// What stands of it in the log: who wanted something, and where the bolt was then.
+    /// What the log has of it: who wanted something, and where the bolt was then.
     pub fn line(&self, alloc: Global, bolt: Bolt) -> Result<Bytes, AllocError>
         ensures { IfOk result (λ line. line ≡ codes "[" ++ self.now.by ++ codes " " ++ bolt_word bolt ++ codes "]") }
     {

@@ -433,7 +433,7 @@ fn is_bounded(alloc: Global, bytes: &[u8]) -> bool {
     }
 }
 
-/// An array of bytes, a text and a map, in which a tagged array stands: one allocation of each kind.
+/// An array of bytes, a text and a map, in which a tagged array is: one allocation of each kind.
 const OF_EVERY_KIND: &[u8] = b"\x83\x41a\x61b\xa1\x01\xc1\x81\x00";
 
 /// The test allocates nothing else, so that each allocation of `read` can be refused in turn.

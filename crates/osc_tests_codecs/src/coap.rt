@@ -127,7 +127,7 @@ const DATAGRAMS: [(&[u8], Option<ParseError>, Option<u16>); 18] = [
         Some(7),
     ),
     (b"\x42\x01\x00\x07\x01", FORMAT, Some(7)),
-    // A marker with nothing behind it, nibbles of 15 in delta and length.
+    // A marker with nothing after it, nibbles of 15 in delta and length.
     (b"\x40\x01\x00\x08\xff", FORMAT, Some(8)),
     (b"\x40\x01\x00\x09\xf0", FORMAT, Some(9)),
     (b"\x40\x01\x00\x0a\x0f", FORMAT, Some(10)),
@@ -243,7 +243,7 @@ fn a_replys_plaintext(rt: HostRuntime) {
     assert!(rt; is_a_response(&reply, b"Hello World!"));
 }
 
-/// No bytes, a marker with nothing behind it, a length of 15.
+/// No bytes, a marker with nothing after it, a length of 15.
 const NO_PLAINTEXTS: [&[u8]; 3] = [b"", b"\x01\xff", b"\x01\x0f"];
 
 #[test]

@@ -114,7 +114,7 @@ impl Plain {
         self.encrypt(block)
     }
 
-    /// The state of the CBC-MAC after some bytes, of which the first stands at `start` of its block.
+    /// The state of the CBC-MAC after some bytes, of which the first is at `start` of its block.
     fn absorb(&self, state: [u8; 16], bytes: &[u8], start: usize) -> [u8; 16]
         requires { start ≤ 2 }
     {

@@ -1,5 +1,5 @@
-//! Tests of messages and contexts, by what callers see. They stand apart, so that a test that changes has no crate below proved
-//! anew.
+//! Tests of messages and contexts, by what callers see. They are apart, so that a test that changes has no crate below proved
+//! again.
 #![tactic(auto)]
 
 #[cfg(test)]

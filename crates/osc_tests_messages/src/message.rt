@@ -260,7 +260,7 @@ fn tick(endpoint: &mut Endpoint, alloc: Global, at: u32) -> Does {
 /// Ticks, and what each does.
 type Run = &'static [(u32, Does)];
 
-/// Runs of a message of which nobody hears, with the draw's bytes, and how many wait behind it.
+/// Runs of a message of which nobody hears, with the draw's bytes, and how many wait after it.
 const RUNS: [(u8, u16, Run); 3] = [
     (
         0xff,

@@ -54,7 +54,7 @@ fn refused_lie(alloc: Global, client: &Client, text: &[u8]) -> u8 {
 }
 
 /// How a step at the client went on, in one byte: 0 for nothing, 1 for a context, 2 and more by the class of an answer that opened
-/// or didn't, 200 for silence, the number of a refusal behind 100, and 255 for want of memory.
+/// or didn't, 200 for silence, the number of a refusal after 100, and 255 for lack of memory.
 fn result_in(step: Result<Step, AllocError>) -> u8 {
     match step {
         Ok(step) => told_in(step),
@@ -75,7 +75,7 @@ fn told_in(step: Step) -> u8 {
     told
 }
 
-/// What comes of the server's datagram at the client.
+/// The outcome of the server's datagram at the client.
 fn hears(alloc: Global, client: &mut Client, datagram: &[u8]) -> Result<Step, AllocError> {
     client.on_datagram::<Suite>(alloc, Moment::START, SERVER, datagram)
 }
@@ -105,7 +105,7 @@ fn exchanges(rt: &impl Abort, alloc: Global, client: &mut Client, server: &mut S
     assert!(rt; heard(alloc, client, &answer) == 0);
 }
 
-/// A request is answered once, and its answer isn't taken again.
+/// The code by which a request is answered: once, and its answer isn't taken again.
 fn asks(
     rt: &impl Abort,
     alloc: Global,
@@ -113,15 +113,15 @@ fn asks(
     server: &mut Server,
     request: &Request,
     byte: u8,
-    code: Code,
-)
+) -> u8
     requires { 0 < request.now.code.0 }
 {
     let protected = asked(alloc, client, request, byte);
     assert!(rt; hindered(alloc, client, request) == 117);
     let answer = served(alloc, server, &protected);
-    assert!(rt; heard(alloc, client, &answer) == code.0);
+    let code = heard(alloc, client, &answer);
     assert!(rt; heard(alloc, client, &answer) == 0);
+    code
 }
 
 fn serves_a_client(
@@ -135,9 +135,9 @@ fn serves_a_client(
     let put = request(alloc, b"/log", PUT, b"b")?;
     assert!(rt; hindered(alloc, client, &post) == 122);
     exchanges(rt, alloc, client, server);
-    asks(rt, alloc, client, server, &post, 2, Code::CREATED);
-    asks(rt, alloc, client, server, &get, 3, Code::CONTENT);
-    asks(rt, alloc, client, server, &put, 4, Code::METHOD_NOT_ALLOWED);
+    assert!(rt; asks(rt, alloc, client, server, &post, 2) == Code::CREATED.0);
+    assert!(rt; asks(rt, alloc, client, server, &get, 3) == Code::CONTENT.0);
+    assert!(rt; asks(rt, alloc, client, server, &put, 4) == Code::METHOD_NOT_ALLOWED.0);
     assert!(rt; server.tree().len() == 1);
     drop(post);
     drop(get);
@@ -155,7 +155,7 @@ fn an_exchange_and_three_requests(rt: HostRuntime) -> Result<(), Fail> {
     served
 }
 
-/// The acknowledgement of a client's message that answers it, with this code and what stands behind the token.
+/// The acknowledgement of a client's message that answers it, with this code and what follows the token.
 fn answering(alloc: Global, code: u8, message: &[u8], rest: &[u8]) -> Result<Vec<u8>, Fail> {
     let mut answer = Vec::from_slice(alloc, &[0x68, code])?;
     answer.extend_from_slice(message.get(2..12).ok_or("a short message")?)?;
@@ -242,7 +242,7 @@ fn lies_and_skips(
     assert!(rt; heard(alloc, client, &answer) == 4);
     client.skip_to(1_099_511_627_775);
     client.skip_to(3);
-    asks(rt, alloc, client, server, &post, 8, Code::CHANGED);
+    assert!(rt; asks(rt, alloc, client, server, &post, 8) == Code::CHANGED.0);
     assert!(rt; hindered(alloc, client, &post) == 118);
     drop(post);
     Ok(())

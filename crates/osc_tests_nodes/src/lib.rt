@@ -1,5 +1,5 @@
-//! Tests of resources and nodes, by what callers see: a module for each crate. They stand apart, so that a test that changes has no
-//! crate below proved anew.
+//! Tests of resources and nodes, by what callers see: a module for each crate. They are apart, so that a test that changes has no
+//! crate below proved again.
 #![tactic(auto)]
 
 #[cfg(test)]

@@ -155,7 +155,7 @@ fn answer_drawn(alloc: Global, server: &mut Server, datagram: &[u8], nonce: u8) 
     sent_in(alloc, hears(alloc, server, datagram, nonce))
 }
 
-/// What comes of the datagram at the server, whose nonce would end in this byte.
+/// The outcome of the datagram at the server, whose nonce would end in this byte.
 fn hears(
     alloc: Global,
     server: &mut Server,
@@ -185,25 +185,23 @@ fn check_served(
 ) -> Result<(), Fail>
     requires { number ≤ greatest_number }
 {
-    check_served_under(rt, alloc, server, FIRST, number, datagram, end)
+    let text = sealed_under(alloc, server, FIRST, number, datagram)?;
+    assert!(rt; text.as_slice().ends_with(end));
+    Ok(())
 }
 
-/// The same under the context of this exchange.
-fn check_served_under(
-    rt: &impl Abort,
+/// What is sealed in the server's reply to the request of this number under the context of this exchange.
+fn sealed_under(
     alloc: Global,
     server: &mut Server,
     exchanged: Exchanged,
     number: u64,
     datagram: &[u8],
-    end: &[u8],
-) -> Result<(), Fail>
+) -> Result<Vec<u8>, Fail>
     requires { number ≤ greatest_number }
 {
     let reply = answer(alloc, server, datagram);
-    let text = opened(alloc, exchanged, number, &reply)?;
-    assert!(rt; text.as_slice().ends_with(end));
-    Ok(())
+    opened(alloc, exchanged, number, &reply)
 }
 
 /// A request is served once, a repeat gets the same bytes, and the same request in another message is a replay.
@@ -342,7 +340,7 @@ fn serves_first(rt: &impl Abort, alloc: Global, server: &mut Server) -> Result<(
     check_served(rt, alloc, server, 0, &post, b"\x41")
 }
 
-/// The server starts again behind a tick.
+/// The server starts again after a tick.
 fn restarted(alloc: Global, server: &mut Server) {
     let step = server.on_tick(alloc, Moment::START);
     drop(step);
@@ -443,7 +441,8 @@ fn keeps_the_confirmed(rt: &impl Abort, alloc: Global, server: &mut Server) -> R
     check_served(rt, alloc, server, 1, &again, b"\x44")?;
     let third = Exchanged { nonce: 4, id: 2 };
     let newest = request_under(alloc, third, 1, 0x0305, 0, b"")?;
-    check_served_under(rt, alloc, server, third, 0, &newest, b"\xffac")?;
+    let text = sealed_under(alloc, server, third, 0, &newest)?;
+    assert!(rt; text.as_slice().ends_with(b"\xffac"));
     let late = request(alloc, 2, 0x0306, 2, b"d")?;
     check(
         rt,

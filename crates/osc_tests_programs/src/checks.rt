@@ -1,4 +1,4 @@
-//! What `--check` says of settings, keys that are drawn, and payloads that stand in files.
+//! What `--check` says of settings, keys that are drawn, and payloads that are in files.
 use crate::broken::BrokenReader;
 use osc_programs::{
     Ended, Lines, check_client, check_proxy, check_server, ended_by, issue_key, with_payload,

@@ -27,8 +27,8 @@ fn is_told(rt: &HostRuntime, run: &(Ended, Vec<u8>), why: &str) -> Result<bool, 
     Ok(run.0 == Ended::BadSettings && run.1.as_slice() == wanted.as_bytes())
 }
 
-/// Settings of a server, before which `key` stands, and the first fault.
-const SERVERS: [(&str, &str); 11] = [
+/// Settings of a server, before which `key` is, and the first fault.
+const SERVERS: [(&str, &str); 12] = [
     (
         "",
         "key bind is missing, and should be a text of an address and a port, as 127.0.0.1:5683",
@@ -37,7 +37,7 @@ const SERVERS: [(&str, &str); 11] = [
         "bind = 5683",
         "key bind should be a text of an address and a port, as 127.0.0.1:5683",
     ),
-    // The first fault is that of a key that should not be there, wherever it stands; of two the first in the order of their bytes.
+    // The first fault is that of a key that should not be there, wherever it is; of two the first in the order of their bytes.
     ("port = 1\nbnid = 1", "key bnid should not be there"),
     ("'a\t b' = 1", "key a??b should not be there"),
     (
@@ -63,6 +63,10 @@ const SERVERS: [(&str, &str); 11] = [
     (
         "bind = '127.0.0.1:1'\naudience = 's'\nopen = []\ncontext_seconds = '60'\nresource = 1",
         "key context_seconds should be a whole number of seconds, 1 to 4294967295",
+    ),
+    (
+        "bind = '127.0.0.1:1'\naudience = 's'\nopen = []\nstore = ''\nresource = 1",
+        "key store should be a text, the name of a file",
     ),
     ("bind = ", "the text is no TOML"),
 ];
@@ -138,7 +142,7 @@ fn the_key_of_a_proxy_is_named(rt: HostRuntime) -> Result<(), Fail> {
     Ok(())
 }
 
-/// Settings of a client behind `bind` and `peer`, and the first fault.
+/// Settings of a client after `bind` and `peer`, and the first fault.
 const CLIENTS: [(&str, &str); 9] = [
     (
         "port = 1",
@@ -195,7 +199,7 @@ fn the_key_of_a_client_is_named(rt: HostRuntime) -> Result<(), Fail> {
 fn settings_end_alike_with_any_log(rt: HostRuntime) -> Result<(), Fail> {
     let mut reader = b"bind = 1".as_slice();
     assert_eq!(rt;
-        serve(rt.alloc(), &rt, &mut reader, &mut Silent, 1),
+        serve(rt.alloc(), &rt, &mut reader, &mut Silent, 1,),
         Ended::BadSettings
     );
     let mut reader = b"bind = 1".as_slice();

@@ -66,7 +66,7 @@ fn moment() -> Moment {
     Moment::new(NOW).unwrap_or(Moment::START)
 }
 
-/// Whether what is told of the step is this, behind the moment and the address.
+/// Whether what is told of the step is this, after the moment and the address.
 fn tells(alloc: Global, step: &Step, what: &str) -> Result<bool, AllocError> {
     let wanted = format!(in alloc; "{NOW} 192.0.2.7:40000 {what}\n")?;
     let text = step_text(alloc, moment(), step)?;
@@ -199,7 +199,7 @@ fn what_is_sent(rt: HostRuntime) -> Result<(), Fail> {
     Ok(())
 }
 
-// Lines go behind what the writer has.
+// Lines go after what the writer has.
 #[test]
 fn lines_are_written(rt: HostRuntime) -> Result<(), Fail> {
     let alloc = rt.alloc();
@@ -214,7 +214,7 @@ fn lines_are_written(rt: HostRuntime) -> Result<(), Fail> {
     Ok(())
 }
 
-// So many milliseconds behind the first moment.
+// So many milliseconds after the first moment.
 fn later(ms: u64) -> Moment {
     Moment::new(NOW.wrapping_add(ms)).unwrap_or(Moment::START)
 }

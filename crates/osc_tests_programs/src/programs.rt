@@ -96,7 +96,7 @@ fn scripts_have_their_traces(rt: HostRuntime) -> Result<(), Fail> {
     Ok(())
 }
 
-// An exchange with a comment and an empty line, and a tick behind it.
+// An exchange with a comment and an empty line, and a tick after it.
 const COMMENTED: &str = "# an exchange\ngrant c1 /log:GET+POST\n\nexchange c1\nquiet\ntick s";
 
 const NUMBERED_TRACE: &str =
@@ -148,7 +148,7 @@ fn a_longer_tag_makes_longer_datagrams(rt: HostRuntime) -> Result<(), Fail> {
     Ok(())
 }
 
-// Without a reader, the trace goes behind what the writer has.
+// Without a reader, the trace goes after what the writer has.
 #[test]
 fn a_trace_goes_behind_other_bytes(rt: HostRuntime) -> Result<(), Fail> {
     let mut text = Vec::from_slice(rt.alloc(), b"> ")?;
@@ -162,7 +162,7 @@ fn a_trace_goes_behind_other_bytes(rt: HostRuntime) -> Result<(), Fail> {
 const SHARED: &str =
     "grant c1 /a:PUT\ngrant c2 /a:PUT\nexchange c1\nexchange c2\nquiet\nask c1 PUT /a 61\nquiet\nask c2 PUT /a 62\nquiet\n";
 
-// Whether these lines stand behind the premise line, where this client is wanted.
+// Whether these lines follow the premise line, where this client is wanted.
 fn is_alone(alloc: Global, script: &str, digit: u8, lines: &str) -> bool {
     let mut text = Vec::new(alloc);
     let client = ClientName::new(digit);
@@ -284,7 +284,7 @@ fn a_broken_input_or_output_fails(rt: HostRuntime) -> Result<(), Fail> {
         Ended::Failed
     );
     assert_eq!(rt; written.len(), 0);
-    // The event is written as it comes, and the end lines behind it.
+    // The event is written as it comes, and the end lines after it.
     for &(writes, ended) in &[(0, Ended::Failed), (1, Ended::Failed), (2, Ended::Done)] {
         let mut script = FIRST_RUN.as_bytes();
         let mut writer = BrokenWriter { writes };

@@ -242,7 +242,7 @@ fn proxies(rt: HostRuntime) {
     have_their_bad_lines(&rt, rt.alloc(), &PROXIES);
 }
 
-/// Scripts whose lines stand where they may, or not, and the first bad line of each.
+/// Scripts whose lines are where they may, or not, and the first bad line of each.
 const PLACES: [(&[u8], Option<u64>); 10] = [
     (b"inject x s -\nput /a none -", Some(2)),
     (b"inject x s -\nopen /a\n", Some(2)),
@@ -362,7 +362,7 @@ fn nodes_and_datagrams(rt: HostRuntime) {
     have_their_bad_lines(&rt, rt.alloc(), &NETWORK);
 }
 
-/// A script of each kind of line that comes behind a grant.
+/// A script of each kind of line that comes after a grant.
 const EVENTS: &[u8] =
     b"grant c1 /a:GET+PUT,/b:GET nbf=007 exp=9\ngrant c9 /a:POST\ndraw 00010203040506fF\ndrop 3\nskip c1 1099511627775\n\
 exchange c1\nask c9 POST /a 6869\ntick c1\nrestart s\ndeliver 0\nalter 2 0 ff 7 01\ngraft 1 2\ninject x c1 -\n\
@@ -551,7 +551,7 @@ fn tokens_of_grants(rt: HostRuntime) {
     drop(scope);
 }
 
-/// Appends a path of so many bytes, and what stands behind it.
+/// Appends a path of so many bytes, and what follows it.
 fn push_entry(text: &mut Vec<u8>, len: usize, rest: &[u8]) -> Result<(), AllocError> {
     for i in 0..len {
         text.push(if i % 33 == 0 { b'/' } else { b'a' })?;

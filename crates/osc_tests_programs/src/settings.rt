@@ -110,7 +110,7 @@ fn the_length_of_a_resource(rt: HostRuntime) -> Result<(), Fail> {
     Ok(())
 }
 
-/// Whether a text is at fault, and not only memory was wanting.
+/// Whether a text is at fault, and not only memory ran out.
 fn is_bad<T: Drop>(read: Result<T, SettingsError>) -> bool {
     match read {
         Ok(_) => false,

@@ -1,4 +1,4 @@
-//! `osc token` with a key and a secret that stand in files.
+//! `osc token` with a key and a secret that are in files.
 use crate::broken::BrokenReader;
 use crate::tokens::{TOKEN_LINE, given_words, run_words};
 use osc_programs::{Ended, ended_by, filled, token_warning};
@@ -6,7 +6,7 @@ use osc_words::{Source, TokenAsked, Words, WordsError, fault_line, read_words};
 use std::alloc::{AllocError, Global};
 use std::test::Fail;
 
-// The words of the token that others computed, whose key and secret stand in files.
+// The words of the token that others computed, whose key and secret are in files.
 const IN_FILES: [&str; 14] = [
     "osc",
     "token",
@@ -82,7 +82,7 @@ fn ends(
     Ok(found == ended && told.as_slice() == line.as_bytes())
 }
 
-// The hexadecimal with these bytes behind it.
+// The hexadecimal with these bytes after it.
 fn with_end(alloc: Global, text: &[u8], end: &[u8]) -> Result<Vec<u8>, AllocError> {
     let mut bytes = Vec::from_slice(alloc, text)?;
     bytes.extend_from_slice(end)?;
@@ -107,7 +107,7 @@ fn a_line_may_end_what_a_file_holds(rt: HostRuntime) -> Result<(), Fail> {
     Ok(())
 }
 
-// What may not stand behind the hexadecimal, or in its place.
+// What may not follow the hexadecimal, or in its place.
 const BAD_ENDS: [&[u8]; 5] = [b"\n\n", b"\r", b"\n\r", b" \n", b"\xff"];
 
 #[test]

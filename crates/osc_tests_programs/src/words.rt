@@ -3,14 +3,14 @@ use clap::error::ErrorKind::{DisplayHelp, DisplayVersion};
 use osc_model::Request;
 use osc_programs::{Ended, ended_by};
 use osc_script::ClientName;
-use osc_words::{FileName, Words, WordsError, fault_line, read_words};
+use osc_words::{DiagramForm, FileName, Words, WordsError, fault_line, read_words};
 use std::alloc::{AllocError, Global};
 use std::test::Fail;
 
 // The values of the flags and the digit of the wanted client, or 0, where the words are those of `osc sim`.
 fn sim_asked(alloc: Global, words: &[&str]) -> Option<(bool, bool, u8)> {
     match read_words(alloc, words) {
-        Ok(Words::Sim { bytes, lines, only }) => Some((bytes, lines, digit_of(only))),
+        Ok(Words::Sim(words)) => Some((words.bytes, words.lines, digit_of(words.only))),
         _ => None,
     }
 }
@@ -46,6 +46,48 @@ fn a_script_is_run(rt: HostRuntime) {
         (&["osc", "server"].as_slice(), None),
     ] {
         assert_eq!(rt; sim_asked(rt.alloc(), words), asked);
+    }
+}
+
+// How the run is drawn, and whether it is captured in the file `run.pcap`, where the words are those of `osc sim`.
+fn drawing_asked(alloc: Global, words: &[&str]) -> Option<(Option<DiagramForm>, bool)> {
+    match read_words(alloc, words) {
+        Ok(Words::Sim(words)) => Some((words.diagram, is_named(&words.pcap, "run.pcap"))),
+        _ => None,
+    }
+}
+
+fn is_named(file: &Option<FileName>, name: &str) -> bool {
+    match file {
+        Some(file) => file.as_str() == name,
+        None => false,
+    }
+}
+
+#[test]
+fn a_run_is_drawn(rt: HostRuntime) {
+    for &(words, asked) in &[
+        (&["osc", "sim"].as_slice(), Some((None, false))),
+        (
+            &["osc", "sim", "--diagram"].as_slice(),
+            Some((Some(DiagramForm::Text), false)),
+        ),
+        (
+            &["osc", "sim", "--diagram=text", "--pcap", "run.pcap"].as_slice(),
+            Some((Some(DiagramForm::Text), true)),
+        ),
+        (
+            &["osc", "sim", "--pcap=run.pcap", "--diagram=svg"].as_slice(),
+            Some((Some(DiagramForm::Svg), true)),
+        ),
+        (
+            &["osc", "sim", "--diagram", "--pcap", "other"].as_slice(),
+            Some((Some(DiagramForm::Text), false)),
+        ),
+        (&["osc", "sim", "--diagram=png"].as_slice(), None),
+        (&["osc", "sim", "--pcap"].as_slice(), None),
+    ] {
+        assert_eq!(rt; drawing_asked(rt.alloc(), words), asked);
     }
 }
 
@@ -392,7 +434,7 @@ fn a_client_has_further_words(rt: HostRuntime) -> Result<(), Fail> {
     Ok(())
 }
 
-// The file that the settings of a node stand in, and whether they are only read.
+// The file that the settings of a node are in, and whether they are only read.
 fn node_asked(alloc: Global, words: &[&str], name: Option<&str>, check: bool) -> bool {
     match read_words(alloc, words) {
         Ok(Words::Server(words)) | Ok(Words::Proxy(words)) => {
@@ -461,7 +503,7 @@ const AND_LASTING: [&str; 16] = [
 const WRONG: [(&[&str], &str); 29] = [
     (
         &["osc"],
-        "error: 'osc' requires a subcommand but one was not provided [subcommands: sim, token, key, server, proxy, client, lab, help]",
+        "error: 'osc' requires a subcommand but one was not provided [subcommands: sim, token, key, store, server, proxy, client, lab, help]",
     ),
     (
         &["osc", "sever"],

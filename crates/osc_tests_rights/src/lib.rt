@@ -1,5 +1,5 @@
-//! Tests of rights and of the notes of runs, by what callers see. They stand apart, so that a test that changes has no crate below proved
-//! anew.
+//! Tests of rights and of the notes of runs, by what callers see. They are apart, so that a test that changes has no crate below proved
+//! again.
 #![tactic(auto)]
 
 #[cfg(test)]

@@ -25,25 +25,17 @@ const CIPHERTEXT: &[u8] =
 const WHOLE_TEXT: &[u8] =
     b"\xa5\x03\x61s\x04\x1a\x65\x92\0\x80\x05\x1a\x65\x53\xf1\0\x08\xa1\x04\xa5\0\x41\x01\x02\x50\0\0\0\0\0\0\0\0\0\0\0\0\0\0\0\x01\x04\x18\x1e\x05\x42\x0a\x0b\x06\x41\x0c\x09\x48\x81\x82\x64/log\x03";
 
-/// The claims of the text, with these optional parts.
-fn claims(
-    rt: &impl Abort,
-    alloc: Global,
-    not_before: Option<u64>,
-    expires: Option<u64>,
-    salt: &[u8],
-    id_context: Option<Bytes>,
-    alg: Algorithm,
-) -> Claims {
+/// The claims of the text, for contexts of this algorithm.
+fn plain_claims(rt: &impl Abort, alloc: Global, alg: Algorithm) -> Claims {
     Claims {
         audience: Audience::new(alloc, "s").expect(rt, "memory"),
-        not_before,
-        expires,
+        not_before: None,
+        expires: None,
         material: InputMaterial {
             id: Bytes::from_slice(alloc, b"\x01").expect(rt, "memory"),
             secret: Bytes::from_slice(alloc, &SECRET).expect(rt, "memory"),
-            salt: Bytes::from_slice(alloc, salt).expect(rt, "memory"),
-            id_context,
+            salt: Bytes::new(alloc),
+            id_context: None,
             alg,
         },
         scope: Bytes::from_slice(alloc, b"\x81\x82\x64/log\x03").expect(rt, "memory"),
@@ -94,7 +86,7 @@ fn opens(rt: &impl Abort, alloc: Global, bytes: &[u8], key: &[u8; 16]) -> bool {
     opened(rt, alloc, bytes, key).is_some()
 }
 
-/// A token of the text: what stands before its array, its unprotected header, and what is left over.
+/// A token of the text: what is before its array, its unprotected header, and what is left over.
 struct Form {
     before: &'static [u8],
     unprotected: &'static [u8],
@@ -248,11 +240,6 @@ fn asks_for_the_algorithm(rt: HostRuntime) {
     }
 }
 
-/// The claims of the text, for contexts of this algorithm.
-fn plain_claims(rt: &impl Abort, alloc: Global, alg: Algorithm) -> Claims {
-    claims(rt, alloc, None, None, b"", None, alg)
-}
-
 #[test]
 fn mints(rt: HostRuntime) {
     let claims = plain_claims(&rt, rt.alloc(), Algorithm::EightByteTag);
@@ -263,16 +250,12 @@ fn mints(rt: HostRuntime) {
 
 /// Claims with each part.
 fn whole_claims(rt: &impl Abort, alloc: Global) -> Claims {
-    let id_context = Bytes::from_slice(alloc, b"\x0c").expect(rt, "memory");
-    claims(
-        rt,
-        alloc,
-        Some(1700000000),
-        Some(1704067200),
-        b"\x0a\x0b",
-        Some(id_context),
-        Algorithm::SixteenByteTag,
-    )
+    let mut claims = plain_claims(rt, alloc, Algorithm::SixteenByteTag);
+    claims.not_before = Some(1700000000);
+    claims.expires = Some(1704067200);
+    claims.material.salt = Bytes::from_slice(alloc, b"\x0a\x0b").expect(rt, "memory");
+    claims.material.id_context = Some(Bytes::from_slice(alloc, b"\x0c").expect(rt, "memory"));
+    claims
 }
 
 /// The text for contexts with tags of 16 bytes: {3: "s", 8: {4: {0: h'01', 2: h'00..01', 4: 30}}, 9: h'8182642f6c6f6703'}.
@@ -299,15 +282,8 @@ fn mints_each_part(rt: HostRuntime) {
 #[test]
 fn refuses_long_claims(rt: HostRuntime) {
     let salt = vec![in rt.alloc(); 0; 65536].expect(&rt, "memory");
-    let claims = claims(
-        &rt,
-        rt.alloc(),
-        None,
-        None,
-        &salt,
-        None,
-        Algorithm::EightByteTag,
-    );
+    let mut claims = plain_claims(&rt, rt.alloc(), Algorithm::EightByteTag);
+    claims.material.salt = Bytes::from_vec(salt);
     let refused = minted(rt.alloc(), claims).err();
     assert!(rt; refused == Some(MintError::TooLong));
 }

@@ -53,7 +53,7 @@ fn keep_all(alloc: Global, mut store: FileStore<Fuse<Memory>>) -> Result<Cut, Fa
     cut_of(alloc, store.close(), kept)
 }
 
-// A first start and all changes, over disks that freeze behind so many calls.
+// A first start and all changes, over disks that freeze after so many calls.
 fn run(alloc: Global, log_calls: u64, db_calls: u64) -> Result<Cut, Fail> {
     let files = Files {
         log: Fuse::new(Memory::new(alloc), log_calls),
@@ -75,7 +75,7 @@ fn is_found(alloc: Global, log: &[u8], db: &[u8], kept: usize) -> Result<bool, F
     }
 }
 
-// The file that a write leaves which is cut off behind byte `at`, between what it leaves whole and what was before it.
+// The file that a write leaves which is cut off after byte `at`, between what it leaves whole and what was before it.
 fn torn(alloc: Global, before: &[u8], after: &[u8], at: usize) -> Result<Vec<u8>, Fail> {
     let mut torn = Vec::new(alloc);
     for i in 0..after.len() {

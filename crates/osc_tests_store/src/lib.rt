@@ -1,5 +1,5 @@
-//! Tests of `osc_store`, by what callers see: over disks in memory that are cut, damaged or foreign, and over files. They stand apart, so
-//! that a test that changes has no crate below proved anew.
+//! Tests of `osc_store`, by what callers see: over disks in memory that are cut, damaged or foreign, and over files. They are apart, so
+//! that a test that changes has no crate below proved again.
 #![tactic(auto)]
 
 #[cfg(test)]

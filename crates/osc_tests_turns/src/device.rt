@@ -155,7 +155,7 @@ fn starts_again(rt: &impl Abort, alloc: Global, device: &mut Device) {
     assert!(rt; has(alloc, device, b"b"));
 }
 
-/// Behind a restart it posts its token anew, and its resources are there.
+/// After a restart it posts its token again, and its resources are there.
 #[test]
 fn a_device_starts_again(rt: HostRuntime) -> Result<(), Fail> {
     let mut device = device(&rt, rt.alloc());

@@ -1,5 +1,5 @@
-//! Tests of proxies, devices and turns, by what callers see: a device, a port of queues in memory, and nodes that run at such ports. They stand apart, so that a test that changes has no crate below proved
-//! anew.
+//! Tests of proxies, devices and turns, by what callers see: a device, a port of queues in memory, and nodes that run at such ports. They are apart, so that a test that changes has no crate below proved
+//! again.
 #![tactic(auto)]
 
 #[cfg(test)]

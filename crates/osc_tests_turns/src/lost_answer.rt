@@ -58,7 +58,7 @@ enum Effect {
     SomethingElse,
 }
 
-/// What came of a run.
+/// The outcome of a run.
 #[derive(Drop)]
 struct Outcome {
     /// How many calls failed at the client, the proxy and the server.
@@ -100,11 +100,11 @@ fn goes<R: Abort>(
 {
     let mut again = 0usize;
     let mut last = 0;
-    for &(ms, doing) in &ROW {
-        let mut told = network.does(client, proxy, server, request, ms, doing);
+    for &what in &ROW {
+        let mut told = network.does(client, proxy, server, request, what);
         if told == None {
             again = again.saturating_add(1);
-            told = network.does(client, proxy, server, request, ms, doing);
+            told = network.does(client, proxy, server, request, what);
         }
         let learnt = told.unwrap_or(0);
         if learnt != 0 {
@@ -167,7 +167,7 @@ fn fails_once(run: &Outcome) -> bool {
 }
 
 /// Whether the run where a call fails is the one without a fault, where a receive failed and that turn was taken again; and else
-/// the one in which the datagram of the call got lost behind its port.
+/// the one in which the datagram of the call got lost after its port.
 fn is_as_wanted<R: Abort + Drop>(
     rt: &R,
     alloc: Global,
@@ -278,7 +278,7 @@ fn hears_all(alloc: Global, proxy: &mut Proxy, came: &[Option<(Peer, Bytes)>]) -
     modest
 }
 
-/// Whether each step is so of a new proxy, to which these bytes come behind what came.
+/// Whether each step is so of a new proxy, to which these bytes come after what came.
 fn hears_at_last(
     alloc: Global,
     came: &[Option<(Peer, Bytes)>],

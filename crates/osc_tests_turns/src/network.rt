@@ -72,7 +72,7 @@ impl<'a, R: Abort> Network<'a, R> {
         self.server.is_silent = true;
     }
 
-    /// Each datagram that a port was asked to send, port by port, each behind the port to which it goes.
+    /// Each datagram that a port was asked to send, port by port, each after the port to which it goes.
     pub fn all_sent(&self) -> Vec<u8> {
         let mut all = Vec::new(self.alloc);
         for &port in &[&self.client, &self.proxy, &self.server] {
@@ -168,18 +168,18 @@ impl<'a, R: Abort> Network<'a, R> {
         told
     }
 
-    /// This is done at this moment: what the client learnt of it, 0 for nothing; none where a receive failed.
+    /// This is done at this moment, in ms: what the client learnt of it, 0 for nothing; none where a receive failed.
     pub fn does(
         &mut self,
         client: &mut Client,
         proxy: &mut Proxy,
         server: &mut Server,
         request: &Request,
-        ms: u64,
-        doing: Doing,
+        what: (u64, Doing),
     ) -> Option<u8>
         requires { 0 < request.now.code.0 }
     {
+        let (ms, doing) = what;
         match doing {
             Doing::Exchanges => self.exchanges(client, ms),
             Doing::Asks => self.asks(client, request, ms),

@@ -89,7 +89,7 @@ impl<'a, R: Abort> Queues<'a, R> {
         }
     }
 
-    /// This comes next, behind what waits already.
+    /// This comes next, after what waits already.
     pub fn comes(&mut self, from: Peer, bytes: Bytes) {
         self.waiting
             .push_back((from, bytes))

@@ -45,9 +45,9 @@ fn goes_through<R: Abort>(
     assert!(rt; network.turns(client, proxy, server, 12_000, answered) == Code::CREATED.0);
 }
 
-/// A POST through the proxy, which starts again before the answer comes to it: what the client sends again is forwarded anew. Where the
+/// A POST through the proxy, which starts again before the answer comes to it: what the client sends again is forwarded again. Where the
 /// server had served it, it refuses the number that comes twice, and all that the client learns is that an unprotected 4.01 came.
-fn goes_through_anew<R: Abort>(
+fn goes_through_restarted<R: Abort>(
     rt: &R,
     network: &mut Network<'_, R>,
     client: &mut Client,
@@ -76,29 +76,8 @@ fn holds(server: &Server, request: &Request) -> bool {
     }
 }
 
-/// An exchange and a POST, in whose midst the proxy starts again if it does so: the POST was served once.
-fn goes<R: Abort>(
-    rt: &R,
-    network: &mut Network<'_, R>,
-    client: &mut Client,
-    proxy: &mut Proxy,
-    server: &mut Server,
-    request: &Request,
-    restarts: bool,
-)
-    requires { 0 < request.now.code.0 }
-{
-    is_granted(rt, network, client, proxy, server);
-    if restarts {
-        goes_through_anew(rt, network, client, proxy, server, request);
-    } else {
-        goes_through(rt, network, client, proxy, server, request);
-    }
-    assert!(rt; holds(server, request));
-}
-
-/// The run in which the call of this number fails: how many calls failed at the client, the proxy and the server, and how many more
-/// calls it takes to the one that fails.
+/// The run in which the call of this number fails: an exchange and a POST, in whose midst the proxy starts again if it does so. The POST
+/// was served once. How many calls failed at the client, the proxy and the server, and how many more calls it takes to the one that fails.
 fn run<R: Abort + Drop>(
     rt: &R,
     alloc: Global,
@@ -112,15 +91,27 @@ fn run<R: Abort + Drop>(
     let mut proxy = proxy(alloc)?;
     let mut server = server(alloc)?;
     let mut network = Network::new(rt, alloc, failing);
-    goes(
-        rt,
-        &mut network,
-        &mut client,
-        &mut proxy,
-        &mut server,
-        request,
-        restarts,
-    );
+    is_granted(rt, &mut network, &mut client, &mut proxy, &mut server);
+    if restarts {
+        goes_through_restarted(
+            rt,
+            &mut network,
+            &mut client,
+            &mut proxy,
+            &mut server,
+            request,
+        );
+    } else {
+        goes_through(
+            rt,
+            &mut network,
+            &mut client,
+            &mut proxy,
+            &mut server,
+            request,
+        );
+    }
+    assert!(rt; holds(&server, request));
     let told = (network.failures(), network.failing);
     drop(network);
     drop(server);

@@ -212,7 +212,7 @@ fn requests_that_wait_for_their_turn(rt: HostRuntime) -> Result<(), Fail> {
     Ok(goes_on(&rt, rt.alloc(), &IN_TURN)?)
 }
 
-/// Nobody acknowledges the first request, and a second one waits behind it. Behind 247 seconds without a tick both have ended, and neither is sent
+/// Nobody acknowledges the first request, and a second one waits after it. After 247 seconds without a tick both have ended, and neither is sent
 /// to the target again, nor when that acknowledges them.
 const OVER: [Row<'static>; 6] = [
     (

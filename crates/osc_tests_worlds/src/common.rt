@@ -195,7 +195,7 @@ pub(crate) fn restarts(alloc: Global, world: &mut World, number: u8, node: Actor
     happens(alloc, world, number, What::Restart { node })
 }
 
-// ---- what came of it
+// ---- the outcome
 
 /// How many requests were served, asked and answered.
 pub(crate) fn counts(alloc: Global, world: &World) -> (usize, usize, usize) {

@@ -22,7 +22,7 @@ const NO_SCOPE: &[u8] = b"\x81\x82\x64/log\0";
 
 const GOOD: Row = (SCOPE, 1, 16, 0, 0);
 
-/// Who is refused, and why: the first of what stands against it.
+/// Who is refused, and why: the first thing against it.
 const REFUSED: [(Row, EnrollError); 9] = [
     ((NO_SCOPE, 1, 16, 0, 0), EnrollError::BadScope),
     ((b"", 1, 16, 0, 0), EnrollError::BadScope),
@@ -116,7 +116,7 @@ fn placed(alloc: Global, start: &mut Start, at: Peer) -> Result<(), PlaceError> 
     start.add_proxy(alloc, at, Targets::new(alloc))
 }
 
-/// No two nodes stand at one address, whatever the claims are; who was refused takes none.
+/// No two nodes share an address, whatever the claims are; who was refused takes none.
 fn takes_no_second(rt: &impl Abort, alloc: Global, start: &mut Start) {
     assert!(rt; placed(alloc, start, SERVER) == Err(PlaceError::AddressTaken));
     assert!(rt; refusal(alloc, start, CLIENT, REFUSED[0].0) == Some(EnrollError::BadScope));

@@ -1,4 +1,4 @@
-//! Tests of worlds, by what callers see. They stand apart, so that a test that changes has no crate below proved anew.
+//! Tests of worlds, by what callers see. They are apart, so that a test that changes has no crate below proved again.
 #![tactic(auto)]
 
 #[cfg(test)]

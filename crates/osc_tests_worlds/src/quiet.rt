@@ -138,7 +138,7 @@ fn number_asked(alloc: Global, world: &mut World) -> Option<u64> {
     last_number(alloc, world)
 }
 
-/// Numbers are raised and never lowered; behind the last one nothing is asked.
+/// Numbers are raised and never lowered; after the last one nothing is asked.
 fn skips(rt: &impl Abort, alloc: Global, world: &mut World) {
     world.skip(0, 9);
     exchanged(rt, alloc, world);

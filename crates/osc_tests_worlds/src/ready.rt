@@ -86,7 +86,7 @@ fn id_from(sent: &SentDatagram, at: Peer) -> Option<u16> {
     id_of(sent.bytes.as_slice())
 }
 
-/// The message ID that whoever stands there takes next: the one that is drawn, and each later one the next.
+/// The message ID that whoever is there takes next: the one that is drawn, and each later one the next.
 pub(crate) fn next_id(world: &World, at: Peer, draw: Draw) -> u16 {
     let mut next = draw.message_id();
     for sent in world.sent() {
@@ -206,7 +206,7 @@ fn may_ask(world: &World, next: Next) -> bool {
     may_begin(world, next) && has_a_fresh_number(world, next)
 }
 
-// ---- what comes of it
+// ---- the outcome
 
 fn happens(alloc: Global, world: &mut World, next: Next, what: What) -> bool {
     let event = Event {

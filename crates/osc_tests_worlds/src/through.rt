@@ -62,7 +62,7 @@ fn is_ready(world: &World, next: Next) -> bool {
         && has_new_ids(world, next)
 }
 
-// ---- what comes of it
+// ---- the outcome
 
 /// An exchange as it is promised.
 fn makes_one(rt: &impl Abort, alloc: Global, world: &mut World, next: Next) {

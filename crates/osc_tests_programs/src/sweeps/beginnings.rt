@@ -23,13 +23,13 @@ fn line(alloc: Global, waiting: &Waiting, digits: &[u8]) -> Result<Vec<u8>, Allo
     joined(alloc, inject.as_bytes(), bytes, b"\n")
 }
 
-/// The trace of the script up to where the datagram waits, this line, and what stands behind it.
+/// The trace of the script up to where the datagram waits, this line, and what follows it.
 fn trace_with(alloc: Global, waiting: &Waiting, line: &[u8], after: &[u8]) -> Option<Vec<u8>> {
     let script = joined(alloc, waiting.before, line, after).ok()?;
     trace_of(alloc, &script, false)
 }
 
-/// Whether this line gives nothing where the datagram waits, and the run goes on well behind it.
+/// Whether this line gives nothing where the datagram waits, and the run goes on well after it.
 fn gives_nothing(alloc: Global, waiting: &Waiting, line: &[u8]) -> Option<bool> {
     let without = trace_with(alloc, waiting, b"", b"")?;
     let with = trace_with(alloc, waiting, line, b"")?;

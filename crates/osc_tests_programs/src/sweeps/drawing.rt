@@ -38,7 +38,7 @@ const SET_UP: &[u8] =
     b"put /e none 65\nopen /e\ngrant c1 /log:GET+POST+PUT+DELETE\ngrant c2 /log:GET+POST,/a:GET+PUT+SUB\n\
 grant c3 /log:GET+PUT exp=20\ngrant c4 /a/b:GET+POST+PUT+DELETE nbf=2\nvia c3 p1\nvia c4 p2\n";
 
-/// Lines of events. Behind a `?` stands what is drawn.
+/// Lines of events. After a `?` is what is drawn.
 const EVENTS: [&[u8]; 24] = [
     b"exchange ?c\n",
     b"exchange ?c\n",
@@ -66,7 +66,7 @@ const EVENTS: [&[u8]; 24] = [
     b"inject x ?f 4001?h?h31738165d40f636f6170\n",
 ];
 
-/// What stands between events, now and then.
+/// What is between events, now and then.
 const BETWEEN: [&[u8]; 4] = [b"at ?t\n", b"at ?t\n", b"drop ?k\n", b"skip ?c ?o\n"];
 
 const CLIENTS: [&[u8]; 4] = [b"c1", b"c2", b"c3", b"c4"];
@@ -174,7 +174,7 @@ impl Drawing {
         Ok(())
     }
 
-    /// One event, and at times what stands before it.
+    /// One event, and at times what is before it.
     fn push_event(&mut self, alloc: Global, draws: &mut Draws) -> Result<(), AllocError> {
         if draws.below(6) == 0 {
             let line = draws.one_of(&BETWEEN);

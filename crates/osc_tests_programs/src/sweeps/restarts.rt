@@ -47,7 +47,7 @@ const BY_PROXY: (&str, [&str; 19]) = (
     ],
 );
 
-/// What stands for a delivery behind the restart, where whatever waits comes then.
+/// What stands for a delivery after the restart, where whatever waits comes then.
 fn quietly(line: &str) -> &str {
     if line.starts_with("deliver ") {
         "quiet\n"
@@ -56,7 +56,7 @@ fn quietly(line: &str) -> &str {
     }
 }
 
-/// The run with a restart of the node behind so many of its events. Each datagram of the run comes behind it still, or whatever waits
+/// The run with a restart of the node after so many of its events. Each datagram of the run comes after it still, or whatever waits
 /// in its place, and at last whatever waits.
 fn script(
     alloc: Global,

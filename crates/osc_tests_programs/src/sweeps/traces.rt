@@ -3,7 +3,7 @@
 use osc_simulation::{TraceForm, trace_script};
 use std::alloc::{AllocError, Global};
 
-/// The trace of the script; none where a line of it is bad or memory is wanting.
+/// The trace of the script; none where a line of it is bad or memory runs out.
 pub(crate) fn trace_of(alloc: Global, script: &[u8], with_bytes: bool) -> Option<Vec<u8>> {
     let mut text = Vec::new(alloc);
     let form = TraceForm {
