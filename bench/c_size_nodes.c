@@ -1,23 +1,23 @@
-/* A program with each call of osc.h on the nodes that are named: -DDEVICE alone, or -DDEVICE -DCLIENT -DPROXY. */
-#include <osc.h>
+/* A program with each call of nozzlefern.h on the nodes that are named: -DDEVICE alone, or -DDEVICE -DCLIENT -DPROXY. */
+#include <nozzlefern.h>
 
 typedef void (*any)(void);
 
 static any const CALLS[] = {
 #ifdef DEVICE
-    (any)osc_device_new,    (any)osc_device_open,    (any)osc_device_put,           (any)osc_device_append, (any)osc_device_remove,
-    (any)osc_device_get,    (any)osc_device_next,    (any)osc_device_next_deadline, (any)osc_device_served, (any)osc_device_refused,
-    (any)osc_device_learnt, (any)osc_device_on_tick, (any)osc_device_on_datagram,    (any)osc_device_restart, (any)osc_device_free,
-    (any)osc_device_new_with, (any)osc_device_revoke, (any)osc_device_allow,
+    (any)nzf_device_new,    (any)nzf_device_open,    (any)nzf_device_put,           (any)nzf_device_append, (any)nzf_device_remove,
+    (any)nzf_device_get,    (any)nzf_device_next,    (any)nzf_device_next_deadline, (any)nzf_device_served, (any)nzf_device_refused,
+    (any)nzf_device_learnt, (any)nzf_device_on_tick, (any)nzf_device_on_datagram,    (any)nzf_device_restart, (any)nzf_device_free,
+    (any)nzf_device_revoke, (any)nzf_device_allow,
 #endif
 #ifdef CLIENT
-    (any)osc_client_new,     (any)osc_client_exchange, (any)osc_client_ask,           (any)osc_client_on_datagram, (any)osc_client_result,
-    (any)osc_client_on_tick, (any)osc_client_next,     (any)osc_client_next_deadline, (any)osc_client_context,     (any)osc_client_restart,
-    (any)osc_client_free,
+    (any)nzf_client_new,     (any)nzf_client_exchange, (any)nzf_client_ask,           (any)nzf_client_on_datagram, (any)nzf_client_result,
+    (any)nzf_client_on_tick, (any)nzf_client_next,     (any)nzf_client_next_deadline, (any)nzf_client_context,     (any)nzf_client_restart,
+    (any)nzf_client_free,
 #endif
 #ifdef PROXY
-    (any)osc_proxy_new,  (any)osc_proxy_add_target,    (any)osc_proxy_on_datagram, (any)osc_proxy_on_tick,
-    (any)osc_proxy_next, (any)osc_proxy_next_deadline, (any)osc_proxy_restart,     (any)osc_proxy_free,
+    (any)nzf_proxy_new,  (any)nzf_proxy_add_target,    (any)nzf_proxy_on_datagram, (any)nzf_proxy_on_tick,
+    (any)nzf_proxy_next, (any)nzf_proxy_next_deadline, (any)nzf_proxy_restart,     (any)nzf_proxy_free,
 #endif
     (any)0,
 };

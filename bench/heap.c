@@ -6,7 +6,7 @@
 #include <stdlib.h>
 #include <string.h>
 
-#include "osc_heap.h"
+#include "nozzlefern_heap.h"
 
 typedef struct tried { bool ok; void *block; } tried;
 tried rattle_alloc(size_t size, size_t align);
@@ -60,7 +60,7 @@ int main(void) {
         }
     }
     for (int i = 0; i < BLOCKS; i++) if (blocks[i] != NULL) { look(blocks[i], sizes[i], (unsigned char)(i + 1)); rattle_dealloc(blocks[i]); }
-    assert(osc_heap_used() == 0);
-    printf("heap: 1,000,000 blocks taken, resized and given back; %u refused; at most %zu bytes\n", refused, osc_heap_most());
+    assert(nzf_heap_used() == 0);
+    printf("heap: 1,000,000 blocks taken, resized and given back; %u refused; at most %zu bytes\n", refused, nzf_heap_most());
     return 0;
 }

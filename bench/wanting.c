@@ -1,20 +1,20 @@
-/* Nodes without memory, by osc.h. Each is brought to a state with ample memory in which something is open; then the heap is held to what it has and k bytes
-   more, for each k from 0 to MOST by STEP; time goes on by ticks, and what is sent is lost. Whatever k is, each tick answers OSC_DONE and what was open ends. Then the heap is free
+/* Nodes without memory, by nozzlefern.h. Each is brought to a state with ample memory in which something is open; then the heap is held to what it has and k bytes
+   more, for each k from 0 to MOST by STEP; time goes on by ticks, and what is sent is lost. Whatever k is, each tick answers NZF_DONE and what was open ends. Then the heap is free
    again, and a new request is answered. Then what each node holds at the most. */
 #include "measured.h"
 
-#include <osc.h>
+#include <nozzlefern.h>
 
-#define TEXT(text) (const uint8_t *)(text), sizeof(text) - 1
+#define TEXT(text) (text), sizeof(text) - 1
 
 enum { DATAGRAM = 1152, MOST = 4000, STEP = 16, TICK = 500, WAIT = 300000 };
 
-static const osc_key KEY = {{1}};
-static const osc_peer DEVICE_AT = {{127, 0, 0, 1}, 5683}, PROXY_AT = {{127, 0, 0, 1}, 5690};
+static const nzf_key KEY = {{1}};
+static const nzf_peer DEVICE_AT = {{127, 0, 0, 1}, 5683}, PROXY_AT = {{127, 0, 0, 1}, 5690};
 static uint64_t now;
 static uint8_t bytes[DATAGRAM];
 static size_t length;
-static osc_peer to;
+static nzf_peer to;
 
 static void must(int holds, const char *what) {
     if (holds) return;
@@ -23,9 +23,9 @@ static void must(int holds, const char *what) {
 }
 
 /* Always the same ones (xorshift64*). */
-static osc_draw draw(void) {
+static nzf_draw draw(void) {
     static uint64_t state = 1;
-    osc_draw it;
+    nzf_draw it;
     for (size_t at = 0; at < sizeof it.bytes; at++) {
         state ^= state >> 12;
         state ^= state << 25;
@@ -35,13 +35,13 @@ static osc_draw draw(void) {
     return it;
 }
 
-static osc_draws two_draws(void) {
-    osc_draws it = {draw(), draw()};
+static nzf_draws two_draws(void) {
+    nzf_draws it = {draw(), draw()};
     return it;
 }
 
-static osc_peer peer(unsigned number) {
-    osc_peer it = {{10, 0, 0, 1}, 0};
+static nzf_peer peer(unsigned number) {
+    nzf_peer it = {{10, 0, 0, 1}, 0};
     it.port = (uint16_t)(6000 + number);
     return it;
 }
@@ -67,82 +67,120 @@ static int32_t leave(heap *of, int32_t told) {
 
 /* ---- a device, and a client of it */
 
-static osc_device device;
-static osc_client client;
-static osc_proxy proxy;
+static nzf_device device;
+static nzf_client client;
+static nzf_proxy proxy;
 
 enum { LONG = 4096 };
 static uint8_t token[LONG];
 static size_t token_length;
 
 /* Mints a token of this number, with a secret, an id context and a scope. */
-static int32_t mint(uint8_t number, const uint8_t *secret, size_t secret_length, const uint8_t *context, size_t context_length, const char *scope) {
-    osc_iv iv = {{0}};
-    iv.bytes[0] = number;
-    return osc_token_mint(&KEY, TEXT("door"), &number, 1, secret, secret_length, context, context_length, context_length > 0, (const uint8_t *)scope,
-                          strlen(scope), 0, 0, 10, &iv, token, sizeof token, &token_length);
+static int32_t mint(uint8_t number, nzf_bytes secret, nzf_bytes context, const char *scope) {
+    nzf_claims it = NZF_CLAIMS;
+    it.key = KEY;
+    it.iv.bytes[0] = number;
+    it.audience = nzf_text("door");
+    it.id = nzf_bytes_of(&number, 1);
+    it.secret = secret;
+    it.context = context;
+    it.has_context = context.length > 0;
+    it.scope = nzf_text(scope);
+    return nzf_token_mint(&it, token, sizeof token, &token_length);
 }
 
 static void new_device(const char *own) {
-    osc_draw it = draw();
-    osc_draws draws = two_draws();
+    nzf_device_settings its = NZF_DEVICE_SETTINGS;
+    nzf_draw it = draw();
+    nzf_draws draws = two_draws();
     uint8_t code;
-    must(AT(device_heap, osc_device_new(&device, &KEY, TEXT("door"), TEXT("/e:GET"), (const uint8_t *)own, strlen(own), &it)) == OSC_DONE, "device_new");
-    must(AT(device_heap, osc_device_open(&device, now, &draws, &code)) == OSC_DONE, "device_open");
+    its.key = KEY;
+    its.audience = nzf_text("door");
+    its.unprotected = nzf_text("/e:GET");
+    its.own = nzf_text(own);
+    must(AT(device_heap, nzf_device_new(&device, &its, &it)) == NZF_DONE, "device_new");
+    must(AT(device_heap, nzf_device_open(&device, now, &draws, &code)) == NZF_DONE, "device_open");
+}
+
+/* The device's own PUT. */
+static int32_t put(const void *path, size_t path_length, int32_t format, const void *payload, size_t payload_length, uint8_t *code) {
+    nzf_draws draws = two_draws();
+    nzf_resource it = NZF_RESOURCE;
+    it.path = nzf_bytes_of(path, path_length);
+    it.format = format;
+    it.payload = nzf_bytes_of(payload, payload_length);
+    return AT(device_heap, nzf_device_put(&device, now, &it, &draws, code));
+}
+
+/* A client of the token that was minted last, behind this hop. */
+static int32_t client_behind(nzf_peer hop, nzf_bytes host, nzf_bytes secret, nzf_bytes context) {
+    nzf_client_settings it = NZF_CLIENT_SETTINGS;
+    it.next_hop = hop;
+    it.host = host;
+    it.port = 5683;
+    it.token = nzf_bytes_of(token, token_length);
+    it.secret = secret;
+    it.context = context;
+    it.has_context = context.length > 0;
+    return AT(client_heap, nzf_client_new(&client, &it));
 }
 
 static void new_client(void) {
-    uint8_t secret = 7;
-    must(mint(7, &secret, 1, (const uint8_t *)"", 0, "/e:GET+PUT") == OSC_DONE, "token_mint");
-    must(AT(client_heap, osc_client_new(&client, &DEVICE_AT, TEXT(""), 5683, token, token_length, &secret, 1, TEXT(""), (const uint8_t *)"", 0, 0, 10)) == OSC_DONE, "client_new");
+    uint8_t byte = 7;
+    nzf_bytes secret = nzf_bytes_of(&byte, 1), none = NZF_NO_BYTES;
+    must(mint(7, secret, none, "/e:GET+PUT") == NZF_DONE, "token_mint");
+    must(client_behind(DEVICE_AT, none, secret, none) == NZF_DONE, "client_new");
 }
 
 static void begin_exchange(void) {
-    osc_draw it = draw();
-    must(AT(client_heap, osc_client_exchange(&client, now, &it)) == OSC_DONE, "client_exchange");
+    nzf_draw it = draw();
+    must(AT(client_heap, nzf_client_exchange(&client, now, &it)) == NZF_DONE, "client_exchange");
 }
 
-static void begin_ask(uint8_t method, const uint8_t *path, size_t path_length, const uint8_t *payload, size_t payload_length) {
-    osc_draw it = draw();
-    osc_options none = {-1, -1, 0, 0, 0, {0}};
-    must(AT(client_heap, osc_client_ask(&client, now, method, path, path_length, &none, payload, payload_length, &it)) == OSC_DONE, "client_ask");
+static void begin_ask(uint8_t method, const void *path, size_t path_length, const void *payload, size_t payload_length) {
+    nzf_draw it = draw();
+    nzf_request asked = NZF_REQUEST;
+    asked.method = method;
+    asked.path = nzf_bytes_of(path, path_length);
+    asked.payload = nzf_bytes_of(payload, payload_length);
+    must(AT(client_heap, nzf_client_ask(&client, now, &asked, &it)) == NZF_DONE, "client_ask");
 }
 
 /* What waits at the client goes to the device and its answer back. What the client learns is answered, or 0. */
-static osc_result learnt_by(const osc_peer *client_at) {
+static nzf_result learnt_by(const nzf_peer *client_at) {
     static uint8_t payload[DATAGRAM];
-    osc_result result = {0, 0, -1, 0};
-    osc_draw it = draw();
-    must(AT(client_heap, osc_client_next(&client, &to, bytes, sizeof bytes, &length)) == OSC_DONE, "client_next");
-    must(AT(device_heap, osc_device_on_datagram(&device, now, client_at, bytes, length, &it)) == OSC_DONE, "device_on_datagram");
-    must(AT(device_heap, osc_device_next(&device, &to, bytes, sizeof bytes, &length)) == OSC_DONE, "device_next");
-    must(AT(client_heap, osc_client_on_datagram(&client, now, &DEVICE_AT, bytes, length)) == OSC_DONE, "client_on_datagram");
-    if (AT(client_heap, osc_client_result(&client, &result, payload, sizeof payload)) != OSC_DONE) result.what = 0;
+    nzf_result result = {0, 0, -1, 0};
+    nzf_draw it = draw();
+    must(AT(client_heap, nzf_client_next(&client, &to, bytes, sizeof bytes, &length)) == NZF_DONE, "client_next");
+    must(AT(device_heap, nzf_device_on_datagram(&device, now, client_at, bytes, length, &it)) == NZF_DONE, "device_on_datagram");
+    must(AT(device_heap, nzf_device_next(&device, &to, bytes, sizeof bytes, &length)) == NZF_DONE, "device_next");
+    must(AT(client_heap, nzf_client_on_datagram(&client, now, &DEVICE_AT, bytes, length)) == NZF_DONE, "client_on_datagram");
+    if (AT(client_heap, nzf_client_result(&client, &result, payload, sizeof payload)) != NZF_DONE) result.what = 0;
     return result;
 }
 
 static int answered(uint8_t code) {
-    osc_peer at = peer(0);
-    osc_result it = learnt_by(&at);
-    return it.what == OSC_ANSWER && it.code == code;
+    nzf_peer at = peer(0);
+    nzf_result it = learnt_by(&at);
+    return it.what == NZF_RESULT_ANSWER && it.code == code;
 }
 
 static int made(void) {
-    osc_peer at = peer(0);
-    return learnt_by(&at).what == OSC_MADE;
+    nzf_peer at = peer(0);
+    return learnt_by(&at).what == NZF_RESULT_MADE;
 }
 
 /* ---- the client: what nobody answers ends as a time-out, once */
 
-/* How often it ended so, or -1 where a tick answered anything but OSC_DONE. */
+/* How often it ended so, or -1 where a tick answered anything but NZF_DONE. */
 static int client_waits(void) {
     int timed_out = 0;
-    osc_result result;
+    nzf_result result;
     for (uint64_t end = now + WAIT; now < end;) {
         now += TICK;
-        if (AT(client_heap, osc_client_on_tick(&client, now)) != OSC_DONE) return -1;
-        if (AT(client_heap, osc_client_result(&client, &result, bytes, sizeof bytes)) == OSC_DONE && result.what == OSC_TIMED_OUT) timed_out++;
-        while (AT(client_heap, osc_client_next(&client, &to, bytes, sizeof bytes, &length)) == OSC_DONE) continue;
+        if (AT(client_heap, nzf_client_on_tick(&client, now)) != NZF_DONE) return -1;
+        if (AT(client_heap, nzf_client_result(&client, &result, bytes, sizeof bytes)) == NZF_DONE && result.what == NZF_RESULT_TIMED_OUT) timed_out++;
+        while (AT(client_heap, nzf_client_next(&client, &to, bytes, sizeof bytes, &length)) == NZF_DONE) continue;
     }
     return timed_out;
 }
@@ -162,9 +200,9 @@ static void client_asks(void) {
 /* The device acknowledges the request, and sends no answer. */
 static void client_acknowledged(void) {
     client_asks();
-    must(AT(client_heap, osc_client_next(&client, &to, bytes, sizeof bytes, &length)) == OSC_DONE, "client_next");
+    must(AT(client_heap, nzf_client_next(&client, &to, bytes, sizeof bytes, &length)) == NZF_DONE, "client_next");
     uint8_t acknowledgement[] = {0x60, 0, bytes[2], bytes[3]};
-    must(AT(client_heap, osc_client_on_datagram(&client, now, &DEVICE_AT, acknowledgement, sizeof acknowledgement)) == OSC_DONE, "client_on_datagram");
+    must(AT(client_heap, nzf_client_on_datagram(&client, now, &DEVICE_AT, acknowledgement, sizeof acknowledgement)) == NZF_DONE, "client_on_datagram");
 }
 
 static int client_ends(void) { return client_waits() == 1; }
@@ -183,13 +221,11 @@ static void device_lost(void) {
     uint8_t code;
     for (size_t more = 0; more < 8 * MOST; more += 8) {
         new_device("/e:GET+PUT,/d:PUT+SUB");
-        osc_draws draws = two_draws();
-        must(AT(device_heap, osc_device_put(&device, now, TEXT("/e"), -1, TEXT("before"), &draws, &code)) == OSC_DONE, "device_put");
-        draws = two_draws();
+        must(put(TEXT("/e"), -1, TEXT("before"), &code) == NZF_DONE, "device_put");
         cap = live + more;
-        int32_t told = AT(device_heap, osc_device_put(&device, now, TEXT("/e"), -1, TEXT("after"), &draws, &code));
+        int32_t told = put(TEXT("/e"), -1, TEXT("after"), &code);
         cap = SIZE_MAX;
-        if (told == OSC_LOST) return;
+        if (told == NZF_LOST) return;
     }
     must(0, "a put that is lost");
 }
@@ -199,19 +235,18 @@ static int device_ends(void) {
     uint8_t code;
     int told = 0;
     for (uint64_t end = now + WAIT; now < end;) {
-        osc_draw it = draw();
+        nzf_draw it = draw();
         now += TICK;
-        if (AT(device_heap, osc_device_on_tick(&device, now, &it)) != OSC_DONE) return 0;
-        if (AT(device_heap, osc_device_learnt(&device, &code)) != OSC_NOTHING) told++;
-        while (AT(device_heap, osc_device_next(&device, &to, bytes, sizeof bytes, &length)) == OSC_DONE) continue;
+        if (AT(device_heap, nzf_device_on_tick(&device, now, &it)) != NZF_DONE) return 0;
+        if (AT(device_heap, nzf_device_learnt(&device, &code)) != NZF_NOTHING) told++;
+        while (AT(device_heap, nzf_device_next(&device, &to, bytes, sizeof bytes, &length)) == NZF_DONE) continue;
     }
-    return told <= 1 && AT(device_heap, osc_device_next_deadline(&device, &deadline)) == OSC_NOTHING;
+    return told <= 1 && AT(device_heap, nzf_device_next_deadline(&device, &deadline)) == NZF_NOTHING;
 }
 
 static int device_again(void) {
     uint8_t code;
-    osc_draws draws = two_draws();
-    if (AT(device_heap, osc_device_put(&device, now, TEXT("/e"), -1, TEXT("again"), &draws, &code)) != OSC_DONE) return 0;
+    if (put(TEXT("/e"), -1, TEXT("again"), &code) != NZF_DONE) return 0;
     return code == 0x44;
 }
 
@@ -224,41 +259,41 @@ static uint16_t next_id;
 /* A GET that is to be forwarded, from a client of this number, with a token of its own. */
 static int32_t client_gets(unsigned from, uint8_t kind) {
     uint8_t get[] = {(uint8_t)(kind | 2), 1, 0, 0, (uint8_t)(from >> 8), (uint8_t)from, 0x34, 'd', 'o', 'o', 'r', 0x81, 'e', 0xd4, 15, 'c', 'o', 'a', 'p'};
-    osc_peer at = peer(from);
-    osc_draw it = draw();
+    nzf_peer at = peer(from);
+    nzf_draw it = draw();
     next_id++;
     get[2] = (uint8_t)(next_id >> 8);
     get[3] = (uint8_t)next_id;
-    return AT(proxy_heap, osc_proxy_on_datagram(&proxy, now, &at, get, sizeof get, &it));
+    return AT(proxy_heap, nzf_proxy_on_datagram(&proxy, now, &at, get, sizeof get, &it));
 }
 
 static void proxy_waits(void) {
-    must(AT(proxy_heap, osc_proxy_new(&proxy)) == OSC_DONE && AT(proxy_heap, osc_proxy_add_target(&proxy, TEXT("door"), 5683, &DEVICE_AT)) == OSC_DONE, "proxy_new");
+    must(AT(proxy_heap, nzf_proxy_new(&proxy)) == NZF_DONE && AT(proxy_heap, nzf_proxy_add_target(&proxy, TEXT("door"), 5683, &DEVICE_AT)) == NZF_DONE, "proxy_new");
     for (unsigned at = 0; at < WAITING; at++) {
-        must(client_gets(at, CON) == OSC_DONE, "proxy_on_datagram");
-        while (AT(proxy_heap, osc_proxy_next(&proxy, &to, bytes, sizeof bytes, &length)) == OSC_DONE) continue;
+        must(client_gets(at, CON) == NZF_DONE, "proxy_on_datagram");
+        while (AT(proxy_heap, nzf_proxy_next(&proxy, &to, bytes, sizeof bytes, &length)) == NZF_DONE) continue;
     }
 }
 
 static int proxy_ends(void) {
     for (uint64_t end = now + WAIT; now < end;) {
-        osc_draw it = draw();
+        nzf_draw it = draw();
         now += TICK;
-        if (AT(proxy_heap, osc_proxy_on_tick(&proxy, now, &it)) != OSC_DONE) return 0;
-        while (AT(proxy_heap, osc_proxy_next(&proxy, &to, bytes, sizeof bytes, &length)) == OSC_DONE) continue;
+        if (AT(proxy_heap, nzf_proxy_on_tick(&proxy, now, &it)) != NZF_DONE) return 0;
+        while (AT(proxy_heap, nzf_proxy_next(&proxy, &to, bytes, sizeof bytes, &length)) == NZF_DONE) continue;
     }
     return 1;
 }
 
-static int is_peer(const osc_peer *one, const osc_peer *other) { return memcmp(one->address, other->address, 4) == 0 && one->port == other->port; }
+static int is_peer(const nzf_peer *one, const nzf_peer *other) { return memcmp(one->address, other->address, 4) == 0 && one->port == other->port; }
 
 /* The target answers what was forwarded to it. Whether that goes to the client. */
 static int target_answers(unsigned from, uint8_t kind) {
-    osc_draw it = draw();
-    osc_peer at = peer(from);
+    nzf_draw it = draw();
+    nzf_peer at = peer(from);
     int forwarded = 0;
     uint8_t answer[DATAGRAM] = {0};
-    while (AT(proxy_heap, osc_proxy_next(&proxy, &to, bytes, sizeof bytes, &length)) == OSC_DONE) {
+    while (AT(proxy_heap, nzf_proxy_next(&proxy, &to, bytes, sizeof bytes, &length)) == NZF_DONE) {
         if (!is_peer(&to, &DEVICE_AT) || length < 12 || bytes[1] != 1) continue;
         forwarded++;
         /* The same message ID and token; an acknowledgement where that is wanted. */
@@ -269,19 +304,19 @@ static int target_answers(unsigned from, uint8_t kind) {
         answer[13] = '1';
     }
     if (forwarded != 1) return 0;
-    if (AT(proxy_heap, osc_proxy_on_datagram(&proxy, now, &DEVICE_AT, answer, 14, &it)) != OSC_DONE) return 0;
+    if (AT(proxy_heap, nzf_proxy_on_datagram(&proxy, now, &DEVICE_AT, answer, 14, &it)) != NZF_DONE) return 0;
     int came = 0;
-    while (AT(proxy_heap, osc_proxy_next(&proxy, &to, bytes, sizeof bytes, &length)) == OSC_DONE) came += is_peer(&to, &at) && length > 1 && bytes[1] == 0x45;
+    while (AT(proxy_heap, nzf_proxy_next(&proxy, &to, bytes, sizeof bytes, &length)) == NZF_DONE) came += is_peer(&to, &at) && length > 1 && bytes[1] == 0x45;
     return came == 1;
 }
 
 /* A confirmable request is forwarded at once and answered, and then as many exchanges open as there may be: so nothing of the others is left. */
 static int proxy_again(void) {
-    if (client_gets(100, CON) != OSC_DONE || !target_answers(100, CON)) return 0;
+    if (client_gets(100, CON) != NZF_DONE || !target_answers(100, CON)) return 0;
     for (unsigned at = 0; at < EXCHANGES; at++) {
-        if (client_gets(200 + at, NON) != OSC_DONE) return 0;
+        if (client_gets(200 + at, NON) != NZF_DONE) return 0;
         int forwarded = 0;
-        while (AT(proxy_heap, osc_proxy_next(&proxy, &to, bytes, sizeof bytes, &length)) == OSC_DONE) forwarded += is_peer(&to, &DEVICE_AT);
+        while (AT(proxy_heap, nzf_proxy_next(&proxy, &to, bytes, sizeof bytes, &length)) == NZF_DONE) forwarded += is_peer(&to, &DEVICE_AT);
         if (forwarded != 1) return 0;
     }
     return 1;
@@ -350,69 +385,68 @@ static int new_holder(uint8_t number) {
     memset(secret, number, sizeof secret);
     memset(context, number, sizeof context);
     scope_of(paths_of_holder);
-    if (mint(number, secret, sizeof secret, context, sizeof context, scope) != OSC_DONE) return 0;
-    return AT(client_heap, osc_client_new(&client, &DEVICE_AT, TEXT(""), 5683, token, token_length, secret, sizeof secret, TEXT(""), context, sizeof context, 1, 10)) == OSC_DONE;
+    nzf_bytes its_secret = nzf_bytes_of(secret, sizeof secret), its_context = nzf_bytes_of(context, sizeof context);
+    if (mint(number, its_secret, its_context, scope) != NZF_DONE) return 0;
+    return client_behind(DEVICE_AT, nzf_text(""), its_secret, its_context) == NZF_DONE;
 }
 
 /* Whether the client's post is sent, and makes a context. */
 static int holder_posts(unsigned number) {
-    osc_result it;
-    osc_peer at = peer(number);
+    nzf_result it;
+    nzf_peer at = peer(number);
     begin_exchange();
-    if (AT(client_heap, osc_client_result(&client, &it, bytes, sizeof bytes)) == OSC_DONE) return 0;
-    return learnt_by(&at).what == OSC_MADE;
+    if (AT(client_heap, nzf_client_result(&client, &it, bytes, sizeof bytes)) == NZF_DONE) return 0;
+    return learnt_by(&at).what == NZF_RESULT_MADE;
 }
 
 static void device_worst(void) {
     uint8_t path[264], payload[512], code;
     memset(payload, 'p', sizeof payload);
     now += 1000000;
-    osc_device_free(&device);
-    osc_client_free(&client);
+    nzf_device_free(&device);
+    nzf_client_free(&client);
     device_heap = (heap){0, 0};
     new_device("/xxxxxxxxxxxxxxxxxxxxxxxxxxxxxxxx:GET+PUT+POST+DELETE+SUB");
     most_row("a device, with its own context", &device_heap);
     for (unsigned at = 0; at < 1024; at++) {
-        osc_draws draws = two_draws();
-        must(AT(device_heap, osc_device_put(&device, now, path, long_path(path, at), 60, payload, sizeof payload, &draws, &code)) == OSC_DONE && code == 0x41, "device_put");
+        must(put(path, long_path(path, at), 60, payload, sizeof payload, &code) == NZF_DONE && code == 0x41, "device_put");
     }
     most_row("with 1,024 resources of 512 bytes, at the longest paths", &device_heap);
     for (paths_of_holder = 200; paths_of_holder > 0; paths_of_holder--) {
         int fits = new_holder(1) && holder_posts(1);
-        osc_client_free(&client);
+        nzf_client_free(&client);
         if (fits) break;
     }
     /* Each holder has two contexts: one under which it asked, and one of its last post. Its eight newest posts are known. Its client isn't held. */
     size_t before = device_heap.held;
     for (unsigned number = 1; number < 64; number++) {
         must(new_holder((uint8_t)number) && holder_posts(number), "a holder");
-        osc_peer at = peer(number);
+        nzf_peer at = peer(number);
         begin_ask(1, path, long_path(path, number), (const uint8_t *)"", 0);
         must(learnt_by(&at).code == 0x45, "a GET");
         for (unsigned more = 0; more < 8; more++) must(holder_posts(number), "another post");
-        osc_client_free(&client);
+        nzf_client_free(&client);
     }
     printf("    (a token's scope has %u paths; each token id takes %zu bytes)\n", paths_of_holder + 1, (device_heap.held - before) / 63);
     most_row("with 64 token ids, two contexts and eight known posts each", &device_heap);
     /* Answers for repeats: each as long as an answer is. */
     must(new_holder(63) && holder_posts(63), "a holder");
     for (unsigned number = 0; number < 64; number++) {
-        osc_peer at = peer(63);
+        nzf_peer at = peer(63);
         begin_ask(1, path, long_path(path, number), (const uint8_t *)"", 0);
         must(learnt_by(&at).code == 0x45, "a GET");
     }
     begin_ask(3, path, long_path(path, 3), payload, sizeof payload);
-    osc_peer at = peer(63);
+    nzf_peer at = peer(63);
     must(learnt_by(&at).code == 0x44, "a PUT");
-    osc_client_free(&client);
+    nzf_client_free(&client);
     most_row("with 64 answers for repeats; then a PUT of 512 bytes", &device_heap);
-    osc_draws draws = two_draws();
-    must(AT(device_heap, osc_device_put(&device, now, path, long_path(path, 5), 60, payload, sizeof payload, &draws, &code)) == OSC_DONE, "device_put");
+    must(put(path, long_path(path, 5), 60, payload, sizeof payload, &code) == NZF_DONE, "device_put");
     most_row("and a write of its own of 512 bytes", &device_heap);
     must(new_holder(62) && holder_posts(62), "one more post");
-    osc_client_free(&client);
+    nzf_client_free(&client);
     most_row("and one more post", &device_heap);
-    osc_device_free(&device);
+    nzf_device_free(&device);
 }
 
 /* A client with the longest token, secret, salt, id context and host, which heard 64 requests that it refuses, and asks for as much as fits. */
@@ -423,81 +457,87 @@ static void client_worst(void) {
     new_device("/xxxxxxxxxxxxxxxxxxxxxxxxxxxxxxxx:GET+PUT+POST+DELETE+SUB");
     memset(payload, 'p', sizeof payload);
     uint8_t code;
-    osc_draws draws = two_draws();
-    must(AT(device_heap, osc_device_put(&device, now, path, long_path(path, 1), 60, payload, 512, &draws, &code)) == OSC_DONE, "device_put");
+    must(put(path, long_path(path, 1), 60, payload, 512, &code) == NZF_DONE, "device_put");
     memset(secret, 9, sizeof secret);
     memset(context, 9, sizeof context);
     memset(host, 'h', sizeof host);
+    nzf_bytes its_secret = nzf_bytes_of(secret, sizeof secret), its_context = nzf_bytes_of(context, sizeof context);
     /* The longest scope with which the post fits beside the longest host. */
     unsigned paths = 200;
     for (;; paths--) {
         must(paths > 0, "a client's token");
         scope_of(paths);
-        if (mint(9, secret, sizeof secret, context, sizeof context, scope) != OSC_DONE) continue;
-        osc_client_free(&client);
+        if (mint(9, its_secret, its_context, scope) != NZF_DONE) continue;
+        nzf_client_free(&client);
         client_heap = (heap){0, 0};
-        must(AT(client_heap, osc_client_new(&client, &PROXY_AT, host, sizeof host, 5683, token, token_length, secret, sizeof secret, TEXT(""), context, sizeof context, 1, 10)) == OSC_DONE, "client_new");
+        must(client_behind(PROXY_AT, nzf_bytes_of(host, sizeof host), its_secret, its_context) == NZF_DONE, "client_new");
         begin_exchange();
-        osc_result it;
-        if (AT(client_heap, osc_client_result(&client, &it, bytes, sizeof bytes)) != OSC_DONE) break;
+        nzf_result it;
+        if (AT(client_heap, nzf_client_result(&client, &it, bytes, sizeof bytes)) != NZF_DONE) break;
     }
     most_row("a client with the longest token, host and secret, whose post is open", &client_heap);
-    must(AT(client_heap, osc_client_next(&client, &to, bytes, sizeof bytes, &length)) == OSC_DONE, "client_next");
+    must(AT(client_heap, nzf_client_next(&client, &to, bytes, sizeof bytes, &length)) == NZF_DONE, "client_next");
     /* The device is next to it: the options for the proxy are taken out by one. */
-    osc_proxy door = {0};
-    osc_draw it = draw();
-    must(osc_proxy_new(&door) == OSC_DONE && osc_proxy_add_target(&door, host, sizeof host, 5683, &DEVICE_AT) == OSC_DONE, "proxy_new");
-    osc_peer at = peer(1);
+    nzf_proxy door = {0};
+    nzf_draw it = draw();
+    must(nzf_proxy_new(&door) == NZF_DONE && nzf_proxy_add_target(&door, host, sizeof host, 5683, &DEVICE_AT) == NZF_DONE, "proxy_new");
+    nzf_peer at = peer(1);
     static uint8_t went[DATAGRAM];
     size_t went_length;
-    must(osc_proxy_on_datagram(&door, now, &at, bytes, length, &it) == OSC_DONE, "proxy_on_datagram");
-    do must(osc_proxy_next(&door, &to, went, sizeof went, &went_length) == OSC_DONE, "proxy_next");
+    must(nzf_proxy_on_datagram(&door, now, &at, bytes, length, &it) == NZF_DONE, "proxy_on_datagram");
+    do must(nzf_proxy_next(&door, &to, went, sizeof went, &went_length) == NZF_DONE, "proxy_next");
     while (!is_peer(&to, &DEVICE_AT));
-    must(AT(device_heap, osc_device_on_datagram(&device, now, &PROXY_AT, went, went_length, &it)) == OSC_DONE, "device_on_datagram");
-    must(AT(device_heap, osc_device_next(&device, &to, went, sizeof went, &went_length)) == OSC_DONE, "device_next");
-    must(osc_proxy_on_datagram(&door, now, &DEVICE_AT, went, went_length, &it) == OSC_DONE, "proxy_on_datagram");
-    do must(osc_proxy_next(&door, &to, went, sizeof went, &went_length) == OSC_DONE, "proxy_next");
+    must(AT(device_heap, nzf_device_on_datagram(&device, now, &PROXY_AT, went, went_length, &it)) == NZF_DONE, "device_on_datagram");
+    must(AT(device_heap, nzf_device_next(&device, &to, went, sizeof went, &went_length)) == NZF_DONE, "device_next");
+    must(nzf_proxy_on_datagram(&door, now, &DEVICE_AT, went, went_length, &it) == NZF_DONE, "proxy_on_datagram");
+    do must(nzf_proxy_next(&door, &to, went, sizeof went, &went_length) == NZF_DONE, "proxy_next");
     while (!is_peer(&to, &at));
-    osc_proxy_free(&door);
-    must(AT(client_heap, osc_client_on_datagram(&client, now, &PROXY_AT, went, went_length)) == OSC_DONE, "client_on_datagram");
+    nzf_proxy_free(&door);
+    must(AT(client_heap, nzf_client_on_datagram(&client, now, &PROXY_AT, went, went_length)) == NZF_DONE, "client_on_datagram");
     uint64_t number;
-    must(AT(client_heap, osc_client_context(&client, &number)) == OSC_DONE, "an exchange");
-    while (AT(client_heap, osc_client_next(&client, &to, bytes, sizeof bytes, &length)) == OSC_DONE) continue;
+    must(AT(client_heap, nzf_client_context(&client, &number)) == NZF_DONE, "an exchange");
+    while (AT(client_heap, nzf_client_next(&client, &to, bytes, sizeof bytes, &length)) == NZF_DONE) continue;
     /* Requests with a critical option that nobody knows, which it refuses: it keeps what it answered. */
     for (unsigned i = 0; i < 64; i++) {
         uint8_t request[] = {0x48, 1, 0, (uint8_t)i, 1, 2, 3, 4, 5, 6, 7, 8, 0xd0, 0xfc};
-        osc_peer from = peer(i);
-        must(AT(client_heap, osc_client_on_datagram(&client, now, &from, request, sizeof request)) == OSC_DONE, "client_on_datagram");
+        nzf_peer from = peer(i);
+        must(AT(client_heap, nzf_client_on_datagram(&client, now, &from, request, sizeof request)) == NZF_DONE, "client_on_datagram");
     }
     most_row("with a context, and 64 answers for repeats", &client_heap);
     size_t most = sizeof payload;
-    osc_options all = {60, 60, 1, 0, 0, {0}};
+    nzf_request asked = NZF_REQUEST;
+    asked.method = NZF_METHOD_PUT;
+    asked.options.format = 60;
+    asked.options.accept = 60;
+    asked.options.if_none_match = 1;
+    asked.path = nzf_bytes_of(path, long_path(path, 1));
     for (;; most--) {
-        osc_result result;
-        must(AT(client_heap, osc_client_ask(&client, now, 3, path, long_path(path, 1), &all, payload, most, &it)) == OSC_DONE, "client_ask");
-        if (AT(client_heap, osc_client_result(&client, &result, bytes, sizeof bytes)) != OSC_DONE) break;
+        nzf_result result;
+        asked.payload = nzf_bytes_of(payload, most);
+        must(AT(client_heap, nzf_client_ask(&client, now, &asked, &it)) == NZF_DONE, "client_ask");
+        if (AT(client_heap, nzf_client_result(&client, &result, bytes, sizeof bytes)) != NZF_DONE) break;
     }
     most_row("and a request as long as fits, which is open", &client_heap);
-    osc_client_free(&client);
-    osc_device_free(&device);
+    nzf_client_free(&client);
+    nzf_device_free(&device);
 }
 
 /* A request of a client that is as long as its forwarded message may be, and what the target answers: as long as a datagram may be. */
 static int32_t long_request(unsigned from, uint8_t kind) {
-    osc_peer at = peer(from);
-    osc_draw it = draw();
+    nzf_peer at = peer(from);
+    nzf_draw it = draw();
     memset(bytes, 'p', sizeof bytes);
     memcpy(bytes, (const uint8_t[]){(uint8_t)(kind | 8), 3, (uint8_t)(++next_id >> 8), (uint8_t)next_id, 1, 2, 3, 4, 5, 6, 7, 8, 0x34, 'd', 'o', 'o', 'r', 0x81, 'e', 0xd4, 15, 'c', 'o', 'a', 'p', 0xff}, 26);
-    return AT(proxy_heap, osc_proxy_on_datagram(&proxy, now, &at, bytes, DATAGRAM, &it));
+    return AT(proxy_heap, nzf_proxy_on_datagram(&proxy, now, &at, bytes, DATAGRAM, &it));
 }
 
 /* Whether it is forwarded, and what the target answers goes to the client, which doesn't acknowledge it. */
 static int long_answer(void) {
-    osc_draw it = draw();
+    nzf_draw it = draw();
     uint8_t answer[DATAGRAM];
     int forwarded = 0;
     memset(answer, 'a', sizeof answer);
-    while (AT(proxy_heap, osc_proxy_next(&proxy, &to, bytes, sizeof bytes, &length)) == OSC_DONE) {
+    while (AT(proxy_heap, nzf_proxy_next(&proxy, &to, bytes, sizeof bytes, &length)) == NZF_DONE) {
         if (!is_peer(&to, &DEVICE_AT)) continue;
         forwarded = 1;
         memcpy(answer, bytes, 12);
@@ -506,42 +546,42 @@ static int long_answer(void) {
         answer[12] = 0xff;
     }
     if (!forwarded) return 0;
-    must(AT(proxy_heap, osc_proxy_on_datagram(&proxy, now, &DEVICE_AT, answer, DATAGRAM, &it)) == OSC_DONE, "proxy_on_datagram");
-    while (AT(proxy_heap, osc_proxy_next(&proxy, &to, bytes, sizeof bytes, &length)) == OSC_DONE) continue;
+    must(AT(proxy_heap, nzf_proxy_on_datagram(&proxy, now, &DEVICE_AT, answer, DATAGRAM, &it)) == NZF_DONE, "proxy_on_datagram");
+    while (AT(proxy_heap, nzf_proxy_next(&proxy, &to, bytes, sizeof bytes, &length)) == NZF_DONE) continue;
     return 1;
 }
 
 static void proxy_worst(void) {
     now += 1000000;
-    osc_proxy_free(&proxy);
+    nzf_proxy_free(&proxy);
     proxy_heap = (heap){0, 0};
-    must(AT(proxy_heap, osc_proxy_new(&proxy)) == OSC_DONE && AT(proxy_heap, osc_proxy_add_target(&proxy, TEXT("door"), 5683, &DEVICE_AT)) == OSC_DONE, "proxy_new");
-    osc_draw it = draw();
-    must(AT(proxy_heap, osc_proxy_on_tick(&proxy, now, &it)) == OSC_DONE, "proxy_on_tick");
+    must(AT(proxy_heap, nzf_proxy_new(&proxy)) == NZF_DONE && AT(proxy_heap, nzf_proxy_add_target(&proxy, TEXT("door"), 5683, &DEVICE_AT)) == NZF_DONE, "proxy_new");
+    nzf_draw it = draw();
+    must(AT(proxy_heap, nzf_proxy_on_tick(&proxy, now, &it)) == NZF_DONE, "proxy_on_tick");
     most_row("a proxy of one target", &proxy_heap);
     /* Answers that their clients don't acknowledge: 17 to each of 63 clients. */
     unsigned answers = 0;
     for (unsigned turn = 0; turn < 17; turn++) {
         for (unsigned from = 0; from < 63; from++) {
-            must(long_request(from, CON) == OSC_DONE, "proxy_on_datagram");
+            must(long_request(from, CON) == NZF_DONE, "proxy_on_datagram");
             if (long_answer()) answers++;
         }
     }
     printf("    (%u answers were forwarded)\n", answers);
     most_row("with answers to 63 clients, which aren't acknowledged", &proxy_heap);
     for (unsigned from = 0; from < EXCHANGES; from++) {
-        must(long_request(100 + from, from < 17 ? CON : NON) == OSC_DONE, "proxy_on_datagram");
-        while (AT(proxy_heap, osc_proxy_next(&proxy, &to, bytes, sizeof bytes, &length)) == OSC_DONE) continue;
+        must(long_request(100 + from, from < 17 ? CON : NON) == NZF_DONE, "proxy_on_datagram");
+        while (AT(proxy_heap, nzf_proxy_next(&proxy, &to, bytes, sizeof bytes, &length)) == NZF_DONE) continue;
     }
     most_row("and 64 exchanges, 17 of them confirmable", &proxy_heap);
     for (uint64_t end = now + 400000; now < end;) {
         it = draw();
         now += TICK;
-        must(AT(proxy_heap, osc_proxy_on_tick(&proxy, now, &it)) == OSC_DONE, "proxy_on_tick");
-        while (AT(proxy_heap, osc_proxy_next(&proxy, &to, bytes, sizeof bytes, &length)) == OSC_DONE) continue;
+        must(AT(proxy_heap, nzf_proxy_on_tick(&proxy, now, &it)) == NZF_DONE, "proxy_on_tick");
+        while (AT(proxy_heap, nzf_proxy_next(&proxy, &to, bytes, sizeof bytes, &length)) == NZF_DONE) continue;
     }
     most_row("400 seconds later, and at the most in between", &proxy_heap);
-    osc_proxy_free(&proxy);
+    nzf_proxy_free(&proxy);
 }
 
 /* What each node may hold at the most, as docs/LIBRARY.md has it: this run comes to within a fiftieth of it, and doesn't pass it. */
@@ -557,9 +597,8 @@ int main(void) {
     setvbuf(stdout, NULL, _IOLBF, 0);
     now = UINT64_C(1700000000000);
     new_device("/e:GET+PUT");
-    osc_draws draws = two_draws();
     uint8_t code;
-    must(AT(device_heap, osc_device_put(&device, now, TEXT("/e"), -1, TEXT("hi"), &draws, &code)) == OSC_DONE, "device_put");
+    must(put(TEXT("/e"), -1, TEXT("hi"), &code) == NZF_DONE, "device_put");
     printf("Nodes whose heap is held to what they have and k bytes more, for k from 0 to %d by %d, through %d seconds of ticks\n", MOST, STEP, WAIT / 1000);
     tried("client: a post that nobody answers", client_posts, client_ends, client_again);
     tried("client: a request that nobody answers", client_asks, client_ends, client_again);
