@@ -1,0 +1,12 @@
+-- The pieces of a line, one after the other.
+use Rattle.std.proofs.Common.{◌≡◌, ℕ, List, ◌++◌, append_assoc, codes}
+use Rattle.osc_log.specs.Code.{line}
+
+pub left_out_pieces : (ms count : List ℕ) → ms ++ (codes " left out " ++ (count ++ codes " refusals\n")) ≡ line (ms ++ codes " left out " ++ count ++ codes " refusals")
+left_out_pieces ms count = simp append_assoc
+
+pub refused_pieces : (code why why-is : List ℕ) → why ≡ why-is → codes "refused " ++ (code ++ (codes ": " ++ why)) ≡ codes "refused " ++ code ++ codes ": " ++ why-is
+refused_pieces code why why-is e = rw e (simp append_assoc)
+
+pub who_pieces : (ms peer peer-is : List ℕ) → peer ≡ peer-is → ms ++ (codes " " ++ (peer ++ codes " ")) ≡ ms ++ codes " " ++ peer-is ++ codes " "
+who_pieces ms peer peer-is e = rw e (simp append_assoc)

@@ -1,0 +1,46 @@
+-- The lines of what failed.
+use Rattle.std.specs.Prelude.{◌≡◌, ◌⊎◌, ℕ, List, ◌++◌, Option, Some, None, codes, decimal}
+use Rattle.serde_json.specs.Data.{Members, no_members, put, string}
+use Rattle.osc_log.specs.Code.{line}
+use Rattle.osc_log.specs.Line.{begun_members, object_line}
+use Rattle.osc_log.specs.declared.form.Form.{Form}
+use Rattle.osc_log.specs.declared.form.Form.TheVariants.{Text, Json}
+
+-- ---- what is told without memory
+
+-- the words alone, or an object with the time. Neither a time nor these words have anything that JSON escapes.
+abbrev pub bare_text : Form → List ℕ → List ℕ → List ℕ
+bare_text Text time words = line words
+bare_text Json time words = line (codes "{\"level\":\"fault\",\"time\":\"" ++ time ++ codes "\",\"why\":\"" ++ words ++ codes "\"}")
+
+-- what is told of a turn for whose lines there was no memory
+abbrev pub untold_text : Form → List ℕ → List ℕ
+untold_text form time = bare_text form time (codes "out of memory: what a step did is not told")
+
+-- what is told where there was no memory for a step
+abbrev pub lost_text : Form → List ℕ → List ℕ
+lost_text form time = bare_text form time (codes "out of memory: what came is lost")
+
+-- ---- faults in words
+
+-- "level", "time" where there is one, and "why"
+abbrev pub fault_members : Option (List ℕ) → List ℕ → Members
+fault_members None words = put (codes "why") (string words) (put (codes "level") (string (codes "fault")) no_members)
+fault_members (Some time) words = put (codes "why") (string words) (begun_members time (codes "fault"))
+
+abbrev pub fault_text : Form → Option (List ℕ) → List ℕ → List ℕ
+fault_text Text time words = line words
+fault_text Json time words = object_line (fault_members time words)
+
+-- N lines could not be written
+abbrev pub dropped_text : Form → List ℕ → ℕ → List ℕ
+dropped_text form time count = fault_text form (Some time) (decimal count ++ codes " lines could not be written")
+
+-- what is told where there was no memory to say why settings are none
+abbrev pub unsaid_text : Form → List ℕ
+unsaid_text form = fault_text form None (codes "out of memory: why the settings are bad is not told")
+
+-- what is told of settings that are none, in these words where there are any; there is no time yet
+abbrev pub IsUnreadText : Form → Option (List ℕ) → List ℕ → Type 0
+IsUnreadText form (Some words) text = (text ≡ fault_text form None words) ⊎ (text ≡ unsaid_text form)
+IsUnreadText form None text = text ≡ unsaid_text form

@@ -1,0 +1,50 @@
+-- The lines of text by which a node tells what a turn did: one for each datagram that its step sends.
+use Rattle.std.specs.Prelude.{ℕ, List, ◌++◌, Option, Some, None, Result, Ok, Err, codes, decimal}
+use Rattle.osc_model.specs.{method_of}
+use Rattle.osc_model.specs.declared.code.Code.{Code}
+use Rattle.osc_model.specs.declared.node.Moment.{Moment}
+use Rattle.osc_model.specs.declared.node.Peer.{Peer}
+use Rattle.osc_model.specs.declared.request.Request.{Request}
+use Rattle.osc_model.specs.declared.step.Datagram.{Datagram}
+use Rattle.osc_model.specs.declared.step.Entry.{Entry}
+use Rattle.osc_model.specs.declared.step.RefusedRequest.{RefusedRequest}
+use Rattle.osc_options.specs.{read_request}
+use Rattle.osc_log.specs.Code.{code_text, line}
+use Rattle.osc_log.specs.Turns.{Turn, code_in}
+use Rattle.osc_log.specs.Words.{code_words, method_text, path_text, peer_text, reason_words}
+
+-- WHY (NUMBER), or WHY where the code tells it
+abbrev pub why_text : Code → Option ℕ → List ℕ
+why_text why None = code_words why.0
+why_text why (Some number) = reason_words number ++ codes " (" ++ decimal number ++ codes ")"
+
+-- refused CODE: WHY
+abbrev pub refused_text : RefusedRequest → List ℕ
+refused_text refused = codes "refused " ++ code_text refused.code.0 ++ codes ": " ++ why_text refused.code refused.reason
+
+-- METHOD PATH, or what is told of a text that is no request
+abbrev pub asked_text : Result Request Code → List ℕ
+asked_text (Ok request) = method_text request.code (method_of request.code) ++ codes " " ++ path_text request.path
+asked_text (Err why) = codes "what is no request"
+
+-- served METHOD PATH: CODE
+abbrev pub served_text : Entry → List ℕ
+served_text entry = codes "served " ++ asked_text (read_request entry.plaintext) ++ codes ": " ++ code_text entry.reply.code.0
+
+-- what a step refused or served, or else the code of what it sent
+abbrev pub what_text : Option RefusedRequest → Option Entry → List ℕ → List ℕ
+what_text (Some refused) served bytes = refused_text refused
+what_text None (Some entry) bytes = served_text entry
+what_text None None bytes = codes "sent " ++ code_text (code_in bytes)
+
+-- MOMENT A.B.C.D:PORT
+abbrev pub who_text : Moment → Peer → List ℕ
+who_text now peer = decimal now.ms ++ codes " " ++ peer_text peer ++ codes " "
+
+-- MOMENT A.B.C.D:PORT WHAT
+abbrev pub line_text : Turn → Datagram → List ℕ
+line_text turn datagram = line (who_text turn.now datagram.to ++ what_text turn.step.notes.refused turn.step.notes.served datagram.bytes)
+
+-- MOMENT left out N refusals
+abbrev pub left_out_text : Moment → ℕ → List ℕ
+left_out_text now count = line (decimal now.ms ++ codes " left out " ++ decimal count ++ codes " refusals")

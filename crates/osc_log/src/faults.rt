@@ -1,0 +1,127 @@
+//! The lines of what failed.
+ghost use Rattle.std.specs.Prelude.{◌≡◌, ◌≤◌, ◌++◌, IfOk, Some, None, codes, decimal, length, option_map, string_bytes};
+ghost use Rattle.osc_log.specs.Faults as spec;
+ghost use Rattle.osc_log.specs.Inner.Objects.{members_of};
+
+use crate::form::Form;
+use crate::object::Object;
+use arrayvec::ArrayString;
+use std::alloc::{AllocError, Global};
+
+// ---- without memory
+
+/// There was no memory for a step. Takes none itself.
+pub(crate) fn lost_line(form: Form, time: &str) -> ArrayString<128>
+    requires { length time.now ≤ 33 }
+    ensures { result.bytes ≡ spec.lost_text form time.now }
+{
+    bare_line(form, time, "out of memory: what came is lost")
+}
+
+/// There was no memory for the lines of a turn. Takes none itself.
+pub(crate) fn untold_line(form: Form, time: &str) -> ArrayString<128>
+    requires { length time.now ≤ 33 }
+    ensures { result.bytes ≡ spec.untold_text form time.now }
+{
+    bare_line(form, time, "out of memory: what a step did is not told")
+}
+
+fn bare_line(form: Form, time: &str, words: &str) -> ArrayString<128>
+    requires time { length time.now ≤ 33 }
+    requires words { length words.now ≤ 50 }
+    ensures { result.bytes ≡ spec.bare_text form time.now words.now }
+{
+    match form {
+        Form::Text => bare_text(words),
+        Form::Json => bare_object(time, words),
+    }
+}
+
+fn bare_text(words: &str) -> ArrayString<128>
+    requires { length words.now ≤ 50 }
+    ensures { result.bytes ≡ words.now ++ codes "\n" }
+{
+    let mut line = ArrayString::new();
+    line.push_str(words);
+    line.push_str("\n");
+    line
+}
+
+fn bare_object(time: &str, words: &str) -> ArrayString<128>
+    requires time { length time.now ≤ 33 }
+    requires words { length words.now ≤ 50 }
+    ensures { result.bytes ≡ codes "{\"level\":\"fault\",\"time\":\"" ++ time.now ++ codes "\",\"why\":\"" ++ words.now ++ codes "\"}" ++ codes "\n" }
+{
+    let mut line = ArrayString::new();
+    line.push_str("{\"level\":\"fault\",\"time\":\"");
+    line.push_str(time);
+    line.push_str("\",\"why\":\"");
+    line.push_str(words);
+    line.push_str("\"}\n");
+    line
+}
+
+/// There was no memory to say why settings are none. Takes none itself.
+pub(crate) fn unsaid_line(form: Form) -> &'static [u8]
+    ensures { result.now ≡ spec.unsaid_text form }
+{
+    match form {
+        Form::Text => b"out of memory: why the settings are bad is not told\n",
+        Form::Json =>
+            b"{\"level\":\"fault\",\"why\":\"out of memory: why the settings are bad is not told\"}\n",
+    }
+}
+
+// ---- in words
+
+/// So many lines couldn't be written, up to this time.
+pub(crate) fn dropped_line(
+    alloc: Global,
+    form: Form,
+    time: &str,
+    count: u64,
+) -> Result<Vec<u8>, AllocError>
+    ensures { IfOk result (λ text. text.items ≡ spec.dropped_text form time.now count) }
+{
+    let words = dropped_words(alloc, count)?;
+    fault_line(alloc, form, Some(time), &words)
+}
+
+fn dropped_words(alloc: Global, count: u64) -> Result<String, AllocError>
+    ensures { IfOk result (λ text. string_bytes text ≡ decimal count ++ codes " lines could not be written") }
+{
+    format!(in alloc; "{count} lines could not be written")
+}
+
+/// The line of a fault in these words, at this time where there is one.
+pub(crate) fn fault_line(
+    alloc: Global,
+    form: Form,
+    time: Option<&str>,
+    words: &str,
+) -> Result<Vec<u8>, AllocError>
+    ensures { IfOk result (λ text. text.items ≡ spec.fault_text form (option_map (λ time. time.now) time.entry) words.now) }
+{
+    match form {
+        Form::Text => fault_words(alloc, words),
+        Form::Json => fault_object(alloc, time, words)?.line(alloc),
+    }
+}
+
+fn fault_words(alloc: Global, words: &str) -> Result<Vec<u8>, AllocError>
+    ensures { IfOk result (λ text. text.items ≡ words.now ++ codes "\n") }
+{
+    let mut text = Vec::from_slice(alloc, words.as_bytes())?;
+    text.push(b'\n')?;
+    Ok(text)
+}
+
+fn fault_object(alloc: Global, time: Option<&str>, words: &str) -> Result<Object, AllocError>
+    ensures { IfOk result (λ o. members_of o ≡ spec.fault_members (option_map (λ time. time.now) time.entry) words.now) }
+{
+    let o = match time {
+        Some(time) => Object::begun(alloc, time, "fault")?,
+        None => Object::new(alloc).with_text(alloc, "level", "fault")?,
+    };
+    o.with_text(alloc, "why", words)
+}

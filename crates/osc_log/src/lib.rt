@@ -1,0 +1,30 @@
+//! The log of a node: what its turns did, by lines of text or of JSON, and counters each hour.
+#![tactic(auto)]
+
+mod at_once;
+mod code;
+mod counters;
+mod counting;
+mod faults;
+mod form;
+mod held;
+mod holders;
+mod json;
+pub mod laws;
+mod line;
+mod log;
+mod object;
+mod refusals;
+mod seen;
+mod text;
+mod time;
+mod told;
+mod turn;
+mod words;
+
+pub use at_once::AtOnce;
+pub use form::Form;
+pub use held::{Held, Holds};
+pub use log::{Faults, Lines, Log, Silent};
+pub use turn::Turn;
+pub use words::shown;

@@ -1,0 +1,192 @@
+//! What is told of a turn: its lines, but for some refusals where there are many, and counters where they are due.
+ghost use Rattle.std.specs.Prelude.{◌≡◌, ◌++◌, IfOk, List, OnErr, OnOk, ℕ};
+ghost use Rattle.osc_log.specs.Holders.{Learns};
+ghost use Rattle.osc_log.specs.Refusals.{after_line};
+ghost use Rattle.osc_log.specs.Time.{IsTime};
+ghost use Rattle.osc_log.specs.Sent as spec;
+ghost use Rattle.osc_log.specs.declared.holders.Holder.{Holder as AnyHolder};
+
+use crate::counting::hourly_text;
+use crate::form::Form;
+use crate::held::Holds;
+use crate::refusals::Refusals;
+use crate::seen::Seen;
+use crate::time::time_text;
+use crate::turn::{Telling, Turn};
+use crate::{json, text};
+use osc_model::{Datagram, Moment};
+use std::alloc::{AllocError, Global};
+
+/// The lines that are told of a turn. On success this was seen, but for the counters, which stay; without memory for it nothing was.
+pub(crate) fn told_text<N: Holds>(
+    alloc: Global,
+    form: Form,
+    turn: &Turn<'_>,
+    node: &N,
+    seen: &mut Seen,
+) -> Result<Vec<u8>, AllocError>
+    ensures ok { IfOk result (λ told. (time : List ℕ) × (holders : List AnyHolder) × IsTime turn.entry.now.now time
+        × Learns turn.entry.now.step.notes seen.old.holders holders
+        × (told.items ≡ spec.turn_text form time seen.old turn.entry.now (N.held node.now))
+        × (seen.new ≡ record { refusals = spec.after_lines turn.entry.now seen.old.refusals turn.entry.now.step.out; counters = seen.old.counters; holders = holders })) }
+    ensures err { OnErr result (seen.new ≡ seen.old) }
+{
+    let text = text_of(alloc, form, turn, node, seen)?;
+    seen.holders.learn(alloc, turn.notes())?;
+    seen.refusals = after_lines(turn, seen.refusals);
+    Ok(text)
+}
+
+fn text_of<N: Holds>(
+    alloc: Global,
+    form: Form,
+    turn: &Turn<'_>,
+    node: &N,
+    seen: &Seen,
+) -> Result<Vec<u8>, AllocError>
+    ensures { IfOk result (λ told. (time : List ℕ) × IsTime turn.entry.now.now time
+        × (told.items ≡ spec.turn_text form time seen.now turn.entry.now (N.held node.now))) }
+{
+    let time = time_text(turn.moment());
+    text_at(alloc, form, time.as_str(), turn, node, seen)
+}
+
+// The same at this time.
+fn text_at<N: Holds>(
+    alloc: Global,
+    form: Form,
+    time: &str,
+    turn: &Turn<'_>,
+    node: &N,
+    seen: &Seen,
+) -> Result<Vec<u8>, AllocError>
+    ensures { IfOk result (λ told. told.items ≡ spec.turn_text form time.now seen.now turn.entry.now (N.held node.now)) }
+{
+    let telling = Telling {
+        form,
+        time,
+        token: seen.holders.token_served(turn.served()),
+    };
+    let mut text = told_by(alloc, &telling, turn, seen.refusals)?;
+    add(
+        &mut text,
+        &hourly_text(alloc, &telling, turn, seen.counters, node)?,
+    )?;
+    Ok(text)
+}
+
+fn add(text: &mut Vec<u8>, more: &[u8]) -> Result<(), AllocError>
+    ensures { OnOk result (text.new.items ≡ text.old.items ++ more.now) }
+{
+    Ok(text.extend_from_slice(more)?)
+}
+
+// What is told of the datagrams that a turn sent.
+fn told_by(
+    alloc: Global,
+    telling: &Telling<'_>,
+    turn: &Turn<'_>,
+    refusals: Refusals,
+) -> Result<Vec<u8>, AllocError>
+    ensures { IfOk result (λ told. told.items ≡ spec.told_by telling.entry.now turn.entry.now refusals turn.entry.now.step.out) }
+{
+    let mut text = Vec::new(alloc);
+    let mut counted = refusals;
+    for datagram in turn.sent() {
+        add(
+            &mut text,
+            &told_of(alloc, telling, turn, counted, datagram)?,
+        )?;
+        counted = counted.after_line(turn);
+    }
+    Ok(text)
+}
+
+// The refusals after the lines of a turn.
+fn after_lines(turn: &Turn<'_>, refusals: Refusals) -> Refusals
+    ensures { result ≡ spec.after_lines turn.entry.now refusals turn.entry.now.step.out }
+{
+    let mut counted = refusals;
+    for _datagram in turn.sent() {
+        counted = counted.after_line(turn);
+    }
+    counted
+}
+
+// What is told of a datagram that a turn sent: how many refusals were left out before, if it is time to tell, and its line, if that isn't left out.
+fn told_of(
+    alloc: Global,
+    telling: &Telling<'_>,
+    turn: &Turn<'_>,
+    refusals: Refusals,
+    datagram: &Datagram,
+) -> Result<Vec<u8>, AllocError>
+    ensures { IfOk result (λ text. text.items ≡ spec.told_of telling.entry.now turn.entry.now refusals datagram.now) }
+{
+    let mut text = ended_text(alloc, telling, turn.moment(), refusals)?;
+    add(
+        &mut text,
+        &line_told(alloc, telling, turn, refusals, datagram)?,
+    )?;
+    Ok(text)
+}
+
+// The line of a datagram, unless it is left out.
+fn line_told(
+    alloc: Global,
+    telling: &Telling<'_>,
+    turn: &Turn<'_>,
+    refusals: Refusals,
+    datagram: &Datagram,
+) -> Result<Vec<u8>, AllocError>
+    ensures { IfOk result (λ text. text.items ≡ spec.line_told telling.entry.now turn.entry.now datagram.now refusals) }
+{
+    if refusals.at(turn.moment()).tell(turn.refused()) {
+        line_text(alloc, telling, turn, datagram)
+    } else {
+        Ok(Vec::new(alloc))
+    }
+}
+
+fn line_text(
+    alloc: Global,
+    telling: &Telling<'_>,
+    turn: &Turn<'_>,
+    datagram: &Datagram,
+) -> Result<Vec<u8>, AllocError>
+    ensures { IfOk result (λ text. text.items ≡ spec.line_text telling.entry.now turn.entry.now datagram.now) }
+{
+    match telling.form() {
+        Form::Text => text::line_text(alloc, turn, datagram),
+        Form::Json => json::line_text(alloc, telling, turn, datagram),
+    }
+}
+
+// How many refusals were left out, where a new second begins.
+fn ended_text(
+    alloc: Global,
+    telling: &Telling<'_>,
+    now: Moment,
+    refusals: Refusals,
+) -> Result<Vec<u8>, AllocError>
+    ensures { IfOk result (λ text. text.items ≡ spec.ended_text telling.entry.now now refusals) }
+{
+    if now.ms / 1000 == refusals.second || refusals.left_out == 0 {
+        return Ok(Vec::new(alloc));
+    }
+    left_out_text(alloc, telling, now, refusals.left_out)
+}
+
+fn left_out_text(
+    alloc: Global,
+    telling: &Telling<'_>,
+    now: Moment,
+    count: u64,
+) -> Result<Vec<u8>, AllocError>
+    ensures { IfOk result (λ text. text.items ≡ spec.left_out_by telling.entry.now.form telling.entry.now.time now count) }
+{
+    match telling.form() {
+        Form::Text => text::left_out_text(alloc, now, count),
+        Form::Json => json::left_out_text(alloc, telling.time(), count),
+    }
+}
