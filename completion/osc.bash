@@ -82,6 +82,7 @@ _osc() {
     'client --method') _osc_offer 'GET POST PUT DELETE' ;;
     'sim --only') _osc_offer 'c1 c2 c3 c4 c5 c6 c7 c8 c9' ;;
     'token --alg') _osc_offer '10 30' ;;
+    'server --log' | 'proxy --log') _osc_offer "text json $(_osc_left "${_osc_words["$command"]}")" ;;
     *)
         case ${_osc_values["$command $before"]-} in
         FILE) _osc_files ;;

@@ -2,16 +2,16 @@
 #![tactic(auto)]
 
 use osc_lab::lab;
+use osc_log::{AtOnce, Faults, Form, Lines};
 use osc_programs::{
-    AtOnce, Ended, Faults, Kept, Lines, Noted, TraceForm, Wary, ask, check_client, check_proxy,
-    check_server, draw, ended_by, ended_by_io, filled, forward, issue_key, issue_token, list_store,
-    running_fault, serve, sim, started_by_io, status, token_fault, token_warning, with_payload,
-    write_capture,
+    Ended, Kept, Noted, TraceForm, ask, check_client, check_proxy, check_server, draw, ended_by,
+    ended_by_io, filled, forward, issue_key, issue_token, list_store, running_fault, serve, sim,
+    started_by_io, status, token_fault, token_warning, with_payload, write_capture,
 };
 use osc_script::form_of;
 use osc_words::{
-    ClientWords, FileName, NodeWords, SimWords, Source, TokenAsked, TokenWords, Words, WordsError,
-    fault_line, read_words,
+    ClientWords, FileName, LogForm, NodeWords, SimWords, Source, TokenAsked, TokenWords, Words,
+    WordsError, fault_line, read_words,
 };
 use std::alloc::AllocError;
 use std::fs::File;
@@ -225,8 +225,8 @@ fn server_from<I: Read + Drop>(
     let mut faults = Faults::new(AtOnce::new(rt.stderr()));
     let ended = if words.check {
         check_server(alloc, &mut input, &mut faults, &mut output)
-    } else if words.log {
-        let mut lines = Lines::new(AtOnce::new(rt.stderr()));
+    } else if let Some(form) = words.log {
+        let mut lines = Lines::new(alloc, log_form(form), AtOnce::new(rt.stderr()));
         serve(alloc, rt, &mut input, &mut lines, words.turns)
     } else {
         serve(alloc, rt, &mut input, &mut faults, words.turns)
@@ -234,10 +234,18 @@ fn server_from<I: Read + Drop>(
     tell_streams(rt, ended, name, input.fault(), output.fault())
 }
 
+/// How the lines of a log are written.
+fn log_form(form: LogForm) -> Form {
+    match form {
+        LogForm::Text => Form::Text,
+        LogForm::Json => Form::Json,
+    }
+}
+
 /// What the store in this file holds goes to the standard output.
 fn store(rt: &HostRuntime, file: &FileName) -> Ended {
     let mut output = Noted::new(io::writer(rt));
-    let ended = list_store(rt, file.as_str(), Wary, &mut output);
+    let ended = list_store(rt.alloc(), rt, file.as_str(), &mut output);
     tell_streams(rt, ended, STANDARD_INPUT, None, output.fault())
 }
 
@@ -264,8 +272,8 @@ fn proxy_from<I: Read + Drop>(
     let mut faults = Faults::new(AtOnce::new(rt.stderr()));
     let ended = if words.check {
         check_proxy(alloc, &mut input, &mut faults, &mut output)
-    } else if words.log {
-        let mut lines = Lines::new(AtOnce::new(rt.stderr()));
+    } else if let Some(form) = words.log {
+        let mut lines = Lines::new(alloc, log_form(form), AtOnce::new(rt.stderr()));
         forward(alloc, rt, &mut input, &mut lines, words.turns)
     } else {
         forward(alloc, rt, &mut input, &mut faults, words.turns)

@@ -1,7 +1,6 @@
 pub mod WhyUnread
 pub mod Appended
 pub mod Talking
-pub mod Reports
 pub mod Taken
 pub mod Stored
 pub mod OpenPaths
@@ -9,3 +8,4 @@ pub mod Printing
 pub mod PayloadFiles
 pub mod FirstTree
 pub mod Openings
+pub mod Holdings

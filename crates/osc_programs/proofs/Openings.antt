@@ -1,11 +1,12 @@
 -- What was opened of a store's files is so of what keeps their changes.
-use Rattle.std.proofs.Common.{◌≡◌, subst, sym}
+use Rattle.std.proofs.Common.{◌≡◌, Result, Ok, Err, IfOk, subst, sym}
 use Rattle.std.specs.Bool.{IsTrue}
 use Rattle.sqlite_trees.proofs.Doubt.{clean_of}
 use Rattle.sqlite_trees.specs.Tree.{Trees}
-use Rattle.sqlite_trees.specs.View.{View}
+use Rattle.sqlite_trees.specs.View.{View, IsClean}
 use Rattle.sqlite_wal.specs.Recovery.{Image}
 use Rattle.osc_model.specs.Tree.{Tree}
+use Rattle.osc_server.specs.State.{State as Server}
 use Rattle.osc_store.specs.{FindsTree, Keeps}
 use Rattle.osc_programs.specs.{IsOpened}
 
@@ -15,3 +16,10 @@ pub opened_by : {S : Type 0} (view : S → View) (recovers : S → Trees → Typ
 opened_by {S} view recovers image it store tree same found kept =
     subst (λ (s : S). IsOpened view recovers image s tree) (sym same)
     (record { found = λ clean. found (clean_of (view store).is_clean clean); kept = λ clean. kept (clean_of (view store).is_clean clean) })
+
+-- so a server with its tree is kept
+pub opened_keeps : {K S E : Type 0} (view : S → View) (recovers : S → Trees → Type 0) (image : Image) (store : K → S) (result : Result (K × Tree) E)
+    → IfOk result (λ opened. IsOpened view recovers image (store opened.0) opened.1)
+    → IfOk result (λ opened. (server : Server) → server.tree ≡ opened.1 → IsClean (view (store opened.0)) → Keeps view recovers (store opened.0) server.tree)
+opened_keeps view recovers image store (Ok opened) it = λ server same clean. subst (Keeps view recovers (store opened.0)) (sym same) (it.kept clean)
+opened_keeps view recovers image store (Err error) it = tt

@@ -4,8 +4,9 @@ use Rattle.osc_model.specs.Tree.{Tree}
 use Rattle.osc_settings.specs.declared.resource.ResourceSetting.{ResourceSetting}
 use Rattle.osc_settings.specs.declared.server.ServerSettings.{ServerSettings}
 use Rattle.osc_model.specs.declared.step.Step.{Step}
+use Rattle.osc_server.specs.State.{State as Server}
 use Rattle.osc_run.specs.{Cause}
-use Rattle.osc_programs.specs.{BeginsBy, BeginsWith, tree_of, EndsKept, EndsServer, EndsServing, EndsStore, EndsTurns, EndsUnkept, IsFault, NoSettings, NoStore, NotOpened, LeavesKept, LeavesNode, StaysKept}
+use Rattle.osc_programs.specs.{BeginsBy, BeginsWith, IsKept, SomeKeeps, tree_of, EndsKept, EndsServer, EndsServing, EndsStore, EndsTurns, EndsUnkept, IsFault, NoSettings, NoStore, NotOpened, LeavesKept, LeavesNode, StaysKept}
 use Rattle.osc_programs.specs.declared.ended.Ended.{Ended}
 use Rattle.osc_programs.specs.declared.ended.Ended.TheVariants.{Done, BadCommandLine, BadLine, BadSettings, OutOfMemory, Failed, PortFailed, NotDone, Unopened, NotKept}
 
@@ -251,3 +252,16 @@ pub begins_stored : {K : Type 0} (opened : List ℕ → List ResourceSetting →
     → settings.store ≡ Some file → opened file settings.resources.items keeper tree → BeginsWith opened settings tree
 begins_stored opened settings file keeper tree some it =
     subst (λ (store : Option (List ℕ)). BeginsBy opened store settings.resources.items tree) (sym some) (keeper, it)
+
+-- ---- what is kept at the end
+
+pub kept_done : {N K : Type 0} (keeps : K → N → Type 0) (may_hold : K → N → N → Type 0) (ended : Ended) (n : N) (keeper : K) → ended ≡ Done
+    → StaysKept keeps may_hold ended n keeper → keeps keeper n
+kept_done keeps may_hold ended n keeper done stays = (subst (λ (e : Ended). StaysKept keeps may_hold e n keeper) done stays).1
+
+pub kept_without : {K : Type 0} (keeps : K → Server → Type 0) (store : Option (List ℕ)) (server : Server) → store ≡ None → IsKept keeps store server
+kept_without keeps store server none = subst (λ (s : Option (List ℕ)). IsKept keeps s server) (sym none) tt
+
+pub kept_stored : {K : Type 0} (keeps : K → Server → Type 0) (store : Option (List ℕ)) (file : List ℕ) (server : Server) → store ≡ Some file
+    → SomeKeeps keeps server → IsKept keeps store server
+kept_stored keeps store file server some it = subst (λ (s : Option (List ℕ)). IsKept keeps s server) (sym some) it

@@ -3,7 +3,8 @@ use Rattle.std.proofs.Common.{◌≡◌, ◌≢◌, ◌∙◌, sym, subst, ℕ, 
 use Rattle.toml.specs.Data.{Members}
 use Rattle.osc_settings.specs.declared.error.SettingsError.{SettingsError}
 use Rattle.osc_settings.specs.declared.error.SettingsError.TheVariants.{Memory}
-use Rattle.osc_programs.specs.{Told, Writes, IsUnreadText, IsWhy, TellsWhy}
+use Rattle.osc_log.specs.{Told, Writes}
+use Rattle.osc_programs.specs.{IsUnreadText, IsWhy, TellsWhy}
 use Rattle.osc_programs.specs.declared.ended.Ended.{Ended}
 use Rattle.osc_programs.specs.declared.ended.Ended.TheVariants.{BadSettings, OutOfMemory}
 
@@ -17,7 +18,7 @@ bad_is_no_want e = cc
 -- the bytes that were read, where they are known, are no settings for the reason that is told
 pub tells_why : (Is : Members → SettingsError → Type 0) (remaining : Option (List ℕ)) (bytes : List ℕ) (why : SettingsError) (ended : Ended) (old new : Told)
     → IfSome remaining (λ known. bytes ≡ known) → IsWhy Is bytes why → (why ≡ Memory → ended ≡ OutOfMemory)
-    → (ended ≡ BadSettings → (text : List ℕ) × IsUnreadText why text × Writes old new text) → ended ≡ BadSettings → TellsWhy Is remaining old new
+    → (ended ≡ BadSettings → (text : List ℕ) × IsUnreadText old.form why text × Writes old new text) → ended ≡ BadSettings → TellsWhy Is remaining old new
 tells_why Is remaining bytes why ended old new all is memory told bad =
     let it = told bad in record {
       why = why;

@@ -10,7 +10,7 @@ use Rattle.osc_settings.specs.declared.proxy.TargetSetting.{TargetSetting}
 use Rattle.osc_settings.specs.declared.resource.ResourceSetting.{ResourceSetting}
 use Rattle.osc_settings.specs.declared.server.ServerSettings.{ServerSettings}
 use Rattle.osc_simulation.specs.{line}
-use Rattle.osc_programs.specs.Log.{shown_byte}
+use Rattle.osc_log.specs.{shown_byte}
 
 -- A.B.C.D:PORT
 abbrev pub peer_text : Peer → List ℕ

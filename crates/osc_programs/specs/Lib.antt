@@ -2,7 +2,7 @@ pub mod Drawing
 pub mod Ended
 pub mod TokenLine
 pub mod TokenFiles
-pub mod Log
+pub mod Holding
 pub mod Unread
 pub mod Turning
 pub mod Serving
@@ -17,10 +17,10 @@ pub use Checked.{grant_line, resource_line, shown_line, target_line}
 pub use Conversation.{GoesOn, GoesOnBy, Requests, Upshot, Waits, after_sending, at_once, still, told, turns}
 pub use Ended.{CannotAsk, CannotLab, CannotTalk, EndsClient, EndsKept, EndsLab, EndsNode, EndsServer, EndsServing, EndsSim, EndsStore, EndsTold, EndsTurns, EndsUnkept, IsFault, NoSettings, NoStore, NotOpened}
 pub use Kept.{LeavesKept, LeavesNode, StaysKept}
-pub use Log.{Report, Tells, Told, Writes, line_text, lost, lost_text, refusals_after, refusals_behind, report_text, reports_of, sent, shown_byte, step_text, told_by, told_of, told_with, untold, untold_text, with_line}
+pub use Holding.{contexts_of, proxy_held, server_held, taken_below}
 pub use PayloadFile.{IsWithPayload, with_payload}
 pub use Serving.{target_of, tree_of, with_resource}
-pub use Storing.{BeginsBy, BeginsWith, IsOpened, store_lines, stored_line}
+pub use Storing.{BeginsBy, BeginsWith, IsHeld, IsKept, IsOpened, SomeKeeps, store_lines, stored_line}
 pub use System.{RunsOn}
 pub use Turning.{Running, Runs, Shown, TakesTurn, Turns, and_then}
-pub use Unread.{IsUnreadText, IsWhy, TellsWhy, unread_text, unsaid_text}
+pub use Unread.{IsUnreadText, IsWhy, TellsWhy, unread_words}

@@ -6,6 +6,7 @@ use Rattle.osc_model.specs.{exactly}
 use Rattle.osc_model.specs.Tree.{Tree}
 use Rattle.osc_model.specs.declared.code.Method.TheVariants.{Get}
 use Rattle.osc_model.specs.declared.node.Moment.{Moment}
+use Rattle.osc_log.specs.{Event}
 use Rattle.osc_message.specs.{fresh}
 use Rattle.osc_proxy.specs.{none_open, IsStep as IsStepOfProxy, acts as proxy_acts_at}
 use Rattle.osc_proxy.specs.State.{State as Proxy}
@@ -17,6 +18,7 @@ use Rattle.osc_settings.specs.declared.proxy.TargetSetting.{TargetSetting}
 use Rattle.osc_settings.specs.declared.resource.ResourceSetting.{ResourceSetting}
 use Rattle.osc_settings.specs.declared.server.ServerSettings.{ServerSettings}
 use Rattle.osc_simulation.specs.{is_sealing}
+use Rattle.osc_programs.specs.Holding.{proxy_held, server_held}
 use Rattle.osc_programs.specs.Turning.{Runs}
 
 -- ---- the nodes at first
@@ -59,15 +61,15 @@ abbrev pub proxy_acts : Proxy → Moment → Bool
 proxy_acts proxy now = proxy_acts_at now proxy
 
 -- The server of these settings, with these resources at first, takes so many turns, and this there is to tell of them.
-pub record Serves (settings : ServerSettings) (tree : Tree) (turns : ℕ) (log : List ℕ) : Type 0 where
+pub record Serves (settings : ServerSettings) (tree : Tree) (turns : ℕ) (events : List Event) : Type 0 where
   pub first : Server
   pub last : Server
   pub is_server : IsServerOf settings tree first
-  pub runs : Runs server_acts (IsStepOfServer is_sealing) turns log first last
+  pub runs : Runs server_acts (IsStepOfServer is_sealing) server_held turns events first last
 
 -- The proxy of these settings takes so many turns, and this there is to tell of them.
-pub record Forwards (settings : ProxySettings) (turns : ℕ) (log : List ℕ) : Type 0 where
+pub record Forwards (settings : ProxySettings) (turns : ℕ) (events : List Event) : Type 0 where
   pub first : Proxy
   pub last : Proxy
   pub is_proxy : IsProxyOf settings first
-  pub runs : Runs proxy_acts IsStepOfProxy turns log first last
+  pub runs : Runs proxy_acts IsStepOfProxy proxy_held turns events first last

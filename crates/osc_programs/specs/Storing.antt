@@ -1,5 +1,5 @@
 -- The store of a server: what it begins with, and what of it is listed.
-use Rattle.std.specs.Prelude.{◌≡◌, ℕ, List, [], ◌++◌, Option, Some, None, codes, IsTrue}
+use Rattle.std.specs.Prelude.{◌≡◌, ℕ, List, [], Option, Some, None, ⊤}
 use Rattle.std.specs.List.{flat_map}
 use Rattle.std.specs.FinMap as map
 use Rattle.sqlite_trees.specs.Tree.{Trees}
@@ -9,6 +9,7 @@ use Rattle.osc_model.specs.Tree.{Tree}
 use Rattle.osc_model.specs.declared.resource.Resource.{Resource}
 use Rattle.osc_settings.specs.declared.resource.ResourceSetting.{ResourceSetting}
 use Rattle.osc_settings.specs.declared.server.ServerSettings.{ServerSettings}
+use Rattle.osc_server.specs.State.{State as Server}
 use Rattle.osc_store.specs.{FindsTree, Keeps}
 use Rattle.osc_programs.specs.Checked.{resource_line}
 use Rattle.osc_programs.specs.Serving.{tree_of}
@@ -27,7 +28,20 @@ BeginsBy {K} opened (Some file) resources tree = (keeper : K) × opened file res
 abbrev pub BeginsWith : {K : Type 0} → (List ℕ → List ResourceSetting → K → Tree → Type 0) → ServerSettings → Tree → Type 0
 BeginsWith opened settings tree = BeginsBy opened settings.store settings.resources.items tree
 
+-- what keeps the changes of a server keeps its resources: whatever a crash leaves from now on, the next start finds them
+abbrev pub SomeKeeps : {K : Type 0} → (K → Server → Type 0) → Server → Type 0
+SomeKeeps {K} keeps server = (keeper : K) × keeps keeper server
+
+-- so it is of a server whose settings name a store; without one nothing is kept
+abbrev pub IsKept : {K : Type 0} → (K → Server → Type 0) → Option (List ℕ) → Server → Type 0
+IsKept keeps None server = ⊤
+IsKept keeps (Some file) server = SomeKeeps keeps server
+
 -- ---- `osc store`
+
+-- a store in the file of this name was opened with these resources
+abbrev pub IsHeld : {K : Type 0} → (List ℕ → List ResourceSetting → K → Tree → Type 0) → List ℕ → Tree → Type 0
+IsHeld {K} opened file tree = (keeper : K) × opened file [] keeper tree
 
 -- resource PATH FORMAT N bytes
 abbrev pub stored_line : List ℕ × Resource → List ℕ

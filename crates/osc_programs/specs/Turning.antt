@@ -1,12 +1,14 @@
 -- The turns that a node takes in a program: its moments, its draws, and its ticks.
-use Rattle.std.specs.Prelude.{◌≡◌, ◌++◌, ℕ, suc, Bool, true, false, List, [], Option, None, is_some}
+use Rattle.std.specs.Prelude.{◌≡◌, ◌++◌, ◌∷◌, ℕ, suc, Bool, true, false, List, [], Option, None, is_some}
 use Rattle.osc_model.specs.declared.node.Draw.{Draw}
 use Rattle.osc_model.specs.declared.node.Moment.{Moment}
 use Rattle.osc_model.specs.declared.step.Datagram.{Datagram}
 use Rattle.osc_model.specs.declared.step.Step.{Step}
+use Rattle.osc_log.specs.{Event, turned}
+use Rattle.osc_log.specs.Log as log
+use Rattle.osc_log.specs.declared.held.Held.{Held}
 use Rattle.osc_run.specs.{Cause}
 use Rattle.osc_turn.specs.{busy_after, must_tick, Received, cause_of, Gives, IsSeeded, ClockAndRandomState}
-use Rattle.osc_programs.specs.Log.{IsStepText, lost_text}
 
 -- ---- turns
 
@@ -19,14 +21,14 @@ pub record Running (N : Type 0) : Type 0 where
 -- what turns sent, and what there is to tell of them
 pub record Shown : Type 0 where
   pub sent : List Datagram
-  pub text : List ℕ
+  pub events : List Event
 
 abbrev pub nothing_shown : Shown
-nothing_shown = record { sent = []; text = [] }
+nothing_shown = record { sent = []; events = [] }
 
 -- of some turns, and of the next ones
 abbrev pub and_then : Shown → Shown → Shown
-and_then first next = record { sent = first.sent ++ next.sent; text = first.text ++ next.text }
+and_then first next = record { sent = first.sent ++ next.sent; events = first.events ++ next.events }
 
 module _ {N : Type 0} (acts : N → Moment → Bool) (is_step : N → Cause → Step → N → Type 0) where
   -- a turn of the next moment and draw: a step of the node, which is a tick where one has to come: something of the node's own is due, or it
@@ -49,11 +51,13 @@ module _ {N : Type 0} (acts : N → Moment → Bool) (is_step : N → Cause → 
     pub node : new.node ≡ old.node
     pub rested : new.busy ≡ None
 
+-- what such a node holds is told beside its turns
+module _ {N : Type 0} (acts : N → Moment → Bool) (is_step : N → Cause → Step → N → Type 0) (held : N → Held) where
   -- a turn of either kind, and what it showed
   pub data GoesOn (old : Running N) : Shown → Running N → Type 0 where
-    taken : (step : Step) (text : List ℕ) (new : Running N) → (turn : TakesTurn old step new) → IsStepText turn.now step text
-        → GoesOn old (record { sent = step.out; text = text }) new
-    lost : (new : Running N) → LosesTurn old new → GoesOn old (record { sent = []; text = lost_text }) new
+    taken : (step : Step) (new : Running N) → (turn : TakesTurn acts is_step old step new)
+        → GoesOn old (record { sent = step.out; events = turned (record { now = turn.now; received = is_some turn.came; step = step }) (held new.node) ∷ [] }) new
+    lost : (new : Running N) → (turn : LosesTurn acts is_step old new) → GoesOn old (record { sent = []; events = log.lost turn.now ∷ [] }) new
 
   -- so many turns, one after another, and what they showed
   pub data Turns : ℕ → Running N → Shown → Running N → Type 0 where
@@ -62,10 +66,10 @@ module _ {N : Type 0} (acts : N → Moment → Bool) (is_step : N → Cause → 
         → Turns (suc n) first (and_then shown next) last
 
   -- The node takes so many turns from the start on, and this there is to tell of them.
-  pub record Runs (turns : ℕ) (log : List ℕ) (old new : N) : Type 0 where
+  pub record Runs (turns : ℕ) (events : List Event) (old new : N) : Type 0 where
     pub start : ClockAndRandomState
     pub seeded : IsSeeded start
     pub sent : List Datagram
     pub last : Running N
-    pub takes : Turns turns (record { node = old; busy = None; supply = start }) (record { sent = sent; text = log }) last
+    pub takes : Turns turns (record { node = old; busy = None; supply = start }) (record { sent = sent; events = events }) last
     pub ends : new ≡ last.node

@@ -1,17 +1,16 @@
--- Why settings are none, as `osc server --log` and `osc proxy --log` tell it before `settings: bad`: the key and what should be there,
--- never what is there.
-use Rattle.std.specs.Prelude.{◌≡◌, ◌≢◌, ◌⊎◌, ℕ, List, ◌++◌, map, Option, IfSome, codes, decimal}
+-- Why settings are none, as the log tells it before `settings: bad`: the key and what should be there, never what is there.
+use Rattle.std.specs.Prelude.{◌≡◌, ◌≢◌, ◌⊎◌, ℕ, List, ◌++◌, map, Option, Some, IfSome, codes, decimal}
 use Rattle.std.specs.Str.{IsUtf8}
 use Rattle.toml.specs.Data.{Members}
+use Rattle.osc_log.specs.{IsUnreadText as Unread, Told, Writes, shown_byte}
+use Rattle.osc_log.specs.declared.form.Form.{Form}
 use Rattle.osc_settings.specs.{Lacks, form_of, name_of}
 use Rattle.osc_settings.specs.declared.error.KeyFault.{KeyFault}
 use Rattle.osc_settings.specs.declared.error.KeyFault.TheVariants.{Unknown, Missing, Wrong}
 use Rattle.osc_settings.specs.declared.error.SettingsError.{SettingsError}
 use Rattle.osc_settings.specs.declared.error.SettingsError.TheVariants.{NotToml, Key, Target, Memory}
-use Rattle.osc_simulation.specs.{line}
-use Rattle.osc_programs.specs.Log.{Told, Writes, shown_byte}
 
--- ---- the line
+-- ---- the words
 
 -- the name of a key that should not be there shows as a path does
 abbrev pub key_text : KeyFault → List ℕ
@@ -26,15 +25,12 @@ why_text (Target number fault) = codes "target " ++ decimal number ++ codes ": "
 why_text Memory = codes "out of memory"
 
 -- settings: WHY
-abbrev pub unread_text : SettingsError → List ℕ
-unread_text why = line (codes "settings: " ++ why_text why)
+abbrev pub unread_words : SettingsError → List ℕ
+unread_words why = codes "settings: " ++ why_text why
 
--- what is told where there was no memory for that line
-abbrev pub unsaid_text : List ℕ
-unsaid_text = line (codes "out of memory: why the settings are bad is not told")
-
-abbrev pub IsUnreadText : SettingsError → List ℕ → Type 0
-IsUnreadText why text = (text ≡ unread_text why) ⊎ (text ≡ unsaid_text)
+-- their line in this form, or that there was no memory for it
+abbrev pub IsUnreadText : Form → SettingsError → List ℕ → Type 0
+IsUnreadText form why text = Unread form (Some (unread_words why)) text
 
 -- ---- of which bytes
 
@@ -48,5 +44,5 @@ pub record TellsWhy (Is : Members → SettingsError → Type 0) (bytes : Option 
   pub is_why : IfSome bytes (λ known. IsWhy Is known why)
   pub no_want : why ≢ Memory
   pub text : List ℕ
-  pub is_text : IsUnreadText why text
+  pub is_text : IsUnreadText old.form why text
   pub tells : Writes old new text

@@ -18,7 +18,6 @@ ghost use Rattle.osc_programs.specs.declared.asking.Outcome.{Outcome as AnyOutco
 
 use crate::ended::Ended;
 use crate::issue::written;
-use crate::log::Log;
 use crate::reading::client_settings;
 use crate::running::{copy_of, opened, send, tell_failure};
 use crate::supply::{moment_and_draw, supply_of};
@@ -27,6 +26,7 @@ use crate::udp::Sockets;
 use osc_authz::ClientDesk;
 use osc_ccm::Suite;
 use osc_client::{Client, Origin, Route};
+use osc_log::Log;
 use osc_model::{Bytes, ClientResult, Peer, Request, Step};
 use osc_settings::ClientSettings;
 use osc_simulation::learnt_text;

@@ -3,7 +3,7 @@ ghost use Rattle.std.specs.Prelude.{◌≡◌, ◌++◌, IfOk, Some, codes, deci
 ghost use Rattle.std.specs.List.{flat_map};
 ghost use Rattle.osc_programs.specs.Checked as spec;
 
-use crate::log::shown;
+use osc_log::shown;
 use osc_model::{Bytes, Path, Peer};
 use osc_settings::{
     ClientSettings, ProxySettings, ResourceSetting, ServerSettings, StoreFile, TargetSetting,
@@ -71,7 +71,7 @@ fn shown_line(alloc: Global, name: &str, bytes: &[u8]) -> Result<Vec<u8>, AllocE
     let bytes = shown(alloc, bytes)?;
     let mut text = Vec::from_slice(alloc, name.as_bytes())?;
     text.push(b' ')?;
-    text.extend_from_slice(&bytes)?;
+    text.extend_from_slice(bytes.as_bytes())?;
     text.push(b'\n')?;
     Ok(text)
 }
@@ -124,7 +124,7 @@ pub(crate) fn resource_text(
     let format = format_text(alloc, format)?;
     let size = size_text(alloc, payload)?;
     let mut text = Vec::from_slice(alloc, b"resource ")?;
-    text.extend_from_slice(&path)?;
+    text.extend_from_slice(path.as_bytes())?;
     text.push(b' ')?;
     text.extend_from_slice(format.as_bytes())?;
     text.extend_from_slice(size.as_bytes())?;
@@ -191,7 +191,8 @@ fn host_text(alloc: Global, host: &Bytes, port: u16) -> Result<Vec<u8>, AllocErr
     ensures { IfOk result (λ text. text.items ≡ spec.host_text host.now port) }
 {
     let number = format!(in alloc; ":{port}")?;
-    let mut text = shown(alloc, host.as_slice())?;
+    let host = shown(alloc, host.as_slice())?;
+    let mut text = Vec::from_slice(alloc, host.as_bytes())?;
     text.extend_from_slice(number.as_bytes())?;
     Ok(text)
 }

@@ -12,8 +12,8 @@ ghost use Rattle.osc_settings.specs.declared.server.ServerSettings.{ServerSettin
 use crate::checked::{client_text, proxy_text, server_text};
 use crate::ended::Ended;
 use crate::issue::written;
-use crate::log::Log;
 use crate::reading::{client_settings, proxy_settings, server_settings};
+use osc_log::Log;
 use osc_settings::{ClientSettings, ProxySettings, ServerSettings};
 use std::alloc::Global;
 use std::io::{Read, Write};

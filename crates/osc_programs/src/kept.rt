@@ -4,14 +4,17 @@ ghost use Rattle.osc_model.specs.declared.step.Datagram.{Datagram as AnyDatagram
 ghost use Rattle.osc_turn.specs.{grown};
 ghost use Rattle.osc_programs.specs.Ended as ends;
 ghost use Rattle.osc_programs.specs.Kept as spec;
-ghost use Rattle.osc_programs.specs.Log.{Tells};
+ghost use Rattle.osc_log.specs.{Event, Tells};
 ghost use Rattle.osc_programs.specs.Turning as turning;
 
 use crate::ended::Ended;
-use crate::log::Log;
+use crate::holding::Holding;
 use crate::supply::moment_and_draw;
+use crate::turns::tell_turn;
 use osc_ccm::Suite;
 use osc_kept::{KeepsSteps, KeptNode, Unsent, kept_turn};
+use osc_log::Log;
+use osc_log::laws::telling_goes_on;
 use osc_run::Node;
 use osc_turn::{ClockAndRandom, Pace, Port, TurnError, Watch};
 use std::alloc::Global;
@@ -21,7 +24,7 @@ use std::alloc::Global;
 pub(crate) fn take_kept_turns<
     W: Watch + Drop,
     P: Port,
-    N: Node<Suite>,
+    N: Node<Suite> + Holding,
     K: KeepsSteps<Suite, N>,
     L: Log,
 >(
@@ -32,15 +35,16 @@ pub(crate) fn take_kept_turns<
     log: &mut L,
     turns: u64,
 ) -> Ended
-    ensures turns { (taken : ℕ) × (out : List AnyDatagram) × (text : List ℕ) × (last : turning.Running N)
-        × turning.Turns N.acts N.is_step taken
-        (record { node = kept.old.node; busy = None; supply = supply.old }) (record { sent = out; text = text }) last
+    ensures turns { (taken : ℕ) × (out : List AnyDatagram) × (events : List Event) × (last : turning.Running N)
+        × turning.Turns N.acts N.is_step N.held taken
+        (record { node = kept.old.node; busy = None; supply = supply.old }) (record { sent = out; events = events }) last
         × spec.LeavesNode N.is_step result last.node kept.new.node
-        × (P.sent port.new ≡ grown (P.sent port.old) out) × Tells (L.told log.old) (L.told log.new) text
+        × (P.sent port.new ≡ grown (P.sent port.old) out) × Tells (L.told log.old) (L.told log.new) events
         × (((result ≡ Ended.Done) × (taken ≡ turns)) ⊎ ((result ≢ Ended.Done) × (taken < turns)))
         × (K.keeps kept.old.keeper kept.old.node → spec.LeavesKept K.keeps K.may_hold result last.node kept.new.node kept.new.keeper) }
     ensures ends { ends.EndsKept result }
 {
+    telling_goes_on();
     let mut pace = Pace::START;
     for _ in 0..turns {
         match one_kept_turn(alloc, supply, port, kept, log, &mut pace) {
@@ -52,7 +56,13 @@ pub(crate) fn take_kept_turns<
 }
 
 // One turn, of which the log tells.
-fn one_kept_turn<W: Watch + Drop, P: Port, N: Node<Suite>, K: KeepsSteps<Suite, N>, L: Log>(
+fn one_kept_turn<
+    W: Watch + Drop,
+    P: Port,
+    N: Node<Suite> + Holding,
+    K: KeepsSteps<Suite, N>,
+    L: Log,
+>(
     alloc: Global,
     supply: &mut ClockAndRandom<W>,
     port: &mut P,
@@ -60,11 +70,11 @@ fn one_kept_turn<W: Watch + Drop, P: Port, N: Node<Suite>, K: KeepsSteps<Suite, 
     log: &mut L,
     pace: &mut Pace,
 ) -> Result<(), Ended>
-    ensures ok { OnOk result ((text : List ℕ) × (out : List AnyDatagram)
-        × turning.GoesOn N.acts N.is_step
-        (record { node = kept.old.node; busy = pace.old.busy_since; supply = supply.old }) (record { sent = out; text = text })
+    ensures ok { OnOk result ((events : List Event) × (out : List AnyDatagram)
+        × turning.GoesOn N.acts N.is_step N.held
+        (record { node = kept.old.node; busy = pace.old.busy_since; supply = supply.old }) (record { sent = out; events = events })
         (record { node = kept.new.node; busy = pace.new.busy_since; supply = supply.new })
-        × (P.sent port.new ≡ grown (P.sent port.old) out) × Tells (L.told log.old) (L.told log.new) text) }
+        × (P.sent port.new ≡ grown (P.sent port.old) out) × Tells (L.told log.old) (L.told log.new) events) }
     ensures kept { OnOk result (K.keeps kept.old.keeper kept.old.node → K.keeps kept.new.keeper kept.new.node) }
     ensures err { OnErr result ((P.sent port.new ≡ P.sent port.old) × (log.new ≡ log.old)) }
     ensures left { IfErr result (λ ended. spec.LeavesNode N.is_step ended kept.old.node kept.new.node) }
@@ -75,14 +85,14 @@ fn one_kept_turn<W: Watch + Drop, P: Port, N: Node<Suite>, K: KeepsSteps<Suite, 
     let (now, draw) = moment_and_draw(supply)?;
     match kept_turn::<Suite, _, _, _>(alloc, port, kept, pace, now, &draw) {
         Ok(turned) => {
-            log.step(alloc, now, &turned.step);
+            tell_turn(alloc, log, now, &turned, &kept.node);
             drop(turned);
             Ok(())
         }
         Err(Unsent::NoStep(TurnError::Memory)) => {
             // Before the next tick it takes what comes, so a node without memory waits between its turns.
             *pace = Pace::START;
-            log.lost();
+            log.lost(now);
             Ok(())
         }
         Err(Unsent::NoStep(TurnError::Port(_))) => Err(Ended::PortFailed),

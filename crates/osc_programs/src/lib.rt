@@ -2,19 +2,17 @@
 #![tactic(auto)]
 
 mod asking;
-mod at_once;
 mod checked;
 mod checking;
 mod drawing;
 mod ended;
+mod holding;
 mod issue;
 mod kept;
 mod key;
-mod log;
 mod noted;
 mod payload_file;
 mod reading;
-mod refusals;
 mod running;
 mod simulate;
 mod store;
@@ -26,7 +24,6 @@ mod udp;
 mod unread;
 
 pub use asking::ask;
-pub use at_once::AtOnce;
 pub use checking::{check_client, check_proxy, check_server};
 pub use drawing::{draw, write_capture};
 pub use ended::{
@@ -34,10 +31,8 @@ pub use ended::{
 };
 pub use issue::{drawn_iv, issue_token, iv_of, token, written};
 pub use key::issue_key;
-pub use log::{Faults, Lines, Log, Silent, step_text};
 pub use noted::{Kept, Noted};
 pub use osc_simulation::TraceForm;
-pub use osc_store::{Start, Wary};
 pub use payload_file::with_payload;
 pub use reading::bytes_of;
 pub use running::{bound, forward, send, serve};
@@ -47,4 +42,4 @@ pub use supply::{moment_and_draw, supply_of};
 pub use token_files::filled;
 pub use turns::take_turn;
 pub use udp::{SocketPort, Sockets, UdpPort, Why};
-pub use unread::unread_text;
+pub use unread::unread_words;

@@ -1,12 +1,13 @@
 //! Settings that a reader gives, and what is told where they are none.
 ghost use Rattle.std.specs.Prelude.{◌≡◌, ◌⊎◌, List, ℕ, IfErr, IfOk, IfSome, MatchResult, OnOk};
 ghost use Rattle.osc_programs.specs.Ended as ends;
-ghost use Rattle.osc_programs.specs.Log.{Writes};
+ghost use Rattle.osc_log.specs.{Writes};
 ghost use Rattle.osc_programs.specs.Unread as spec;
 ghost use Rattle.osc_settings.specs.{StandsFor, IsClientFault, IsFaultOfProxy, IsKeyFault, IsServerFault, AreClientSettings, AreProxySettings, AreServerSettings};
 
 use crate::ended::{Ended, ended_by_io};
-use crate::log::Log;
+use crate::unread::unread_words;
+use osc_log::Log;
 use osc_settings::{
     ClientSettings, ProxySettings, ServerSettings, SettingsError, read_client_settings,
     read_proxy_settings, read_server_settings,
@@ -114,14 +115,24 @@ pub fn bytes_of<I: Read>(alloc: Global, reader: &mut I) -> Result<Vec<u8>, Ended
 // How a program ends without settings. The log tells why, but for lack of memory.
 fn ended_without<L: Log>(alloc: Global, log: &mut L, why: &SettingsError) -> Ended
     ensures memory { why.now ≡ SettingsError.Memory → result ≡ Ended.OutOfMemory }
-    ensures told { result ≡ Ended.BadSettings → (text : List ℕ) × spec.IsUnreadText why.now text × Writes (L.told log.old) (L.told log.new) text }
+    ensures told { result ≡ Ended.BadSettings → (text : List ℕ) × spec.IsUnreadText (L.told log.old).form why.now text × Writes (L.told log.old) (L.told log.new) text }
     ensures ends { ends.NoSettings result }
 {
     match why {
         SettingsError::Memory => Ended::OutOfMemory,
         _ => {
-            log.no_settings(alloc, why);
+            tell_why(alloc, log, why);
             Ended::BadSettings
         }
+    }
+}
+
+// The log tells why, or that there was no memory to say so.
+fn tell_why<L: Log>(alloc: Global, log: &mut L, why: &SettingsError)
+    ensures { (text : List ℕ) × spec.IsUnreadText (L.told log.old).form why.now text × Writes (L.told log.old) (L.told log.new) text }
+{
+    match unread_words(alloc, why) {
+        Ok(words) => log.no_settings(alloc, Some(&words)),
+        Err(_) => log.no_settings(alloc, None),
     }
 }

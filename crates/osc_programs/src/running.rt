@@ -1,14 +1,14 @@
 //! Nodes that run on a socket: a server, and a proxy.
 ghost use Rattle.std.specs.FinMap as map;
 ghost use Rattle.std.specs.FinSet as set;
-ghost use Rattle.std.specs.Prelude.{◌≡◌, ◌<◌, ◌≤◌, ℕ, List, IfErr, IfOk, IfSome, OnOk, None, Some, length, map, option_map};
+ghost use Rattle.std.specs.Prelude.{◌≡◌, ◌<◌, ◌≤◌, List, IfErr, IfOk, IfSome, OnOk, None, Some, length, map, option_map};
 ghost use Rattle.osc_model.specs.{longest_payload, most_resources, exactly};
 ghost use Rattle.osc_model.specs.declared.code.Method.TheVariants as AnyMethod;
 ghost use Rattle.osc_turn.specs.{IsOfSeed, grown};
 ghost use Rattle.osc_programs.specs.Ended as ends;
-ghost use Rattle.osc_programs.specs.Log.{Tells};
+ghost use Rattle.osc_log.specs.{Event, Tells};
 ghost use Rattle.osc_programs.specs.Serving as spec;
-ghost use Rattle.osc_programs.specs.Storing.{BeginsWith};
+ghost use Rattle.osc_programs.specs.Storing.{BeginsWith, IsKept};
 ghost use Rattle.osc_programs.specs.System as system;
 ghost use Rattle.osc_model.specs.Tree.{Tree as AnyTree};
 ghost use Rattle.osc_programs.specs.Turning as turning;
@@ -18,7 +18,7 @@ ghost use Rattle.osc_settings.specs.declared.proxy.ProxySettings.{ProxySettings 
 ghost use Rattle.osc_settings.specs.declared.server.ServerSettings.{ServerSettings as ServedBy};
 
 use crate::ended::Ended;
-use crate::log::Log;
+use crate::holding::Holding;
 use crate::reading::{proxy_settings, server_settings};
 use crate::store::{Stores, tell_unkept};
 use crate::storing::serve_stored;
@@ -27,6 +27,7 @@ use crate::turns::take_turns;
 use crate::udp::{SocketPort, Sockets, Why};
 use osc_authz::{ContextRules, DeskParts, ServerDesk};
 use osc_ccm::Suite;
+use osc_log::Log;
 use osc_model::laws::permissions_are_ordered;
 use osc_model::{ClientResult, Datagrams, Method, Path, Peer, Resource};
 use osc_proxy::{Proxy, Target, Targets};
@@ -53,9 +54,10 @@ pub fn serve<R: Clock + Eprint + Seeds + Sockets + Stores, I: Read, L: Log>(
     log: &mut L,
     turns: u64,
 ) -> Ended
-    ensures done { result ≡ Ended.Done → (settings : ServedBy) × (tree : AnyTree) × (text : List ℕ) × IfSome (I.remaining reader.old) (λ bytes. StandsFor AreServerSettings bytes settings)
+    ensures done { result ≡ Ended.Done → (settings : ServedBy) × (tree : AnyTree) × (text : List Event) × IfSome (I.remaining reader.old) (λ bytes. StandsFor AreServerSettings bytes settings)
         × BeginsWith (R.holds runtime.now) settings tree
         × (serves : spec.Serves settings tree turns text) × system.RunsOn (R.gave runtime.now) (R.opened runtime.now settings.bind None) R.Socket.sent serves.runs.start serves.runs.sent
+        × IsKept R.Keeper.keeps settings.store serves.last
         × Tells (L.told log.old) (L.told log.new) text }
     ensures bad { result ≡ Ended.BadSettings → TellsWhy (λ document. IsKeyFault (IsServerFault document)) (I.remaining reader.old) (L.told log.old) (L.told log.new) }
     ensures ends { ends.EndsServer result }
@@ -74,7 +76,7 @@ pub fn forward<R: Clock + Eprint + Seeds + Sockets, I: Read, L: Log>(
     log: &mut L,
     turns: u64,
 ) -> Ended
-    ensures done { result ≡ Ended.Done → (settings : ForwardedBy) × (text : List ℕ) × IfSome (I.remaining reader.old) (λ bytes. StandsFor AreProxySettings bytes settings)
+    ensures done { result ≡ Ended.Done → (settings : ForwardedBy) × (text : List Event) × IfSome (I.remaining reader.old) (λ bytes. StandsFor AreProxySettings bytes settings)
         × (forwards : spec.Forwards settings turns text) × system.RunsOn (R.gave runtime.now) (R.opened runtime.now settings.bind None) R.Socket.sent forwards.runs.start forwards.runs.sent
         × Tells (L.told log.old) (L.told log.new) text }
     ensures bad { result ≡ Ended.BadSettings → TellsWhy IsFaultOfProxy (I.remaining reader.old) (L.told log.old) (L.told log.new) }
@@ -95,8 +97,9 @@ fn serve_by<R: Clock + Eprint + Seeds + Sockets + Stores, L: Log>(
     log: &mut L,
     turns: u64,
 ) -> Ended
-    ensures done { result ≡ Ended.Done → (tree : AnyTree) × (text : List ℕ) × BeginsWith (R.holds runtime.now) settings tree
+    ensures done { result ≡ Ended.Done → (tree : AnyTree) × (text : List Event) × BeginsWith (R.holds runtime.now) settings tree
         × (serves : spec.Serves settings tree turns text) × system.RunsOn (R.gave runtime.now) (R.opened runtime.now settings.bind None) R.Socket.sent serves.runs.start serves.runs.sent
+        × IsKept R.Keeper.keeps settings.store serves.last
         × Tells (L.told log.old) (L.told log.new) text }
     ensures ends { ends.EndsServing result }
 {
@@ -125,7 +128,7 @@ fn serve_from_settings<R: Clock + Eprint + Seeds + Sockets, L: Log>(
     log: &mut L,
     turns: u64,
 ) -> Ended
-    ensures done { result ≡ Ended.Done → (text : List ℕ)
+    ensures done { result ≡ Ended.Done → (text : List Event)
         × (serves : spec.Serves settings (spec.tree_of settings.resources.items) turns text) × system.RunsOn (R.gave runtime.now) (R.opened runtime.now settings.bind None) R.Socket.sent serves.runs.start serves.runs.sent
         × Tells (L.told log.old) (L.told log.new) text }
     ensures ends { ends.EndsTurns result }
@@ -144,7 +147,7 @@ fn forward_by<R: Clock + Eprint + Seeds + Sockets, L: Log>(
     log: &mut L,
     turns: u64,
 ) -> Ended
-    ensures done { result ≡ Ended.Done → (text : List ℕ)
+    ensures done { result ≡ Ended.Done → (text : List Event)
         × (forwards : spec.Forwards settings turns text) × system.RunsOn (R.gave runtime.now) (R.opened runtime.now settings.bind None) R.Socket.sent forwards.runs.start forwards.runs.sent
         × Tells (L.told log.old) (L.told log.new) text }
     ensures ends { ends.EndsTurns result }
@@ -290,7 +293,7 @@ fn target_of(setting: &TargetSetting) -> Result<Target, AllocError>
 // ---- turns
 
 // The node takes so many turns at this address.
-fn run<R: Clock + Eprint + Seeds + Sockets, N: Node<Suite>, L: Log>(
+fn run<R: Clock + Eprint + Seeds + Sockets, N: Node<Suite> + Holding, L: Log>(
     alloc: Global,
     runtime: &R,
     bind: Peer,
@@ -298,8 +301,8 @@ fn run<R: Clock + Eprint + Seeds + Sockets, N: Node<Suite>, L: Log>(
     log: &mut L,
     turns: u64,
 ) -> Ended
-    ensures done { result ≡ Ended.Done → (text : List ℕ)
-        × (runs : turning.Runs N.acts N.is_step turns text node.old node.new) × system.RunsOn (R.gave runtime.now) (R.opened runtime.now bind None) R.Socket.sent runs.start runs.sent
+    ensures done { result ≡ Ended.Done → (text : List Event)
+        × (runs : turning.Runs N.acts N.is_step N.held turns text node.old node.new) × system.RunsOn (R.gave runtime.now) (R.opened runtime.now bind None) R.Socket.sent runs.start runs.sent
         × Tells (L.told log.old) (L.told log.new) text }
     ensures ends { ends.EndsTurns result }
 {
@@ -377,7 +380,7 @@ fn ended_by_port(why: &Why) -> Ended
     }
 }
 
-fn started<R: Clock + Eprint + Seeds, P: SocketPort, N: Node<Suite>, L: Log>(
+fn started<R: Clock + Eprint + Seeds, P: SocketPort, N: Node<Suite> + Holding, L: Log>(
     alloc: Global,
     runtime: &R,
     port: &mut P,
@@ -385,8 +388,8 @@ fn started<R: Clock + Eprint + Seeds, P: SocketPort, N: Node<Suite>, L: Log>(
     log: &mut L,
     turns: u64,
 ) -> Ended
-    ensures done { result ≡ Ended.Done → (text : List ℕ)
-        × (runs : turning.Runs N.acts N.is_step turns text node.old node.new) × IsOfSeed (R.gave runtime.now) runs.start.generator
+    ensures done { result ≡ Ended.Done → (text : List Event)
+        × (runs : turning.Runs N.acts N.is_step N.held turns text node.old node.new) × IsOfSeed (R.gave runtime.now) runs.start.generator
         × (P.sent port.new ≡ grown (P.sent port.old) runs.sent) × Tells (L.told log.old) (L.told log.new) text }
     ensures ends { ends.EndsTurns result }
 {

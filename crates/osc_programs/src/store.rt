@@ -1,11 +1,12 @@
 //! The store of a server: opened, made where there is none yet, and listed.
 ghost use Rattle.std.specs.FinMap as map;
 ghost use Rattle.std.specs.Io.KnownBytes.{Appends};
-ghost use Rattle.std.specs.Prelude.{◌≡◌, ◌++◌, IfErr, IfOk, List, OnOk, fold, ℕ};
+ghost use Rattle.std.specs.Prelude.{◌≡◌, ◌++◌, [], IfErr, IfOk, List, OnOk, fold, ℕ};
 ghost use Rattle.std.specs.List.{flat_map};
 ghost use Rattle.sqlite_store.specs.FileStore.{recovers, view};
 ghost use Rattle.sqlite_wal.specs.Files.{image_at};
 ghost use Rattle.osc_model.specs.Tree.{Tree as AnyTree};
+ghost use Rattle.osc_server.specs.State.{State as AnyServer};
 ghost use Rattle.osc_settings.specs.declared.resource.ResourceSetting.{ResourceSetting as AnySetting};
 ghost use Rattle.osc_programs.specs.Ended as ends;
 ghost use Rattle.osc_programs.specs.Serving.{with_resource};
@@ -47,7 +48,15 @@ pub trait Stores {
         first: &[ResourceSetting],
     ) -> Result<(Self::Keeper, Tree), Ended>
         ensures opened { IfOk result (λ stored. holds self.now file.now first.now stored.0 stored.1) }
+        // Whatever a crash leaves from then on, the next start finds these resources.
+        ensures kept { IfOk result (λ stored. (server : AnyServer) → server.tree ≡ stored.1 → Self.Keeper.keeps stored.0 server) }
         ensures ends { IfErr result ends.NoStore };
+
+    /// Opens the store in this file, where there is one, with the resources that it holds. A line on the standard error tells why it isn't
+    /// opened.
+    fn find_store(&self, file: &str) -> Result<(Self::Keeper, Tree), Ended>
+        ensures found { IfOk result (λ stored. holds self.now file.now [] stored.0 stored.1) }
+        ensures ends { IfErr result ends.NotOpened };
 }
 
 /// The stores in files of this system. Nothing is supposed of what they hold.
@@ -66,24 +75,29 @@ impl Stores for HostRuntime {
         }
         old_store(self, file, Wary)
     }
+
+    fn find_store(&self, file: &str) -> Result<(Keeper<FileStore<FileFrom<Wary>>>, Tree), Ended> {
+        if is_missing(self, file) {
+            return Err(refused_by(self, file, ErrorKind::NotFound));
+        }
+        old_store(self, file, Wary)
+    }
 }
 
 /// Writes a line for each resource that the store in this file holds: `resource PATH FORMAT N bytes`, in the order of the bytes of their paths.
 /// A line on the standard error tells why it isn't opened.
-pub fn list_store<S: Start, W: Write>(
-    rt: &HostRuntime,
+pub fn list_store<R: Stores, W: Write>(
+    alloc: Global,
+    runtime: &R,
     file: &str,
-    start: S,
     writer: &mut W,
 ) -> Ended
-    ensures done { result ≡ Ended.Done → (tree : AnyTree) × Appends (W.contents writer.old) (W.contents writer.new) (spec.store_lines tree) }
+    ensures done { result ≡ Ended.Done → (tree : AnyTree) × spec.IsHeld (R.holds runtime.now) file.now tree
+        × Appends (W.contents writer.old) (W.contents writer.new) (spec.store_lines tree) }
     ensures ends { ends.EndsStore result }
 {
-    if is_missing(rt, file) {
-        return refused_by(rt, file, ErrorKind::NotFound);
-    }
-    match old_store(rt, file, start) {
-        Ok((_keeper, tree)) => list_tree(rt.alloc(), &tree, writer),
+    match runtime.find_store(file) {
+        Ok((_keeper, tree)) => list_tree(alloc, &tree, writer),
         Err(ended) => ended,
     }
 }

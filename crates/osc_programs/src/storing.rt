@@ -1,23 +1,25 @@
 //! A server whose resources are in a store.
-ghost use Rattle.std.specs.Prelude.{◌≡◌, None, List, ℕ};
+ghost use Rattle.std.specs.Prelude.{◌≡◌, None, List};
 ghost use Rattle.osc_model.specs.Tree.{Tree as AnyTree};
 ghost use Rattle.osc_server.specs.State.{State as AnyServer};
 ghost use Rattle.osc_turn.specs.{IsOfSeed, grown};
 ghost use Rattle.osc_programs.specs.Ended as ends;
 ghost use Rattle.osc_programs.specs.Kept as spec;
-ghost use Rattle.osc_programs.specs.Log.{Tells};
+ghost use Rattle.osc_log.specs.{Event, Tells};
 ghost use Rattle.osc_programs.specs.Serving.{Serves};
+ghost use Rattle.osc_programs.specs.Storing.{SomeKeeps};
 ghost use Rattle.osc_programs.specs.System as system;
 ghost use Rattle.osc_programs.specs.Turning as turning;
 
 use crate::ended::Ended;
+use crate::holding::Holding;
 use crate::kept::take_kept_turns;
-use crate::log::Log;
 use crate::running::{opened, server_with, tell_address, tell_end};
 use crate::supply::supply_of;
 use crate::udp::{SocketPort, Sockets};
 use osc_ccm::Suite;
 use osc_kept::{KeepsSteps, KeptNode};
+use osc_log::Log;
 use osc_model::Peer;
 use osc_run::Node;
 use osc_server::Server;
@@ -41,8 +43,9 @@ pub(crate) fn serve_stored<
     log: &mut L,
     turns: u64,
 ) -> Ended
-    ensures done { result ≡ Ended.Done → (text : List ℕ)
+    ensures done { result ≡ Ended.Done → (text : List Event)
         × (serves : Serves settings stored.1 turns text) × system.RunsOn (R.gave runtime.now) (R.opened runtime.now settings.bind None) R.Socket.sent serves.runs.start serves.runs.sent
+        × (((server : AnyServer) → server.tree ≡ stored.1 → K.keeps stored.0 server) → SomeKeeps K.keeps serves.last)
         × Tells (L.told log.old) (L.told log.new) text }
     ensures ends { ends.EndsServing result }
 {
@@ -58,7 +61,12 @@ pub(crate) fn serve_stored<
 }
 
 // The node takes so many turns at this address.
-fn run_kept<R: Clock + Eprint + Seeds + Sockets, N: Node<Suite>, K: KeepsSteps<Suite, N>, L: Log>(
+fn run_kept<
+    R: Clock + Eprint + Seeds + Sockets,
+    N: Node<Suite> + Holding,
+    K: KeepsSteps<Suite, N>,
+    L: Log,
+>(
     alloc: Global,
     runtime: &R,
     bind: Peer,
@@ -66,8 +74,8 @@ fn run_kept<R: Clock + Eprint + Seeds + Sockets, N: Node<Suite>, K: KeepsSteps<S
     log: &mut L,
     turns: u64,
 ) -> Ended
-    ensures done { result ≡ Ended.Done → (text : List ℕ)
-        × (runs : turning.Runs N.acts N.is_step turns text kept.old.node kept.new.node) × system.RunsOn (R.gave runtime.now) (R.opened runtime.now bind None) R.Socket.sent runs.start runs.sent
+    ensures done { result ≡ Ended.Done → (text : List Event)
+        × (runs : turning.Runs N.acts N.is_step N.held turns text kept.old.node kept.new.node) × system.RunsOn (R.gave runtime.now) (R.opened runtime.now bind None) R.Socket.sent runs.start runs.sent
         × Tells (L.told log.old) (L.told log.new) text }
     ensures kept { K.keeps kept.old.keeper kept.old.node → spec.StaysKept K.keeps K.may_hold result kept.new.node kept.new.keeper }
     ensures ends { ends.EndsKept result }
@@ -81,7 +89,7 @@ fn run_kept<R: Clock + Eprint + Seeds + Sockets, N: Node<Suite>, K: KeepsSteps<S
 fn started_kept<
     R: Clock + Eprint + Seeds,
     P: SocketPort,
-    N: Node<Suite>,
+    N: Node<Suite> + Holding,
     K: KeepsSteps<Suite, N>,
     L: Log,
 >(
@@ -92,8 +100,8 @@ fn started_kept<
     log: &mut L,
     turns: u64,
 ) -> Ended
-    ensures done { result ≡ Ended.Done → (text : List ℕ)
-        × (runs : turning.Runs N.acts N.is_step turns text kept.old.node kept.new.node) × IsOfSeed (R.gave runtime.now) runs.start.generator
+    ensures done { result ≡ Ended.Done → (text : List Event)
+        × (runs : turning.Runs N.acts N.is_step N.held turns text kept.old.node kept.new.node) × IsOfSeed (R.gave runtime.now) runs.start.generator
         × (P.sent port.new ≡ grown (P.sent port.old) runs.sent) × Tells (L.told log.old) (L.told log.new) text }
     ensures kept { K.keeps kept.old.keeper kept.old.node → spec.StaysKept K.keeps K.may_hold result kept.new.node kept.new.keeper }
     ensures ends { ends.EndsKept result }

@@ -1,22 +1,25 @@
 //! Turns of a node at a port, at the moments of a clock and with the bytes of a generator.
-ghost use Rattle.std.specs.Prelude.{◌≡◌, ◌≢◌, ◌⊎◌, ◌<◌, ℕ, List, None, IfErr, IfOk, OnErr, OnOk};
+ghost use Rattle.std.specs.Prelude.{◌≡◌, ◌≢◌, ◌⊎◌, ◌<◌, ◌∷◌, [], ℕ, List, None, IfErr, IfOk, OnErr, OnOk};
 ghost use Rattle.osc_model.specs.declared.step.Datagram.{Datagram as AnyDatagram};
 ghost use Rattle.osc_turn.specs.{grown};
 ghost use Rattle.osc_programs.specs.Ended as ends;
-ghost use Rattle.osc_programs.specs.Log.{Tells};
+ghost use Rattle.osc_log.specs.{Event, Tells, turned as turned_event};
 ghost use Rattle.osc_programs.specs.Turning as spec;
 
 use crate::ended::Ended;
-use crate::log::Log;
+use crate::holding::{Asked, Holding};
 use crate::supply::moment_and_draw;
 use osc_ccm::Suite;
+use osc_log::laws::telling_goes_on;
+use osc_log::{Log, Turn};
+use osc_model::Moment;
 use osc_run::Node;
 use osc_turn::{ClockAndRandom, Pace, Port, TurnError, Turned, Watch, paced_turn};
 use std::alloc::Global;
 
 /// The node takes so many turns, unless one fails, and the log tells of each. A datagram that can't be sent is lost, as on the way; so
 /// is what came where there is no memory for its step.
-pub(crate) fn take_turns<W: Watch + Drop, P: Port, N: Node<Suite>, L: Log>(
+pub(crate) fn take_turns<W: Watch + Drop, P: Port, N: Node<Suite> + Holding, L: Log>(
     alloc: Global,
     supply: &mut ClockAndRandom<W>,
     port: &mut P,
@@ -24,13 +27,14 @@ pub(crate) fn take_turns<W: Watch + Drop, P: Port, N: Node<Suite>, L: Log>(
     log: &mut L,
     turns: u64,
 ) -> Ended
-    ensures turns { (taken : ℕ) × (out : List AnyDatagram) × (text : List ℕ) × (last : spec.Running N)
-        × spec.Turns N.acts N.is_step taken
-        (record { node = node.old; busy = None; supply = supply.old }) (record { sent = out; text = text }) last
-        × (node.new ≡ last.node) × (P.sent port.new ≡ grown (P.sent port.old) out) × Tells (L.told log.old) (L.told log.new) text
+    ensures turns { (taken : ℕ) × (out : List AnyDatagram) × (events : List Event) × (last : spec.Running N)
+        × spec.Turns N.acts N.is_step N.held taken
+        (record { node = node.old; busy = None; supply = supply.old }) (record { sent = out; events = events }) last
+        × (node.new ≡ last.node) × (P.sent port.new ≡ grown (P.sent port.old) out) × Tells (L.told log.old) (L.told log.new) events
         × (((result ≡ Ended.Done) × (taken ≡ turns)) ⊎ ((result ≢ Ended.Done) × (taken < turns))) }
     ensures ends { ends.EndsTurns result }
 {
+    telling_goes_on();
     let mut pace = Pace::START;
     for _ in 0..turns {
         match one_turn(alloc, supply, port, node, log, &mut pace) {
@@ -42,7 +46,7 @@ pub(crate) fn take_turns<W: Watch + Drop, P: Port, N: Node<Suite>, L: Log>(
 }
 
 // One turn, of which the log tells.
-fn one_turn<W: Watch + Drop, P: Port, N: Node<Suite>, L: Log>(
+fn one_turn<W: Watch + Drop, P: Port, N: Node<Suite> + Holding, L: Log>(
     alloc: Global,
     supply: &mut ClockAndRandom<W>,
     port: &mut P,
@@ -50,29 +54,48 @@ fn one_turn<W: Watch + Drop, P: Port, N: Node<Suite>, L: Log>(
     log: &mut L,
     pace: &mut Pace,
 ) -> Result<(), Ended>
-    ensures ok { OnOk result ((text : List ℕ) × (out : List AnyDatagram)
-        × spec.GoesOn N.acts N.is_step
-        (record { node = node.old; busy = pace.old.busy_since; supply = supply.old }) (record { sent = out; text = text })
+    ensures ok { OnOk result ((events : List Event) × (out : List AnyDatagram)
+        × spec.GoesOn N.acts N.is_step N.held
+        (record { node = node.old; busy = pace.old.busy_since; supply = supply.old }) (record { sent = out; events = events })
         (record { node = node.new; busy = pace.new.busy_since; supply = supply.new })
-        × (P.sent port.new ≡ grown (P.sent port.old) out) × Tells (L.told log.old) (L.told log.new) text) }
+        × (P.sent port.new ≡ grown (P.sent port.old) out) × Tells (L.told log.old) (L.told log.new) events) }
     ensures err { OnErr result ((node.new ≡ node.old) × (P.sent port.new ≡ P.sent port.old) × (log.new ≡ log.old)) }
     ensures fault { IfErr result ends.IsFault }
 {
     let (now, draw) = moment_and_draw(supply)?;
     match paced_turn::<Suite, _, _>(alloc, port, node, pace, now, &draw) {
         Ok(turned) => {
-            log.step(alloc, now, &turned.step);
+            tell_turn(alloc, log, now, &turned, node);
             drop(turned);
             Ok(())
         }
         Err(TurnError::Memory) => {
             // Before the next tick it takes what comes, so a node without memory waits between its turns.
             *pace = Pace::START;
-            log.lost();
+            log.lost(now);
             Ok(())
         }
         Err(TurnError::Port(_)) => Err(Ended::PortFailed),
     }
+}
+
+/// The log tells of a turn of this node.
+pub(crate) fn tell_turn<N: Holding, L: Log>(
+    alloc: Global,
+    log: &mut L,
+    now: Moment,
+    turned: &Turned,
+    node: &N,
+)
+    ensures { Tells (L.told log.old) (L.told log.new)
+        (turned_event (record { now = now; received = turned.now.received; step = turned.now.step }) (N.held node.now) ∷ []) }
+{
+    let turn = Turn {
+        now,
+        received: turned.received,
+        step: &turned.step,
+    };
+    log.turn(alloc, &turn, &Asked { node });
 }
 
 /// One turn of the node, at the next moment and with the next draw.

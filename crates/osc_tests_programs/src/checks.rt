@@ -1,7 +1,8 @@
 //! What `--check` says of settings, keys that are drawn, and payloads that are in files.
 use crate::broken::BrokenReader;
+use osc_log::{Form, Lines};
 use osc_programs::{
-    Ended, Lines, check_client, check_proxy, check_server, ended_by, issue_key, with_payload,
+    Ended, check_client, check_proxy, check_server, ended_by, issue_key, with_payload,
 };
 use osc_words::{Words, read_words};
 use std::alloc::{AllocError, Global};
@@ -19,7 +20,7 @@ const CLIENT: &[u8] =
 #[test]
 fn settings_are_said_without_secrets(rt: HostRuntime) -> Result<(), Fail> {
     let alloc = rt.alloc();
-    let mut lines = Lines::new(Vec::new(alloc));
+    let mut lines = Lines::new(alloc, Form::Text, Vec::new(alloc));
     let mut said = Vec::new(alloc);
     let mut reader = SERVER;
     assert_eq!(rt;
@@ -56,7 +57,7 @@ fn settings_are_said_without_secrets(rt: HostRuntime) -> Result<(), Fail> {
 #[test]
 fn settings_that_are_none_are_not_said(rt: HostRuntime) -> Result<(), Fail> {
     let alloc = rt.alloc();
-    let mut lines = Lines::new(Vec::new(alloc));
+    let mut lines = Lines::new(alloc, Form::Text, Vec::new(alloc));
     let mut said = Vec::new(alloc);
     let mut reader = b"bind = 1".as_slice();
     assert_eq!(rt;

@@ -1,7 +1,8 @@
 //! What a server and a proxy tell, with a log, of settings that are none: the first key that is at fault, and nothing of its value.
 use crate::broken::BrokenWriter;
-use osc_programs::{Ended, Lines, Log, Silent, forward, serve, unread_text};
-use osc_settings::{SettingsError, read_client_settings};
+use osc_log::{Form, Lines, Log, Silent};
+use osc_programs::{Ended, forward, serve, unread_words};
+use osc_settings::read_client_settings;
 use std::test::Fail;
 
 const KEY: &str = "key = '000102030405060708090a0b0c0d0e0f'\n";
@@ -9,14 +10,14 @@ const KEY: &str = "key = '000102030405060708090a0b0c0d0e0f'\n";
 /// How a server with these lines ends, and what its log has.
 fn served(rt: &HostRuntime, bytes: &[u8]) -> Result<(Ended, Vec<u8>), Fail> {
     let mut reader = bytes;
-    let mut lines = Lines::new(Vec::from_slice(rt.alloc(), b"> ")?);
+    let mut lines = Lines::new(rt.alloc(), Form::Text, Vec::from_slice(rt.alloc(), b"> ")?);
     let ended = serve(rt.alloc(), rt, &mut reader, &mut lines, 1);
     Ok((ended, lines.into_writer()))
 }
 
 fn forwarded(rt: &HostRuntime, bytes: &[u8]) -> Result<(Ended, Vec<u8>), Fail> {
     let mut reader = bytes;
-    let mut lines = Lines::new(Vec::from_slice(rt.alloc(), b"> ")?);
+    let mut lines = Lines::new(rt.alloc(), Form::Text, Vec::from_slice(rt.alloc(), b"> ")?);
     let ended = forward(rt.alloc(), rt, &mut reader, &mut lines, 1);
     Ok((ended, lines.into_writer()))
 }
@@ -184,12 +185,12 @@ fn the_key_of_a_client_is_named(rt: HostRuntime) -> Result<(), Fail> {
     let alloc = rt.alloc();
     for &(lines, why) in &CLIENTS {
         let text = format!(in alloc; "bind = '127.0.0.1:1'\npeer = '127.0.0.1:2'\n{lines}")?;
-        let wanted = format!(in alloc; "settings: {why}\n")?;
+        let wanted = format!(in alloc; "settings: {why}")?;
         let told = match read_client_settings(alloc, text.as_str()) {
-            Ok(_) => Vec::new(alloc),
-            Err(error) => unread_text(alloc, &error)?,
+            Ok(_) => String::new(alloc),
+            Err(error) => unread_words(alloc, &error)?,
         };
-        assert!(rt; told.as_slice() == wanted.as_bytes(), "{lines}");
+        assert!(rt; told.as_str() == wanted.as_str(), "{lines}");
     }
     Ok(())
 }
@@ -203,11 +204,11 @@ fn settings_end_alike_with_any_log(rt: HostRuntime) -> Result<(), Fail> {
         Ended::BadSettings
     );
     let mut reader = b"bind = 1".as_slice();
-    let mut lines = Lines::new(BrokenWriter { writes: 0 });
+    let mut lines = Lines::new(rt.alloc(), Form::Text, BrokenWriter { writes: 0 });
     assert_eq!(rt;
         forward(rt.alloc(), &rt, &mut reader, &mut lines, 1),
         Ended::BadSettings
     );
-    Silent.no_settings(rt.alloc(), &SettingsError::NotToml);
+    Silent.no_settings(rt.alloc(), Some("settings: the text is no TOML"));
     Ok(())
 }

@@ -1,10 +1,12 @@
-//! The lines by which a node tells what its steps did.
+//! The lines by which a node tells what its turns did, as text and as JSON.
+ghost use Rattle.osc_log.specs.declared.held.Held.TheVariants as AnyHeld;
+
 use crate::broken::{BrokenWriter, FullPipe};
+use osc_log::{AtOnce, Form, Held, Holds, Lines, Log, Silent, Turn};
 use osc_model::{
-    Algorithm, Bytes, Code, ContextName, Datagram, Datagrams, Entry, Moment, Peer, RefusedRequest,
-    Reply, SharedName, Step, StepNotes,
+    Algorithm, Bytes, Code, ContextName, Datagram, Datagrams, Entry, Moment, Note, Peer,
+    RefusedRequest, Reply, SharedName, Side, Step, StepNotes,
 };
-use osc_programs::{AtOnce, Lines, Log, Silent, step_text};
 use std::alloc::{AllocError, Global};
 use std::io::{ErrorKind, Write};
 use std::test::Fail;
@@ -52,9 +54,14 @@ fn serving(alloc: Global, plaintext: &[u8]) -> Result<Step, AllocError> {
 }
 
 fn name(alloc: Global) -> Result<ContextName, AllocError> {
+    name_by(alloc, b"")
+}
+
+/// The name of a context with this salt.
+fn name_by(alloc: Global, salt: &[u8]) -> Result<ContextName, AllocError> {
     Ok(ContextName {
         secret: Bytes::from_slice(alloc, b"master")?,
-        salt: Bytes::new(alloc),
+        salt: Bytes::from_slice(alloc, salt)?,
         id_context: None,
         client_id: Bytes::new(alloc),
         server_id: Bytes::new(alloc),
@@ -66,11 +73,41 @@ fn moment() -> Moment {
     Moment::new(NOW).unwrap_or(Moment::START)
 }
 
+/// A server with three contexts and two resources.
+struct Shelf;
+
+impl Holds for Shelf {
+    ghost held = { λ _. AnyHeld.Server 3 2 };
+
+    fn held(&self) -> Held {
+        Held::Server {
+            contexts: 3,
+            resources: 2,
+        }
+    }
+}
+
+/// Tells of a turn at this moment, in which a datagram came and the node did this.
+fn tell<W: Write + Drop>(alloc: Global, lines: &mut Lines<W>, now: Moment, step: &Step) {
+    let turn = Turn {
+        now,
+        received: true,
+        step,
+    };
+    lines.turn(alloc, &turn, &Shelf);
+}
+
+/// What is told of the step alone.
+fn told(alloc: Global, form: Form, step: &Step) -> Vec<u8> {
+    let mut lines = Lines::new(alloc, form, Vec::new(alloc));
+    tell(alloc, &mut lines, moment(), step);
+    lines.into_writer()
+}
+
 /// Whether what is told of the step is this, after the moment and the address.
 fn tells(alloc: Global, step: &Step, what: &str) -> Result<bool, AllocError> {
     let wanted = format!(in alloc; "{NOW} 192.0.2.7:40000 {what}\n")?;
-    let text = step_text(alloc, moment(), step)?;
-    Ok(text.as_slice() == wanted.as_bytes())
+    Ok(told(alloc, Form::Text, step).as_slice() == wanted.as_bytes())
 }
 
 /// Refusals, by code and number.
@@ -93,7 +130,7 @@ const REFUSED: [(Code, Option<u8>, &str); 16] = [
     (
         Code::UNAUTHORIZED,
         Some(23),
-        "refused 4.01: its number was used, or is too old (23)",
+        "refused 4.01: it came before, or is too old (23)",
     ),
     (
         Code::BAD_REQUEST,
@@ -191,11 +228,11 @@ fn what_is_sent(rt: HostRuntime) -> Result<(), Fail> {
     assert!(rt; tells(alloc, &one, "sent 2.05")?);
     let two = Step::sending(answers(alloc, &[&[0x60, 0, 0, 1], &[0x40, 2, 0, 2]])?);
     assert_eq!(rt;
-        step_text(alloc, moment(), &two)?.as_slice(),
+        told(alloc, Form::Text, &two).as_slice(),
         b"1700000000123 192.0.2.7:40000 sent 0.00\n1700000000123 192.0.2.7:40000 sent 0.02\n".as_slice()
     );
     let none = Step::sending(Datagrams::new(alloc));
-    assert_eq!(rt; step_text(alloc, moment(), &none)?.len(), 0);
+    assert_eq!(rt; told(alloc, Form::Text, &none).len(), 0);
     Ok(())
 }
 
@@ -204,9 +241,9 @@ fn what_is_sent(rt: HostRuntime) -> Result<(), Fail> {
 fn lines_are_written(rt: HostRuntime) -> Result<(), Fail> {
     let alloc = rt.alloc();
     let step = serving(alloc, b"\x01\xb3log")?;
-    let mut lines = Lines::new(Vec::from_slice(alloc, b"> ")?);
-    lines.step(alloc, moment(), &step);
-    lines.lost();
+    let mut lines = Lines::new(alloc, Form::Text, Vec::from_slice(alloc, b"> ")?);
+    tell(alloc, &mut lines, moment(), &step);
+    lines.lost(moment());
     assert_eq!(rt;
         lines.into_writer().as_slice(),
         b"> 1700000000123 192.0.2.7:40000 served GET /log: 2.05\nout of memory: what came is lost\n".as_slice()
@@ -225,11 +262,11 @@ fn many_refusals_are_counted(rt: HostRuntime) -> Result<(), Fail> {
     let alloc = rt.alloc();
     let refused = refusing(alloc, Code::UNAUTHORIZED, None)?;
     let served = serving(alloc, b"\x01\xb3log")?;
-    let mut lines = Lines::new(Vec::new(alloc));
+    let mut lines = Lines::new(alloc, Form::Text, Vec::new(alloc));
     for ms in 0..23 {
-        lines.step(alloc, later(ms), &refused);
+        tell(alloc, &mut lines, later(ms), &refused);
     }
-    lines.step(alloc, later(876), &served);
+    tell(alloc, &mut lines, later(876), &served);
     let written = lines.into_writer();
     let mut told: Vec<&[u8]> = written.split(|byte| *byte == b'\n').collect(alloc)?;
     assert_eq!(rt; told.len(), 22);
@@ -250,14 +287,14 @@ fn a_new_second_tells_what_was_left_out(rt: HostRuntime) -> Result<(), Fail> {
     let alloc = rt.alloc();
     let refused = refusing(alloc, Code::UNAUTHORIZED, None)?;
     let none = Step::sending(Datagrams::new(alloc));
-    let mut lines = Lines::new(Vec::new(alloc));
+    let mut lines = Lines::new(alloc, Form::Text, Vec::new(alloc));
     for ms in 0..23 {
-        lines.step(alloc, later(ms), &refused);
+        tell(alloc, &mut lines, later(ms), &refused);
     }
     // A step that sends nothing has no line, and tells of nothing.
-    lines.step(alloc, later(1000), &none);
-    lines.step(alloc, later(2000), &refused);
-    lines.step(alloc, later(4000), &refused);
+    tell(alloc, &mut lines, later(1000), &none);
+    tell(alloc, &mut lines, later(2000), &refused);
+    tell(alloc, &mut lines, later(4000), &refused);
     let written = lines.into_writer();
     let told = written
         .split(|byte| *byte == b'\n')
@@ -280,15 +317,20 @@ fn a_new_second_tells_what_was_left_out(rt: HostRuntime) -> Result<(), Fail> {
 fn a_broken_output_ends_nothing(rt: HostRuntime) -> Result<(), Fail> {
     let alloc = rt.alloc();
     let step = serving(alloc, b"\x01\xb3log")?;
-    let mut lines = Lines::new(BrokenWriter { writes: 1 });
+    let mut lines = Lines::new(alloc, Form::Text, BrokenWriter { writes: 1 });
     for _ in 0..3 {
-        lines.step(alloc, moment(), &step);
+        tell(alloc, &mut lines, moment(), &step);
     }
     assert_eq!(rt; lines.dropped(), 2);
     assert_eq!(rt; lines.into_writer().writes, 0);
     let mut silent = Silent;
-    silent.step(alloc, moment(), &step);
-    silent.lost();
+    let turn = Turn {
+        now: moment(),
+        received: false,
+        step: &step,
+    };
+    silent.turn(alloc, &turn, &Shelf);
+    silent.lost(moment());
     Ok(())
 }
 
@@ -297,24 +339,232 @@ fn a_broken_output_ends_nothing(rt: HostRuntime) -> Result<(), Fail> {
 fn dropped_lines_are_told_of(rt: HostRuntime) -> Result<(), Fail> {
     let alloc = rt.alloc();
     let step = serving(alloc, b"\x01\xb3log")?;
-    let mut lines = Lines::new(FullPipe {
+    let pipe = FullPipe {
         refuses: 3,
         taken: Vec::new(alloc),
         fd: 2,
-    });
+    };
+    let mut lines = Lines::new(alloc, Form::Text, pipe);
     // The third write that is refused is that of the notice.
-    lines.step(alloc, moment(), &step);
-    lines.lost();
-    lines.step(alloc, moment(), &Step::sending(Datagrams::new(alloc)));
+    tell(alloc, &mut lines, moment(), &step);
+    lines.lost(moment());
+    tell(
+        alloc,
+        &mut lines,
+        moment(),
+        &Step::sending(Datagrams::new(alloc)),
+    );
     assert_eq!(rt; lines.dropped(), 2);
-    lines.step(alloc, moment(), &step);
-    lines.lost();
+    tell(alloc, &mut lines, moment(), &step);
+    lines.lost(moment());
     assert_eq!(rt;
         lines.into_writer().taken.as_slice(),
         b"2 lines could not be written\n1700000000123 192.0.2.7:40000 served GET /log: 2.05\nout of memory: what came is lost\n".as_slice()
     );
     Ok(())
 }
+
+// ---- objects
+
+/// Whether the only line that is told of the step is this object.
+fn is_object(alloc: Global, step: &Step, object: &str) -> Result<bool, AllocError> {
+    let wanted = format!(in alloc; "{object}\n")?;
+    Ok(told(alloc, Form::Json, step).as_slice() == wanted.as_bytes())
+}
+
+#[test]
+fn each_line_is_an_object(rt: HostRuntime) -> Result<(), Fail> {
+    let alloc = rt.alloc();
+    let refused = refusing(alloc, Code::UNAUTHORIZED, Some(23))?;
+    assert!(rt;
+        is_object(
+            alloc,
+            &refused,
+            r#"{"code":"4.01","level":"refused","peer":"192.0.2.7:40000","reason":23,"time":"2023-11-14T22:13:20.123Z","why":"it came before, or is too old"}"#
+        )?
+    );
+    let unprotected = refusing(alloc, Code::UNAUTHORIZED, None)?;
+    assert!(rt;
+        is_object(
+            alloc,
+            &unprotected,
+            r#"{"code":"4.01","level":"refused","peer":"192.0.2.7:40000","time":"2023-11-14T22:13:20.123Z","why":"it is not protected"}"#
+        )?
+    );
+    // A quotation mark and a backslash are escaped.
+    let served = serving(alloc, b"\x02\xb4l\"\\\n\xffhidden")?;
+    assert!(rt;
+        is_object(
+            alloc,
+            &served,
+            r#"{"code":"2.05","level":"served","method":"POST","path":"/l\"\\?","peer":"192.0.2.7:40000","time":"2023-11-14T22:13:20.123Z"}"#
+        )?
+    );
+    let unread = serving(alloc, b"")?;
+    assert!(rt;
+        is_object(
+            alloc,
+            &unread,
+            r#"{"code":"2.05","level":"served","peer":"192.0.2.7:40000","time":"2023-11-14T22:13:20.123Z"}"#
+        )?
+    );
+    let sent = Step::sending(answers(alloc, &[&[0x60, 0x45, 0, 1]])?);
+    assert!(rt;
+        is_object(
+            alloc,
+            &sent,
+            r#"{"code":"2.05","level":"sent","peer":"192.0.2.7:40000","time":"2023-11-14T22:13:20.123Z"}"#
+        )?
+    );
+    Ok(())
+}
+
+#[test]
+fn faults_are_objects(rt: HostRuntime) -> Result<(), Fail> {
+    let alloc = rt.alloc();
+    let pipe = FullPipe {
+        refuses: 1,
+        taken: Vec::new(alloc),
+        fd: 2,
+    };
+    let mut lines = Lines::new(alloc, Form::Json, pipe);
+    lines.no_settings(alloc, Some("dropped"));
+    tell(
+        alloc,
+        &mut lines,
+        moment(),
+        &Step::sending(Datagrams::new(alloc)),
+    );
+    lines.lost(moment());
+    lines.no_settings(alloc, Some("settings: key a should not be there"));
+    lines.no_settings(alloc, None);
+    assert_eq!(rt;
+        lines.into_writer().taken.as_slice(),
+        br#"{"level":"fault","time":"2023-11-14T22:13:20.123Z","why":"1 lines could not be written"}
+{"level":"fault","time":"2023-11-14T22:13:20.123Z","why":"out of memory: what came is lost"}
+{"level":"fault","why":"settings: key a should not be there"}
+{"level":"fault","why":"out of memory: why the settings are bad is not told"}
+"#
+            .as_slice()
+    );
+    Ok(())
+}
+
+/// A step in which a post made a context: its token opened to a text with the id 0xab, and this nonce was drawn.
+fn posting(alloc: Global, nonce: [u8; 8]) -> Result<Step, AllocError> {
+    let note = Note {
+        context: SharedName::new(alloc, name(alloc)?)?,
+        side: Side::Client,
+        number: 0,
+        nonce: [0; 13],
+        aad: Bytes::new(alloc),
+        plaintext: Bytes::from_slice(
+            alloc,
+            b"\xa2\x03\x61s\x08\xa1\x04\xa2\x00\x41\xab\x02\x41\xff",
+        )?,
+    };
+    let out = answers(alloc, &[&[0x60, 0x41, 0, 1]])?;
+    Ok(Step {
+        out,
+        notes: StepNotes::quiet().with_open(note).with_drawn(nonce),
+    })
+}
+
+/// A step that serves under the context of this salt.
+fn serving_by(alloc: Global, salt: &[u8]) -> Result<Step, AllocError> {
+    let entry = Entry {
+        context: SharedName::new(alloc, name_by(alloc, salt)?)?,
+        number: 5,
+        plaintext: Bytes::from_slice(alloc, b"\x01\xb1e")?,
+        moment: moment(),
+        reply: Reply::bare(alloc, Code::CONTENT),
+    };
+    let out = answers(alloc, &[&[0x60, 0x44, 0, 1]])?;
+    Ok(Step {
+        out,
+        notes: StepNotes::quiet().with_entry(entry),
+    })
+}
+
+// Whoever posted is known by the id of the token, under the context whose salt ends in the nonce of the post.
+#[test]
+fn who_is_served_is_told(rt: HostRuntime) -> Result<(), Fail> {
+    let alloc = rt.alloc();
+    let mut lines = Lines::new(alloc, Form::Json, Vec::new(alloc));
+    let post = posting(alloc, *b"12345678")?;
+    let known = serving_by(alloc, b"\x41s\x48abcdefgh\x4812345678")?;
+    let other = serving_by(alloc, b"\x41s\x48abcdefgh\x4812345679")?;
+    for step in [&known, &post, &known, &other] {
+        tell(alloc, &mut lines, moment(), step);
+    }
+    assert_eq!(rt;
+        lines.into_writer().as_slice(),
+        br#"{"code":"2.05","level":"served","method":"GET","path":"/e","peer":"192.0.2.7:40000","time":"2023-11-14T22:13:20.123Z"}
+{"code":"2.01","level":"sent","peer":"192.0.2.7:40000","time":"2023-11-14T22:13:20.123Z"}
+{"code":"2.05","level":"served","method":"GET","path":"/e","peer":"192.0.2.7:40000","time":"2023-11-14T22:13:20.123Z","token":"ab"}
+{"code":"2.05","level":"served","method":"GET","path":"/e","peer":"192.0.2.7:40000","time":"2023-11-14T22:13:20.123Z"}
+"#
+            .as_slice()
+    );
+    Ok(())
+}
+
+// ---- counters
+
+const HOUR: u64 = 3600000;
+
+/// What is told in this form of some turns of two hours.
+fn two_hours(alloc: Global, form: Form) -> Result<Vec<u8>, AllocError> {
+    let refused = refusing(alloc, Code::UNAUTHORIZED, None)?;
+    let replayed = refusing(alloc, Code::UNAUTHORIZED, Some(23))?;
+    let served = serving(alloc, b"\x01\xb3log")?;
+    let none = Step::sending(Datagrams::new(alloc));
+    let mut lines = Lines::new(alloc, form, Vec::new(alloc));
+    for (ms, step) in [
+        (0, &refused),
+        (1, &replayed),
+        (2, &replayed),
+        (3, &served),
+        (HOUR - 1, &none),
+        (HOUR + 5, &none),
+        (HOUR + 6, &none),
+        (2 * HOUR + 4, &none),
+        (2 * HOUR + 5, &served),
+    ] {
+        tell(alloc, &mut lines, later(ms), step);
+    }
+    lines.lost(later(2 * HOUR + 6));
+    Ok(lines.into_writer())
+}
+
+#[test]
+fn counters_are_told_each_hour(rt: HostRuntime) -> Result<(), Fail> {
+    let alloc = rt.alloc();
+    assert_eq!(rt;
+        two_hours(alloc, Form::Text)?.as_slice(),
+        b"1700000000123 192.0.2.7:40000 refused 4.01: it is not protected\n\
+1700000000124 192.0.2.7:40000 refused 4.01: it came before, or is too old (23)\n\
+1700000000125 192.0.2.7:40000 refused 4.01: it came before, or is too old (23)\n\
+1700000000126 192.0.2.7:40000 served GET /log: 2.05\n\
+1700003600128 counted received=6 sent=4 served=1 refused=3 refused_0=1 refused_23=2 contexts=3 resources=2\n\
+1700007200128 192.0.2.7:40000 served GET /log: 2.05\n\
+1700007200128 counted received=9 sent=5 served=2 refused=3 refused_0=1 refused_23=2 contexts=3 resources=2\n\
+out of memory: what came is lost\n"
+            .as_slice()
+    );
+    let told = two_hours(alloc, Form::Json)?;
+    let counted = told
+        .split(|byte| *byte == b'\n')
+        .collect::<Vec<&[u8]>>(alloc)?;
+    assert_eq!(rt; counted.len(), 9);
+    assert_eq!(rt;
+        counted[6],
+        br#"{"contexts":3,"level":"counted","received":9,"refused":3,"refused_0":1,"refused_23":2,"resources":2,"sent":5,"served":2,"time":"2023-11-15T00:13:20.128Z"}"#.as_slice()
+    );
+    Ok(())
+}
+
+// ---- outputs
 
 // Where the system says that a descriptor takes nothing now, nothing is written, and nobody waits.
 #[test]

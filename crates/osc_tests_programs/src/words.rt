@@ -3,7 +3,7 @@ use clap::error::ErrorKind::{DisplayHelp, DisplayVersion};
 use osc_model::Request;
 use osc_programs::{Ended, ended_by};
 use osc_script::ClientName;
-use osc_words::{DiagramForm, FileName, Words, WordsError, fault_line, read_words};
+use osc_words::{DiagramForm, FileName, LogForm, Words, WordsError, fault_line, read_words};
 use std::alloc::{AllocError, Global};
 use std::test::Fail;
 
@@ -138,8 +138,8 @@ fn a_server_and_a_proxy_go_on_by_default(rt: HostRuntime) {
     }
 }
 
-// Whether the words want a log.
-fn log_asked(alloc: Global, words: &[&str]) -> Option<bool> {
+// In which form the words want a log, if they do.
+fn log_asked(alloc: Global, words: &[&str]) -> Option<Option<LogForm>> {
     match read_words(alloc, words) {
         Ok(Words::Server(words)) | Ok(Words::Proxy(words)) => Some(words.log),
         _ => None,
@@ -150,13 +150,29 @@ fn log_asked(alloc: Global, words: &[&str]) -> Option<bool> {
 fn a_server_and_a_proxy_tell_where_that_is_wanted(rt: HostRuntime) {
     for &subcommand in &["server", "proxy"] {
         for &(words, log) in &[
-            (["osc", subcommand].as_slice(), Some(false)),
-            (["osc", subcommand, "--turns", "1"].as_slice(), Some(false)),
-            (["osc", subcommand, "--log"].as_slice(), Some(true)),
+            (["osc", subcommand].as_slice(), Some(None)),
+            (["osc", subcommand, "--turns", "1"].as_slice(), Some(None)),
             (
-                ["osc", subcommand, "--turns", "1", "--log"].as_slice(),
-                Some(true),
+                ["osc", subcommand, "--log"].as_slice(),
+                Some(Some(LogForm::Text)),
             ),
+            (
+                ["osc", subcommand, "--log", "--turns", "1"].as_slice(),
+                Some(Some(LogForm::Text)),
+            ),
+            (
+                ["osc", subcommand, "--log", "text"].as_slice(),
+                Some(Some(LogForm::Text)),
+            ),
+            (
+                ["osc", subcommand, "--turns", "1", "--log", "json"].as_slice(),
+                Some(Some(LogForm::Json)),
+            ),
+            (
+                ["osc", subcommand, "--log=json"].as_slice(),
+                Some(Some(LogForm::Json)),
+            ),
+            (["osc", subcommand, "--log", "JSON"].as_slice(), None),
             (["osc", subcommand, "--log", "--log"].as_slice(), None),
         ] {
             assert_eq!(rt; log_asked(rt.alloc(), words), log);
@@ -500,7 +516,7 @@ const AND_LASTING: [&str; 16] = [
     "/a:GET", "--exp", "1", "--for", "1s",
 ];
 
-const WRONG: [(&[&str], &str); 29] = [
+const WRONG: [(&[&str], &str); 30] = [
     (
         &["osc"],
         "error: 'osc' requires a subcommand but one was not provided [subcommands: sim, token, key, store, server, proxy, client, lab, help]",
@@ -537,6 +553,10 @@ const WRONG: [(&[&str], &str); 29] = [
     (
         &["osc", "sim", "--only", "c10"],
         "error: --only is not a client, c1 to c9",
+    ),
+    (
+        &["osc", "server", "--log", "loud"],
+        "error: --log is not text or json",
     ),
     (
         &["osc", "sim", "--only"],
@@ -734,11 +754,11 @@ const SHOWN: [(&[&str], &str); 20] = [
     (&["osc", "server", "--help"], "\nExample: osc server"),
     (
         &["osc", "server", "--help"],
-        "\n      --log            Tells of each request",
+        "\n      --log [<FORM>]   Tells of each request",
     ),
     (
         &["osc", "help", "proxy"],
-        "\n      --log            Tells of each request",
+        "\n      --log [<FORM>]   Tells of each request",
     ),
     (&["osc", "help", "proxy"], "\nExample: osc proxy"),
     (&["osc", "help", "client"], "      --format <N>"),

@@ -1,5 +1,5 @@
 -- The command line, and what its words stand for.
-use Rattle.std.specs.Prelude.{◌≡◌, ℕ, ◌<◌, true, false, List, [], ◌∷◌, Option, Some, None, codes, fold}
+use Rattle.std.specs.Prelude.{◌≡◌, ◌⊎◌, ℕ, ◌<◌, true, false, List, [], ◌∷◌, Option, Some, None, codes, fold}
 use Rattle.clap.specs.Words.{App, IsAmong, Row, Text, fault_of, kind_of, new_app, subcommand_of, with_rule, with_subcommand}
 use Rattle.clap.specs.declared.error.Error.{Error}
 use Rattle.clap.specs.declared.error.kind.ErrorKind.{ErrorKind}
@@ -10,7 +10,7 @@ use Rattle.osc_words.specs.ClientOptions as of_client
 use Rattle.osc_words.specs.ClientWords as client
 use Rattle.osc_words.specs.Choices.{IsNotOne, command_of, not_one_text}
 use Rattle.osc_words.specs.NamedOptions.{refusal_text, unread_text, value_of}
-use Rattle.osc_words.specs.NodeWords.{AreNodeWords}
+use Rattle.osc_words.specs.NodeWords.{AreNodeWords, SpellsLogForm}
 use Rattle.osc_words.specs.Options.{flag_rule, form_rule, option_rule, value_rule, word_rule}
 use Rattle.osc_words.specs.SimWords.{AreSimWords, SpellsForm}
 use Rattle.osc_words.specs.TokenWords as token
@@ -20,6 +20,7 @@ use Rattle.osc_words.specs.declared.client_option.ClientOption.TheVariants as cl
 use Rattle.osc_words.specs.declared.choice.Choice.{Choice}
 use Rattle.osc_words.specs.declared.named_option.NamedOption.{NamedOption}
 use Rattle.osc_words.specs.declared.named_option.NamedOption.TheVariants as option
+use Rattle.osc_words.specs.declared.node_words.LogForm.{LogForm}
 use Rattle.osc_words.specs.declared.sim_words.DiagramForm.{DiagramForm}
 use Rattle.osc_words.specs.declared.token_option.TokenOption.{TokenOption}
 use Rattle.osc_words.specs.declared.token_option.TokenOption.TheVariants as token_option
@@ -51,11 +52,11 @@ key_app = new_app (codes "key")
 abbrev pub store_app : App
 store_app = with_rule (new_app (codes "store")) (word_rule (codes "file"))
 
--- osc NAME [--config FILE] [--check] [--turns N] [--log]
+-- osc NAME [--config FILE] [--check] [--turns N] [--log[=FORM]]
 abbrev pub node_app : Text → App
 node_app name =
     with_rule (with_rule (with_rule (with_rule (new_app name) (value_rule (codes "config") false)) (flag_rule (codes "check"))) (value_rule (codes "turns") false))
-    (flag_rule (codes "log"))
+    (form_rule (codes "log") (codes "text"))
 
 -- osc lab --turns N
 abbrev pub lab_app : App
@@ -101,6 +102,8 @@ HasNothing (Some entered) option.SimPcap = ⊥
 HasNothing (Some entered) option.ServerTurns = (entered.0 ≡ codes "server") × ((turns : ℕ) → ¬ SpellsTurns (value_of option.ServerTurns entered.1) turns)
 HasNothing (Some entered) option.ProxyTurns = (entered.0 ≡ codes "proxy") × ((turns : ℕ) → ¬ SpellsTurns (value_of option.ProxyTurns entered.1) turns)
 HasNothing (Some entered) option.NodeConfig = ⊥
+HasNothing (Some entered) option.NodeLog =
+    ((entered.0 ≡ codes "server") ⊎ (entered.0 ≡ codes "proxy")) × ((form : Option LogForm) → ¬ IsGiven SpellsLogForm (value_of option.NodeLog entered.1) form)
 HasNothing (Some entered) option.StoreFile = (entered.0 ≡ codes "store") × (value_of option.StoreFile entered.1 ≡ None)
 HasNothing (Some entered) (option.Client refused) = (entered.0 ≡ codes "client") × client.SaysNothing entered.1 refused
 HasNothing (Some entered) option.LabTurns = (entered.0 ≡ codes "lab") × ((turns : ℕ) → ¬ IsGiven SpellsNumber (value_of option.LabTurns entered.1) (Some turns))

@@ -32,8 +32,6 @@ const CHECK_HELP: &str = "Reads the settings, says what they are but for what is
 
 const RAW_HELP: &str = "Prints the bytes of the answer's payload, and nothing else";
 
-const LOG_HELP: &str = "Tells of each request that is served or refused, on the standard error";
-
 /// Reads a command line, the program's own name first.
 ///
 /// # Errors
@@ -284,13 +282,13 @@ fn with_node_options<'a>(
     turns: NamedOption,
 ) -> Result<Command<'a>, AllocError>
     ensures app { IfOk result (λ more. app_of more ≡ with_rule (with_rule (with_rule (with_rule (app_of command.entry)
-        (value_rule (codes "config") false)) (flag_rule (codes "check"))) (value_rule (name_of turns) false)) (flag_rule (codes "log"))) }
+        (value_rule (codes "config") false)) (flag_rule (codes "check"))) (value_rule (name_of turns) false)) (form_rule (codes "log") (codes "text"))) }
     ensures local { IfOk result (λ more. (out-Command more).has_globals ≡ (out-Command command.entry).has_globals) }
 {
     let command = with_option(alloc, command, NamedOption::NodeConfig, false)?;
     let command = with_flag(alloc, command, "check", CHECK_HELP)?;
     let command = with_option(alloc, command, turns, false)?;
-    with_flag(alloc, command, "log", LOG_HELP)
+    with_form(alloc, command, NamedOption::NodeLog, "text")
 }
 
 // The subcommand that asks a server.

@@ -5,11 +5,13 @@ ghost use Rattle.osc_script.specs.{SpellsNumber};
 ghost use Rattle.osc_words.specs.NamedOptions.{value_of};
 ghost use Rattle.osc_words.specs.Options as options_spec;
 ghost use Rattle.osc_words.specs.Inner.Reading.{IsRefusalOf};
+ghost use Rattle.osc_words.specs.NodeWords.{SpellsLogForm};
 ghost use Rattle.osc_words.specs.SimWords.{SpellsForm};
 ghost use Rattle.osc_words.specs.Values.{IsGiven, SpellsClient, SpellsTurns};
 
 use crate::command::text_of;
 use crate::named_option::NamedOption;
+use crate::node_words::LogForm;
 use crate::sim_words::DiagramForm;
 use crate::source::FileName;
 use crate::words::WordsError;
@@ -109,6 +111,24 @@ pub(crate) fn form(
         return Ok(None);
     };
     let Some(form) = DiagramForm::named(text) else {
+        return Err(WordsError::Value(option));
+    };
+    Ok(Some(form))
+}
+
+/// A form of logs, where it is given.
+pub(crate) fn log_form(
+    options: &ArgMatches<'_>,
+    option: NamedOption,
+) -> Result<Option<LogForm>, WordsError>
+    ensures { MatchResult result
+        (IsGiven SpellsLogForm (value_of option (rows_of (found_of options.now))))
+        (IsRefusalOf option (IsGiven SpellsLogForm (value_of option (rows_of (found_of options.now))))) }
+{
+    let Some(text) = text(options, option) else {
+        return Ok(None);
+    };
+    let Some(form) = LogForm::named(text) else {
         return Err(WordsError::Value(option));
     };
     Ok(Some(form))

@@ -24,7 +24,7 @@ pub use command::read_words;
 pub use held::{held_key, held_secret};
 pub use hidden_option::HiddenOption;
 pub use named_option::NamedOption;
-pub use node_words::NodeWords;
+pub use node_words::{LogForm, NodeWords};
 pub use sim_words::{DiagramForm, SimWords};
 pub use source::{FileName, Source};
 pub use token_option::TokenOption;

@@ -23,6 +23,8 @@ pub enum NamedOption {
     NodeConfig,
     /// The word of `osc store`: the file that the store is in.
     StoreFile,
+    /// `--log` of `osc server` and `osc proxy`: how it tells of each turn.
+    NodeLog,
     /// An option of `osc client`.
     Client(ClientOption),
     /// `--turns` of `osc lab`: how many turns follow each exchange and each request at most.
@@ -42,6 +44,7 @@ impl NamedOption {
             NamedOption::SimDiagram => "diagram",
             NamedOption::SimPcap => "pcap",
             NamedOption::NodeConfig => "config",
+            NamedOption::NodeLog => "log",
             NamedOption::StoreFile => "file",
             NamedOption::Client(option) => option.name(),
             NamedOption::Token(option) => option.name(),
@@ -60,6 +63,7 @@ impl NamedOption {
             NamedOption::SimDiagram => "text or svg",
             NamedOption::SimPcap => "a file",
             NamedOption::NodeConfig => "a file of settings",
+            NamedOption::NodeLog => "text or json",
             NamedOption::StoreFile => "a file of a store",
             NamedOption::Client(option) => option.form(),
             NamedOption::Token(option) => option.form(),
@@ -85,7 +89,7 @@ impl NamedOption {
         match self {
             NamedOption::ServerTurns | NamedOption::ProxyTurns | NamedOption::LabTurns => "N",
             NamedOption::SimOnly => "CLIENT",
-            NamedOption::SimDiagram => "FORM",
+            NamedOption::SimDiagram | NamedOption::NodeLog => "FORM",
             NamedOption::SimPcap | NamedOption::NodeConfig | NamedOption::StoreFile => "FILE",
             NamedOption::Client(option) => option.value_name(),
             NamedOption::Token(option) => option.value_name(),
@@ -107,6 +111,8 @@ impl NamedOption {
                 "A file that each datagram is written to, for Wireshark; the keys go to FILE.keys",
             NamedOption::NodeConfig =>
                 "A file that the settings stand in; the standard input by default",
+            NamedOption::NodeLog =>
+                "Tells of each request that is served or refused, on the standard error: as text, or as json",
             NamedOption::StoreFile => "The file that a server's settings name as its store",
             NamedOption::Client(option) => option.help(),
             NamedOption::Token(option) => option.help(),

@@ -1,10 +1,9 @@
 //! What the options of `osc server` and `osc proxy` stand for.
-ghost use Rattle.std.specs.Prelude.{MatchResult};
+ghost use Rattle.std.specs.Prelude.{◌≡◌, IfNone, MatchResult};
 ghost use Rattle.clap.specs.Words.{found_of, rows_of};
-ghost use Rattle.osc_words.specs.NamedOptions.{value_of};
 ghost use Rattle.osc_words.specs.NodeWords as spec;
-ghost use Rattle.osc_words.specs.Inner.Reading.{IsRefusalOf};
-ghost use Rattle.osc_words.specs.Values.{SpellsTurns};
+ghost use Rattle.osc_words.specs.Inner.Reading.{IsNodeRefusal};
+ghost use Rattle.osc_words.specs.declared.node_words.LogForm.{LogForm as AnyForm};
 
 use crate::given;
 use crate::named_option::NamedOption;
@@ -18,12 +17,37 @@ use std::alloc::Global;
 pub struct NodeWords {
     /// After how many turns it ends; `u64::MAX` where none are given.
     pub turns: u64,
-    /// Whether it tells of each turn.
-    pub log: bool,
+    /// How it tells of each turn, if it does.
+    pub log: Option<LogForm>,
     /// Whether it only reads its settings, and says what it understood.
     pub check: bool,
     /// The file that its settings are in; they come on the standard input where there is none.
     pub config: Option<FileName>,
+}
+
+/// How a node tells of its turns.
+#[derive(Clone, Copy, Debug, PartialEq, Eq)]
+pub enum LogForm {
+    /// By lines of text.
+    Text,
+    /// By JSON objects, one a line.
+    Json,
+}
+
+impl LogForm {
+    /// The form of this name.
+    pub(crate) fn named(text: &str) -> Option<LogForm>
+        ensures value { result ≡ spec.log_form_named text.now }
+        ensures none { IfNone result ((form : AnyForm) → ¬ spec.SpellsLogForm text.now form) }
+    {
+        if text == "text" {
+            Some(LogForm::Text)
+        } else if text == "json" {
+            Some(LogForm::Json)
+        } else {
+            None
+        }
+    }
 }
 
 /// What the options say of a node whose `--turns` is this option.
@@ -34,11 +58,11 @@ pub(crate) fn node_words(
 ) -> Result<NodeWords, WordsError>
     ensures { MatchResult result
         (spec.AreNodeWords turns (rows_of (found_of options.now)))
-        (IsRefusalOf turns (λ number. SpellsTurns (value_of turns (rows_of (found_of options.now))) number)) }
+        (IsNodeRefusal turns (rows_of (found_of options.now))) }
 {
     Ok(NodeWords {
         turns: given::turns(options, turns)?,
-        log: given::is_set(options, "log"),
+        log: given::log_form(options, NamedOption::NodeLog)?,
         check: given::is_set(options, "check"),
         config: given::file(alloc, options, NamedOption::NodeConfig)?,
     })

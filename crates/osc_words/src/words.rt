@@ -25,9 +25,9 @@ pub enum Words {
     Key,
     /// `osc store FILE`: list what the store in this file holds.
     Store(FileName),
-    /// `osc server [--config FILE] [--check] [--turns N] [--log]`: run a server.
+    /// `osc server [--config FILE] [--check] [--turns N] [--log[=FORM]]`: run a server.
     Server(NodeWords),
-    /// `osc proxy [--config FILE] [--check] [--turns N] [--log]`: run a forward proxy.
+    /// `osc proxy [--config FILE] [--check] [--turns N] [--log[=FORM]]`: run a forward proxy.
     Proxy(NodeWords),
     /// `osc client`: post a token and send a request.
     Client(ClientWords),

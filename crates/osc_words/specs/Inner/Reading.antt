@@ -1,18 +1,21 @@
 -- What the reading of words comes to, part by part.
-use Rattle.std.specs.Prelude.{◌≡◌, ◌||◌, ℕ, Bool, true, false, List, MatchResult, Option, Result, codes, is_some, not}
+use Rattle.std.specs.Prelude.{◌≡◌, ◌⊎◌, ◌||◌, ℕ, Bool, true, false, List, MatchResult, Option, Result, codes, is_some, not}
 use Rattle.std.specs.Option.{option_map_or}
 use Rattle.std.specs.Str.{bytes_eq}
 use Rattle.clap.specs.Words.{Row, Text}
 use Rattle.osc_words.specs.ClientWords as client
 use Rattle.osc_words.specs.Command.{AreWords, HasNothing, HasNotOne}
 use Rattle.osc_words.specs.Choices.{IsNotOne, command_of}
+use Rattle.osc_words.specs.NamedOptions as named
+use Rattle.osc_words.specs.NodeWords.{SpellsLogForm}
 use Rattle.osc_words.specs.Options.{value_of}
 use Rattle.osc_words.specs.Sources.{file_option_of, option_of}
 use Rattle.osc_words.specs.TokenWords as token
+use Rattle.osc_words.specs.Values.{IsGiven, SpellsTurns}
 use Rattle.osc_words.specs.declared.choice.Choice.TheVariants.{Hidden}
 use Rattle.osc_words.specs.declared.hidden_option.HiddenOption.{HiddenOption}
 use Rattle.osc_words.specs.declared.named_option.NamedOption.{NamedOption}
-use Rattle.osc_words.specs.declared.named_option.NamedOption.TheVariants.{Client, Token}
+use Rattle.osc_words.specs.declared.named_option.NamedOption.TheVariants.{Client, NodeLog, Token}
 use Rattle.osc_words.specs.declared.words.Words.{Words}
 use Rattle.osc_words.specs.declared.words.WordsError.{WordsError}
 use Rattle.osc_words.specs.declared.words.WordsError.TheVariants.{Clap, Value, NotOne, Unread, Memory}
@@ -24,6 +27,11 @@ IsRefusalOf {X} option P (Value refused) = (refused ≡ option) × ((x : X) → 
 IsRefusalOf option P (NotOne hidden) = ⊥
 IsRefusalOf option P (Unread hidden) = ⊥
 IsRefusalOf option P Memory = Unit {0}
+
+-- a node's `--turns`, which is this option, is refused, or its `--log`
+abbrev pub IsNodeRefusal : NamedOption → List Row → WordsError → Type 0
+IsNodeRefusal turns rows error =
+    IsRefusalOf turns (SpellsTurns (named.value_of turns rows)) error ⊎ IsRefusalOf NodeLog (IsGiven SpellsLogForm (named.value_of NodeLog rows)) error
 
 -- a value that others should not see is in this file, or in none and is given
 abbrev pub IsInOne : HiddenOption → List Row → Option (List ℕ) → Type 0

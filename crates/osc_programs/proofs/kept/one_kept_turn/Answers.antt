@@ -1,20 +1,20 @@
-use Rattle.std.proofs.Common.{◌∙◌, [], ap, refl, Err}
+use Rattle.std.proofs.Common.{◌∙◌, ◌∷◌, [], ap, refl, Err}
 use Rattle.osc_kept.specs.declared.error.Unsent.{Unsent}
 use Rattle.osc_turn.specs.{busy_after, must_tick}
-use Rattle.osc_programs.specs.{lost_text}
+use Rattle.osc_log.specs.Log as log
 use Rattle.osc_programs.specs.Turning as turning
-use Rattle.osc_programs.proofs.Taken.{came_in, grown_none, not_due}
+use Rattle.osc_programs.proofs.Taken.{came_in, grown_none, not_due, tells_received}
 use Rattle.osc_programs.proofs.kept.one_kept_turn.Goals as goal
 
 pub returns-in-Ok-clause-ok : goal.returns-in-Ok-clause-ok
 returns-in-Ok-clause-ok g c =
     let done = c.in-Ok.ensures.done in
-    let told = c.step.ensures in
     let now = c.in_ok-now.now in
-    let busy = c.args.pace.now.busy_since in (
-      told.0,
+    let busy = c.args.pace.now.busy_since in
+    let told = tells_received _ _ _ _ _ _ _ done.2 c.tell_turn.ensures in (
+      _,
       c.in-Ok.turned.step.out,
-      turning.taken c.in-Ok.turned.step told.0 _
+      turning.taken c.in-Ok.turned.step _
           (record {
             now = now;
             draw = c.in_ok-now.draw;
@@ -23,10 +23,9 @@ returns-in-Ok-clause-ok g c =
             ticks = came_in (must_tick (g.N.Node.acts c.args.kept.now.node now) busy now) done.0 _ _ done.1;
             steps = done.3;
             pace = c.in-Ok.ensures.pace ∙ ap (busy_after busy now) done.2;
-          })
-          told.1,
+          }),
       done.4,
-      told.2,
+      told,
     )
 
 pub returns-in-Err-NoStep-Memory-clause-ok : goal.returns-in-Err-NoStep-Memory-clause-ok
@@ -34,7 +33,7 @@ returns-in-Err-NoStep-Memory-clause-ok g c =
     let turn = c.in-Err-NoStep-Memory in
     let none = turn.ensures.no_step turn.field-0-0 (ap (λ (error : Unsent). Err error) turn.field-0-is) in
     let now = c.in_ok-now.now in (
-      lost_text,
+      log.lost now ∷ [],
       [],
       turning.lost _
           (record {

@@ -1,12 +1,12 @@
-use Rattle.std.proofs.Common.{◌∙◌, ◌++◌, ap, arith, inl, inr, refl, subst, sym}
-use Rattle.osc_programs.specs.{Tells}
+use Rattle.std.proofs.Common.{◌∙◌, ◌++◌, arith, inl, inr, refl, subst, sym}
+use Rattle.osc_log.specs.{Tells}
 use Rattle.osc_programs.specs.Turning as spec
 use Rattle.osc_programs.proofs.Stored.{unkept_kept, unkept_no_end}
-use Rattle.osc_programs.proofs.Taken.{grown_none, grown_more, one_more, tells_more, tells_none}
+use Rattle.osc_programs.proofs.Taken.{grown_none, grown_more, one_more}
 use Rattle.osc_programs.proofs.kept.take_kept_turns.Goals as goal
 
 pub loop-init : goal.loop-init
-loop-init g c = (omega arith, _, _, spec.none _, grown_none _, tells_none _, λ keeps. keeps)
+loop-init g c = (omega arith, _, _, spec.none _, grown_none _, c.telling_goes_on.ensures.none _, λ keeps. keeps)
 
 pub returns-in-Err : goal.returns-in-Err
 returns-in-Err g c =
@@ -35,9 +35,9 @@ loop-preserved g c =
       omega (arith, c.loop-test.true),
       so_far.1 ++ turn.1,
       so_far.2 ++ turn.0,
-      one_more g.N.Node.acts g.N.Node.is_step c.loop.counter _ _ _ _ _ so_far.3 turn.2,
+      one_more g.N.Node.acts g.N.Node.is_step g.N.Holding.held c.loop.counter _ _ _ _ _ so_far.3 turn.2,
       grown_more _ _ _ so_far.1 turn.1 so_far.4 turn.3,
-      tells_more _ _ _ so_far.2 turn.0 so_far.5 turn.4,
+      c.telling_goes_on.ensures.more _ _ _ so_far.2 turn.0 so_far.5 turn.4,
       λ keeps. c.in-Ok.ensures.kept (so_far.6 keeps),
     )
 

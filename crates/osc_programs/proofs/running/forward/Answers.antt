@@ -1,5 +1,5 @@
 use Rattle.std.proofs.Common.{subst}
-use Rattle.osc_programs.specs.{Tells}
+use Rattle.osc_log.specs.{Tells}
 use Rattle.osc_programs.proofs.Taken.{settings_no_end, settings_node, turns_node, turns_not_bad}
 use Rattle.osc_programs.proofs.running.forward.Goals as goal
 

@@ -1,5 +1,5 @@
 use Rattle.std.proofs.Common.{subst}
-use Rattle.osc_programs.specs.{Tells}
+use Rattle.osc_log.specs.{Tells}
 use Rattle.osc_programs.proofs.Stored.{serving_not_bad, serving_server, settings_server}
 use Rattle.osc_programs.proofs.Taken.{settings_no_end}
 use Rattle.osc_programs.proofs.running.serve.Goals as goal
@@ -15,7 +15,8 @@ returns-in-Ok g c = record {
         told.2,
         told.3,
         told.4,
-        subst (λ log. Tells (g.L.Log.told log) (g.L.Log.told c.serve_by.new.log) told.1) c.in-Ok.ensures.silent told.5,
+        told.5,
+        subst (λ log. Tells (g.L.Log.told log) (g.L.Log.told c.serve_by.new.log) told.1) c.in-Ok.ensures.silent told.6,
       );
   bad = λ bad. absurd (serving_not_bad c.serve_by.result c.serve_by.ensures.ends bad);
   ends = serving_server c.serve_by.result c.serve_by.ensures.ends;

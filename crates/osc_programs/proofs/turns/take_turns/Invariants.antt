@@ -1,13 +1,13 @@
-use Rattle.std.proofs.Common.{◌≡◌, ◌≤◌, ℕ, List, None}
+use Rattle.std.proofs.Common.{◌≡◌, ◌≤◌, List, None}
+use Rattle.osc_log.specs.{Event, Tells}
 use Rattle.osc_model.specs.declared.step.Datagram.{Datagram}
 use Rattle.osc_turn.specs.{grown}
-use Rattle.osc_programs.specs.{Tells}
 use Rattle.osc_programs.specs.Turning as spec
 use Rattle.osc_programs.proofs.turns.take_turns.Given as goal
 
 -- so many turns were taken, what they sent was handed to the port, and the log told of them
 abbrev pub invariant-loop : goal.invariant-loop
 invariant-loop g l =
-    (l.counter ≤ l.turns) × (out : List Datagram) × (text : List ℕ)
-    × spec.Turns g.N.Node.acts g.N.Node.is_step l.counter (record { node = l.initial.node; busy = None; supply = l.initial.supply }) (record { sent = out; text = text }) (record { node = l.node; busy = l.pace.busy_since; supply = l.supply })
-    × (g.P.Port.sent l.port ≡ grown (g.P.Port.sent l.initial.port) out) × Tells (g.L.Log.told l.initial.log) (g.L.Log.told l.log) text
+    (l.counter ≤ l.turns) × (out : List Datagram) × (events : List Event)
+    × spec.Turns g.N.Node.acts g.N.Node.is_step g.N.Holding.held l.counter (record { node = l.initial.node; busy = None; supply = l.initial.supply }) (record { sent = out; events = events }) (record { node = l.node; busy = l.pace.busy_since; supply = l.supply })
+    × (g.P.Port.sent l.port ≡ grown (g.P.Port.sent l.initial.port) out) × Tells (g.L.Log.told l.initial.log) (g.L.Log.told l.log) events

@@ -1,8 +1,0 @@
-use Rattle.std.proofs.Common.{◌∙◌}
-use Rattle.std.proofs.lemmas.Result.{IfOk-weaker}
-use Rattle.osc_simulation.specs.{code_text}
-use Rattle.osc_programs.proofs.Printing.{refused_pieces}
-use Rattle.osc_programs.proofs.log.refused_line.Goals as goal
-
-pub returns : goal.returns
-returns c = IfOk-weaker c.format.result _ _ (λ text e. e ∙ refused_pieces (code_text c.args.refused.code.0) _ _ c.in_ok-why.ensures) c.format.ensures.ok

@@ -1,7 +1,0 @@
-use Rattle.std.proofs.Common.{◌≡◌, ◌++◌, drop, map}
-use Rattle.osc_programs.specs.{shown_byte}
-use Rattle.osc_programs.proofs.log.shown.Given as goal
-
--- the bytes so far, and those that are left
-abbrev pub invariant-loop-byte : goal.invariant-loop-byte
-invariant-loop-byte l = l.text.items ++ map shown_byte (drop l.byte-index l.bytes) ≡ map shown_byte l.bytes
