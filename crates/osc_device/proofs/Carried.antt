@@ -57,7 +57,7 @@ module _ (is_sealing : Sealings) (tag : Tags) where
   asked_straight old asked step new (Asks.asks context protected free is spells told kept) straight = subst IsStraight (sym kept) straight
 
 -- what was granted stays
-desk_kept : (notes : StepNotes) (old new : ClientState) → ClientStep false old notes new → new.desk ≡ old.desk
+pub desk_kept : (notes : StepNotes) (old new : ClientState) → ClientStep false old notes new → new.desk ≡ old.desk
 desk_kept notes old new (ClientStep.ClientIdle it) = ap (λ (c : ClientState). c.desk) it.is
 desk_kept notes old new (ClientStep.Started honest it) = ap (λ (c : ClientState). c.desk) it.is
 desk_kept notes old new (ClientStep.Made honest it) = ap (λ (c : ClientState). c.desk) it.is

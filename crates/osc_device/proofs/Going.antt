@@ -2,8 +2,9 @@
 use Rattle.std.proofs.Common.{◌≡◌, ◌∙◌, ap, sym, refl, subst, ℕ, false, List, [], ◌∷◌, ◌++◌, Option, Some, Result, Ok, Err}
 use Rattle.std.specs.Prelude.{IfOk}
 use Rattle.std.specs.declared.alloc.AllocError.{AllocError}
-use Rattle.std.specs.Prelude.{slice_set}
+use Rattle.std.specs.Prelude.{slice_get, slice_set}
 use Rattle.std.proofs.lemmas.List.{append_assoc}
+use Rattle.std.proofs.lemmas.Option.{same_Some}
 use Rattle.osc_model.specs.Arrival.{Arrival}
 use Rattle.osc_model.specs.StepNotes.{StepNotes}
 use Rattle.osc_model.specs.declared.node.Draw.{Draw}
@@ -20,6 +21,7 @@ use Rattle.osc_run.specs.Runs as run
 use Rattle.osc_device.specs.{Carries, ComesBack, Reaches, at_server, AllGoOn, GoesOn, IsIn, noted, of_own, of_server}
 use Rattle.osc_device.specs.State.{State}
 use Rattle.osc_device.specs.declared.round.Round.{Round}
+use Rattle.osc_device.proofs.Carried.{desk_kept}
 use Rattle.osc_device.proofs.Slots.{got_back, others_stay}
 
 -- a run goes on by one step
@@ -28,6 +30,19 @@ more v w reached step = (v ∷ reached.0, (step, reached.1))
 
 abbrev pub device : Server → Client → State
 device server own = record { server = server; own = own }
+
+-- ---- what stays
+
+-- the client of this number is the one that is there
+there : (number : ℕ) (v : WorldState) (own before : ClientState) → slice_get v.clients number ≡ Some own → slice_get v.clients number ≡ Some before → own.desk ≡ before.desk
+there number v own before is other = ap (λ (c : ClientState). c.desk) (same_Some _ _ (sym is ∙ other))
+
+-- the rules of contexts
+rules_kept : (old new : ServerState) (now : Moment) (notes : StepNotes) → ServerStep old now notes new → new.rules ≡ old.rules
+rules_kept old new now notes (ServerStep.ServerIdle is) = is.rules
+rules_kept old new now notes (ServerStep.Posted is) = is.rules
+rules_kept old new now notes (ServerStep.Served is) = is.rules
+rules_kept old new now notes (ServerStep.ServerRestarted is) = ap (λ (s : ServerState). s.rules) is.is
 
 -- ---- each step of the device
 
@@ -40,6 +55,8 @@ of_nothing number v d reached is_in = record {
   minted = refl;
   first = refl;
   others = λ other apart. refl;
+  rules = refl;
+  desk = λ before is. there number v (client_core d.own) before is_in.own is;
 }
 
 pub of_client_step : (number : ℕ) (v : WorldState) (server : Server) (old new : Client) (notes : StepNotes)
@@ -55,6 +72,8 @@ of_client_step number v server old new notes reached is_in kind =
       minted = refl;
       first = refl;
       others = λ other apart. others_stay v.clients number after other apart;
+      rules = refl;
+      desk = λ before is. desk_kept notes (client_core old) after kind ∙ there number v (client_core old) before is_in.own is;
     }
 
 pub of_server_step : (number : ℕ) (v : WorldState) (old new : Server) (own : Client) (now : Moment) (notes : StepNotes)
@@ -71,6 +90,8 @@ of_server_step number v old new own now notes reached is_in kind =
       minted = refl;
       first = refl;
       others = λ other apart. refl;
+      rules = rules_kept (server_core old) after now notes kind ∙ sym (ap (λ (s : ServerState). s.rules) is_in.server);
+      desk = λ before is. there number v (client_core own) before is_in.own is;
     }
 
 -- ---- one after another
@@ -85,6 +106,8 @@ then number steps later v middle last first second = record {
   minted = second.minted ∙ first.minted;
   first = second.first ∙ first.first;
   others = λ other apart. second.others other apart ∙ first.others other apart;
+  rules = second.rules ∙ first.rules;
+  desk = λ before is. second.desk (client_core middle.own) first.is_in.own ∙ first.desk before is;
 }
 
 -- ---- a round

@@ -7,3 +7,5 @@ pub mod Entering
 pub mod Granted
 pub mod FirstOf
 pub mod RunBegins
+pub mod Keeping
+pub mod Lives

@@ -57,7 +57,7 @@ restarts number = by_client number false quiet ∷ by_server quiet ∷ []
 
 -- ---- how runs go on
 
--- The run goes on by these steps of the device; no other client changes.
+-- The run goes on by these steps of the device; no other client changes, and its server's rules and what it was granted stay.
 pub record GoesOn (number : ℕ) (steps : List Noted) (v : WorldState) (device : State) : Type 0 where
   pub w : WorldState
   pub reached : IsReached w
@@ -66,6 +66,8 @@ pub record GoesOn (number : ℕ) (steps : List Noted) (v : WorldState) (device :
   pub minted : w.minted ≡ v.minted
   pub first : w.first ≡ v.first
   pub others : (other : ℕ) → other ≢ number → slice_get w.clients other ≡ slice_get v.clients other
+  pub rules : w.server.rules ≡ v.server.rules
+  pub desk : (before : ClientState) → slice_get v.clients number ≡ Some before → device.own.desk ≡ before.desk
 
 -- so does each run that the device is in
 abbrev pub AllGoOn : State → (ℕ → List Noted) → State → Type 0

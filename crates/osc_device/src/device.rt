@@ -72,7 +72,7 @@ impl Model for Device {
 }
 
 /// No bytes, without a format.
-fn nothing(alloc: Global) -> Resource
+pub(crate) fn nothing(alloc: Global) -> Resource
     ensures { result ≡ record { format = None; payload = [] } }
 {
     Resource {
@@ -82,7 +82,7 @@ fn nothing(alloc: Global) -> Resource
 }
 
 /// A request of this method on this path, with this payload and its format, and no other option.
-fn own_request(alloc: Global, method: Method, path: Path, resource: Resource) -> Request
+pub(crate) fn own_request(alloc: Global, method: Method, path: Path, resource: Resource) -> Request
     ensures request { result ≡ own_request_of method path resource.format resource.payload }
     ensures code { 0 < result.code.0 }
 {

@@ -1,8 +1,10 @@
-//! Why there is no device.
+//! Why there is no device, or a call of one hands nothing out.
 ghost use Rattle.std.specs.Prelude.{◌≡◌};
+ghost use Rattle.osc_device.specs.declared.error.CallError.TheVariants as call;
 ghost use Rattle.osc_device.specs.declared.error.NewError.TheVariants as variants;
 ghost use Rattle.osc_world.specs.declared.error.EnrollError.TheVariants as enroll;
 
+use osc_store::KeepError;
 use osc_world::EnrollError;
 use std::alloc::AllocError;
 use thiserror::Error;
@@ -34,5 +36,25 @@ impl From<AllocError> for NewError {
 
     fn from(_error: AllocError) -> NewError {
         NewError::Token(EnrollError::Memory)
+    }
+}
+
+/// Why a call of a device with a store hands nothing out.
+#[derive(Clone, Copy, Debug, PartialEq, Eq, Error)]
+pub enum CallError {
+    /// No step was made for lack of memory; the device and what keeps its changes are as before.
+    #[error("out of memory")]
+    OutOfMemory,
+    /// A step was made, and what it changed isn't kept, or may not be. The device has moved on, so it takes no other step, and each later call
+    /// answers this: whoever starts it again finds the resources before that step, or after it.
+    #[error("a change is not kept: {0}")]
+    NotKept(KeepError),
+}
+
+impl From<AllocError> for CallError {
+    ghost from_gives = { λ _ e. e ≡ call.OutOfMemory };
+
+    fn from(_error: AllocError) -> CallError {
+        CallError::OutOfMemory
     }
 }

@@ -1,6 +1,6 @@
 //! Laws of the definitions. These functions do nothing: whoever calls one has its clauses for a proof.
 
-ghost use Rattle.std.specs.Prelude.{◌≡◌, ◌∷◌, ◌<◌, ◌^◌, [], false, List, None, IfSome, length};
+ghost use Rattle.std.specs.Prelude.{◌≡◌, ◌∷◌, ◌<◌, ◌^◌, ◌++◌, ℕ, [], false, List, None, IfSome, length};
 ghost use Rattle.osc_model.specs.declared.node.Draw.{Draw as AnyDraw};
 ghost use Rattle.osc_model.specs.declared.node.Moment.{Moment as AnyMoment};
 ghost use Rattle.osc_model.specs.{is_revoked, quiet};
@@ -14,7 +14,7 @@ ghost use Rattle.osc_authz.specs.SecurityContext.{SecurityContext};
 ghost use Rattle.osc_client.specs.{Begins, Requests, IsLawfulClient, Asked, core as own_core};
 ghost use Rattle.osc_client.specs.State.{State as Own};
 ghost use Rattle.osc_rounds.specs.{IsLawfulServer};
-ghost use Rattle.osc_run.specs.{ClientStep, by_server, IsReached, ServerStep, ClientState, Minted, WorldState};
+ghost use Rattle.osc_run.specs.{ClientStep, by_server, IsReached, Noted, ServerStep, ClientState, Minted, WorldState};
 ghost use Rattle.osc_server.specs.{core as server_core};
 ghost use Rattle.osc_device.specs.Answered.{IsAnswered, IsOpen, IsReady, IsWhole, MayOpen};
 ghost use Rattle.osc_device.specs.Begun.{IsBegun, IsGranted, own_claims};
@@ -109,3 +109,17 @@ pub fn runs_keep_their_promises<A: Ciphers>()
     osc_run::laws::contexts_are_young();
     osc_run::laws::own_answers();
 }
+
+/// The lives of a device with a store are one run, for each run that it is in. Calls lead it from where it began to where its resources are found
+/// after a power cut: before the call in which the power goes, or after it. A device begins of the same parts with these resources, and with the
+/// same token. Then the run goes on by what the calls noted, and a restart; so what holds of each run holds of all lives together, as by
+/// `osc_kept::laws::lives_are_one_run`. Which resources are found, `kept` and `crash` of the calls of a `KeptDevice` say, with
+/// `osc_store::laws::starts_go_on`.
+pub fn lives_are_one_run<A: Ciphers>()
+    ensures calls { (old between new : State) (steps later : ℕ → List Noted) → AllGoOn old steps between → AllGoOn between later new
+        → AllGoOn old (λ number. later number ++ steps number) new }
+    ensures again { (parts : AnyParts) (own : AnyToken) (first last next : State) (steps : ℕ → List Noted)
+        → IsBegun A.is_sealing parts own first → AllGoOn first steps last
+        → IsBegun A.is_sealing (record parts { tree = last.server.tree }) own next → next.own.desk ≡ first.own.desk
+        → AllGoOn first (λ number. restarts number ++ steps number) next }
+{}

@@ -1,0 +1,2 @@
+-- What private functions owe one another; no public contract rests on it.
+pub mod Entries

@@ -1,0 +1,13 @@
+-- The entry that the server's step of a call made, if there was a step, and it served one.
+use Rattle.std.specs.Prelude.{Option, Some, None}
+use Rattle.osc_model.specs.declared.step.Entry.{Entry}
+use Rattle.osc_model.specs.declared.step.Step.{Step}
+use Rattle.osc_device.specs.declared.round.Round.{Round}
+
+abbrev pub entry_in : Option Step → Option Entry
+entry_in None = None
+entry_in (Some step) = step.notes.served
+
+abbrev pub entry_found : Option Round → Option Entry
+entry_found None = None
+entry_found (Some round) = entry_in round.served

@@ -1,0 +1,436 @@
+//! A device whose resources outlive a power cut.
+ghost use Rattle.std.specs.Prelude.{◌≡◌, ◌<◌, List, None, Some, [], IfErr, IfOk, IsSome, OnErr, OnOk, option_copied};
+ghost use Rattle.osc_model.specs.Tree.{Tree as AnyTree};
+ghost use Rattle.osc_model.specs.declared.code.Method.TheVariants.{Delete, Get, Post, Put};
+ghost use Rattle.osc_authz.specs.{ClientContextState};
+ghost use Rattle.osc_client.specs.{IsFree};
+ghost use Rattle.osc_scope.specs.{Entry as ScopeEntry, IsScope};
+ghost use Rattle.osc_kept.specs.{IsChangeOf};
+ghost use Rattle.osc_device.specs.Answered.{own_request as own_request_of};
+ghost use Rattle.osc_device.specs.Begun.{IsBegun, IsGranted, IsNoDevice, own_claims};
+ghost use Rattle.osc_device.specs.Carrying.{ServerTakesMemory};
+ghost use Rattle.osc_device.specs.Kept.{Yields, HasAsked, HasHeard, HasPosted, HasRestarted, HasRuled, HasTicked, HoldsOneOf, IsUnkept, StaysKept, tree_of};
+ghost use Rattle.osc_device.specs.Inner.Entries.{entry_found as entry_found_in, entry_in};
+
+use crate::device::{Device, nothing, own_request};
+use crate::draws::OwnDraws;
+use crate::error::{CallError, NewError};
+use crate::own_token::{OwnToken, ServerParts};
+use crate::round::Round;
+use osc_ccm::Ciphers;
+use osc_kept::keep_change;
+use osc_kept::laws::one_path_changes;
+use osc_model::{Draw, Entry, Method, Moment, Path, Peer, Request, Resource, Step};
+use osc_store::{KeepError, Keeping};
+use std::alloc::Global;
+use std::marker::Model;
+
+/// A device, and what keeps the changes of its resources: a store, as `osc_store::Keeper`. What a step of its server changed, for whomever, is
+/// kept before anything of the step is handed out; so at whatever moment the power goes, the next start finds the resources before the call under
+/// way or after it, and after it once anything of it was handed out. Where a change isn't kept, each later call answers why and does nothing. The
+/// store is then opened again, and a new device begins with what it holds.
+pub struct KeptDevice<K> {
+    device: Device,
+    keeper: K,
+    // Why what its last step changed isn't kept, if it isn't.
+    unkept: Option<KeepError>,
+}
+
+impl<K: Drop> Drop for KeptDevice<K> {
+    fn drop(self) {
+        let KeptDevice {
+            device: _,
+            keeper: _,
+            unkept: _,
+        } = self;
+    }
+}
+
+impl<K> Model for KeptDevice<K> {
+    ghost use Rattle.std.specs.Coded.{codes};
+    ghost use Rattle.osc_model.specs.{coded_scope, coded_tree};
+    ghost use Rattle.osc_device.specs.Kept.{KeptState};
+
+    ghost Value = { KeptState K };
+
+    ghost coded = { Prim.hlevel (codes, coded_scope, coded_tree, K.code) };
+
+    ghost view = { λ kept. record { device = kept.device; keeper = kept.keeper; unkept = kept.unkept } };
+}
+
+/// The entry of this step of the server, if there was a step, and it served one.
+fn entry_of(served: &Option<Step>) -> Option<&Entry>
+    ensures { option_copied result ≡ entry_in served.now }
+{
+    match served {
+        Some(step) => step.notes.served(),
+        None => None,
+    }
+}
+
+/// That of the round, if there was one.
+fn entry_found(found: &Option<Round>) -> Option<&Entry>
+    ensures { option_copied result ≡ entry_found_in found.now }
+{
+    match found {
+        Some(round) => entry_of(&round.served),
+        None => None,
+    }
+}
+
+impl<K: Keeping> KeptDevice<K> {
+    /// A device as [`Device::new`] makes it of these parts, whose changes this keeps from now on. The tree of the parts is what a store was opened
+    /// with, as [`osc_store::open`] tells: so a device goes on with what was kept. A new store has no resource; what is to be there at first the
+    /// device itself puts.
+    ///
+    /// # Errors
+    ///
+    /// As of [`Device::new`].
+    pub fn new<A: Ciphers>(
+        alloc: Global,
+        parts: ServerParts,
+        own: OwnToken,
+        keeper: K,
+    ) -> Result<KeptDevice<K>, NewError>
+    where
+        K: Drop,
+        ensures begun { IfOk result (λ kept. IsBegun A.is_sealing parts own kept.device) }
+        ensures granted { IfOk result (λ kept. (entries : List ScopeEntry) × IsScope own.scope entries
+            × IsGranted A.is_sealing kept.device (own_claims parts own) entries) }
+        ensures keeper { IfOk result (λ kept. (kept.keeper ≡ keeper) × (kept.unkept ≡ None)) }
+        ensures kept { IfOk result (λ kept. K.keeps keeper parts.tree → K.keeps kept.keeper (tree_of kept)) }
+        ensures refused { IfErr result (λ error. IsNoDevice parts own error) }
+    {
+        let device = Device::new::<A>(alloc, parts, own)?;
+        Ok(KeptDevice {
+            device,
+            keeper,
+            unkept: None,
+        })
+    }
+
+    /// The device: its server with its resources, itself as a client, and when a tick is due.
+    pub fn device(&self) -> &Device
+        ensures { result.now ≡ self.now.device }
+    {
+        &self.device
+    }
+
+    /// Why what its last step changed isn't kept, if it isn't: then the device takes no other step.
+    pub fn unkept(&self) -> Option<KeepError>
+        ensures { result ≡ self.now.unkept }
+    {
+        self.unkept
+    }
+
+    /// Gives back what keeps its changes, as to close a store. The device ends.
+    pub fn into_keeper(self) -> K
+        ensures { result ≡ self.keeper }
+    {
+        let KeptDevice {
+            device: _,
+            keeper,
+            unkept: _,
+        } = self;
+        keeper
+    }
+
+    /// These bytes came from this peer at this moment as one datagram, as for [`Device::on_datagram`]. The step that is handed out is kept: its
+    /// datagrams may be sent.
+    ///
+    /// # Errors
+    ///
+    /// `OutOfMemory` where nothing has changed, as of [`Device::on_datagram`]. `NotKept` where a change isn't kept; then and later nothing is to be
+    /// sent.
+    pub fn on_datagram<A: Ciphers>(
+        &mut self,
+        alloc: Global,
+        now: Moment,
+        from: Peer,
+        bytes: &[u8],
+        draw: &Draw,
+    ) -> Result<Step, CallError>
+        ensures heard { Yields
+            (HasHeard A.is_sealing self.old.device (record { at = now; from = from; draw = draw.now; what = bytes.now }))
+            (ServerTakesMemory self.old.device.server (record { at = now; from = from; draw = draw.now; what = bytes.now }))
+            self.old result self.new }
+        ensures kept { OnOk result (StaysKept K.keeps self.old self.new) }
+        ensures crash { HoldsOneOf K.keeps K.may_hold self.old self.new }
+    {
+        one_path_changes();
+        self.goes_on()?;
+        let step = self.device.on_datagram::<A>(alloc, now, from, bytes, draw)?;
+        self.keep(alloc, step.notes.served())?;
+        Ok(step)
+    }
+
+    /// The time has come for what is due by this moment, as for [`Device::on_tick`].
+    ///
+    /// # Errors
+    ///
+    /// `NotKept` alone, as of [`KeptDevice::on_datagram`].
+    pub fn on_tick<A: Ciphers>(
+        &mut self,
+        alloc: Global,
+        now: Moment,
+        server_draw: &Draw,
+    ) -> Result<Round, CallError>
+        ensures ticked { Yields (HasTicked A.is_sealing self.old.device now server_draw.now) ⊥ self.old result self.new }
+        ensures kept { OnOk result (StaysKept K.keeps self.old self.new) }
+        ensures crash { HoldsOneOf K.keeps K.may_hold self.old self.new }
+    {
+        one_path_changes();
+        self.goes_on()?;
+        let round = self.device.on_tick::<A>(alloc, now, server_draw);
+        self.keep(alloc, entry_of(&round.served))?;
+        Ok(round)
+    }
+
+    /// Starts again, as [`Device::restart`] does. No resource changes.
+    ///
+    /// # Errors
+    ///
+    /// `NotKept` where an earlier change isn't kept: then nothing is done.
+    pub fn restart(&mut self) -> Result<(), CallError>
+        ensures restarted { OnOk result (HasRestarted self.old.device self.new.device × (self.new ≡ record self.old { device = self.new.device })) }
+        ensures goes_on { OnOk result (self.old.unkept ≡ None) }
+        ensures ended { IfErr result (λ e. IsUnkept e self.old × (self.new ≡ self.old)) }
+        ensures kept { StaysKept K.keeps self.old self.new }
+    {
+        self.goes_on()?;
+        self.device.restart();
+        Ok(())
+    }
+
+    /// Asks the server for this, as [`Device::ask`] does.
+    ///
+    /// # Errors
+    ///
+    /// As of [`KeptDevice::on_datagram`]; without memory for the request nothing has changed.
+    pub fn ask<A: Ciphers>(
+        &mut self,
+        alloc: Global,
+        now: Moment,
+        request: &Request,
+        draws: OwnDraws,
+    ) -> Result<Round, CallError>
+        requires { 0 < request.now.code.0 }
+        ensures asked { Yields
+            (HasAsked A.is_sealing A.TAG self.old.device (record { at = now; draw = draws.own; server_draw = draws.server; request = request.now }))
+            ((context : ClientContextState) × IsFree A.is_sealing A.TAG self.old.device.own request.now draws.own context)
+            self.old result self.new }
+        ensures kept { OnOk result (StaysKept K.keeps self.old self.new) }
+        ensures crash { HoldsOneOf K.keeps K.may_hold self.old self.new }
+    {
+        one_path_changes();
+        self.goes_on()?;
+        let round = self.device.ask::<A>(alloc, now, request, draws)?;
+        self.keep(alloc, entry_of(&round.served))?;
+        Ok(round)
+    }
+
+    /// Puts this value at the path, as [`Device::put`] does.
+    ///
+    /// # Errors
+    ///
+    /// As of [`KeptDevice::ask`].
+    pub fn put<A: Ciphers>(
+        &mut self,
+        alloc: Global,
+        now: Moment,
+        path: Path,
+        resource: Resource,
+        draws: OwnDraws,
+    ) -> Result<Round, CallError>
+        ensures asked { Yields
+            (HasAsked A.is_sealing A.TAG self.old.device
+            (record { at = now; draw = draws.own; server_draw = draws.server; request = own_request_of Put path resource.format resource.payload }))
+            ((context : ClientContextState)
+            × IsFree A.is_sealing A.TAG self.old.device.own (own_request_of Put path resource.format resource.payload) draws.own context)
+            self.old result self.new }
+        ensures kept { OnOk result (StaysKept K.keeps self.old self.new) }
+        ensures crash { HoldsOneOf K.keeps K.may_hold self.old self.new }
+    {
+        let request = own_request(alloc, Method::Put, path, resource);
+        self.ask::<A>(alloc, now, &request, draws)
+    }
+
+    /// Appends this to the value at the path, or makes it new.
+    ///
+    /// # Errors
+    ///
+    /// As of [`KeptDevice::ask`].
+    pub fn append<A: Ciphers>(
+        &mut self,
+        alloc: Global,
+        now: Moment,
+        path: Path,
+        resource: Resource,
+        draws: OwnDraws,
+    ) -> Result<Round, CallError>
+        ensures asked { Yields
+            (HasAsked A.is_sealing A.TAG self.old.device
+            (record { at = now; draw = draws.own; server_draw = draws.server; request = own_request_of Post path resource.format resource.payload }))
+            ((context : ClientContextState)
+            × IsFree A.is_sealing A.TAG self.old.device.own (own_request_of Post path resource.format resource.payload) draws.own context)
+            self.old result self.new }
+        ensures kept { OnOk result (StaysKept K.keeps self.old self.new) }
+        ensures crash { HoldsOneOf K.keeps K.may_hold self.old self.new }
+    {
+        let request = own_request(alloc, Method::Post, path, resource);
+        self.ask::<A>(alloc, now, &request, draws)
+    }
+
+    /// Removes what is at the path.
+    ///
+    /// # Errors
+    ///
+    /// As of [`KeptDevice::ask`].
+    pub fn remove<A: Ciphers>(
+        &mut self,
+        alloc: Global,
+        now: Moment,
+        path: Path,
+        draws: OwnDraws,
+    ) -> Result<Round, CallError>
+        ensures asked { Yields
+            (HasAsked A.is_sealing A.TAG self.old.device
+            (record { at = now; draw = draws.own; server_draw = draws.server; request = own_request_of Delete path None [] }))
+            ((context : ClientContextState) × IsFree A.is_sealing A.TAG self.old.device.own (own_request_of Delete path None []) draws.own context)
+            self.old result self.new }
+        ensures kept { OnOk result (StaysKept K.keeps self.old self.new) }
+        ensures crash { HoldsOneOf K.keeps K.may_hold self.old self.new }
+    {
+        let request = own_request(alloc, Method::Delete, path, nothing(alloc));
+        self.ask::<A>(alloc, now, &request, draws)
+    }
+
+    /// Reads the value at the path.
+    ///
+    /// # Errors
+    ///
+    /// As of [`KeptDevice::ask`].
+    pub fn read<A: Ciphers>(
+        &mut self,
+        alloc: Global,
+        now: Moment,
+        path: Path,
+        draws: OwnDraws,
+    ) -> Result<Round, CallError>
+        ensures asked { Yields
+            (HasAsked A.is_sealing A.TAG self.old.device
+            (record { at = now; draw = draws.own; server_draw = draws.server; request = own_request_of Get path None [] }))
+            ((context : ClientContextState) × IsFree A.is_sealing A.TAG self.old.device.own (own_request_of Get path None []) draws.own context)
+            self.old result self.new }
+        ensures kept { OnOk result (StaysKept K.keeps self.old self.new) }
+        ensures crash { HoldsOneOf K.keeps K.may_hold self.old self.new }
+    {
+        let request = own_request(alloc, Method::Get, path, nothing(alloc));
+        self.ask::<A>(alloc, now, &request, draws)
+    }
+
+    /// Revokes the tokens of this id, as [`Device::revoke`] does: that is kept, and so is it where the device starts again. `None` where the server
+    /// has no revocation path, or the id is too long for one.
+    ///
+    /// # Errors
+    ///
+    /// As of [`KeptDevice::ask`].
+    pub fn revoke<A: Ciphers>(
+        &mut self,
+        alloc: Global,
+        now: Moment,
+        id: &[u8],
+        draws: OwnDraws,
+    ) -> Result<Option<Round>, CallError>
+        ensures ruled { Yields
+            (HasRuled A.is_sealing A.TAG self.old.device id.now
+            (λ path. record { at = now; draw = draws.own; server_draw = draws.server; request = own_request_of Put path None [] }))
+            (IsSome self.old.device.server.desk.rules.revoked) self.old result self.new }
+        ensures kept { OnOk result (StaysKept K.keeps self.old self.new) }
+        ensures crash { HoldsOneOf K.keeps K.may_hold self.old self.new }
+    {
+        one_path_changes();
+        self.goes_on()?;
+        let found = self.device.revoke::<A>(alloc, now, id, draws)?;
+        self.keep(alloc, entry_found(&found))?;
+        Ok(found)
+    }
+
+    /// Lets the tokens of this id in again, as [`Device::allow`] does. `None` as for [`KeptDevice::revoke`].
+    ///
+    /// # Errors
+    ///
+    /// As of [`KeptDevice::ask`].
+    pub fn allow<A: Ciphers>(
+        &mut self,
+        alloc: Global,
+        now: Moment,
+        id: &[u8],
+        draws: OwnDraws,
+    ) -> Result<Option<Round>, CallError>
+        ensures ruled { Yields
+            (HasRuled A.is_sealing A.TAG self.old.device id.now
+            (λ path. record { at = now; draw = draws.own; server_draw = draws.server; request = own_request_of Delete path None [] }))
+            (IsSome self.old.device.server.desk.rules.revoked) self.old result self.new }
+        ensures kept { OnOk result (StaysKept K.keeps self.old self.new) }
+        ensures crash { HoldsOneOf K.keeps K.may_hold self.old self.new }
+    {
+        one_path_changes();
+        self.goes_on()?;
+        let found = self.device.allow::<A>(alloc, now, id, draws)?;
+        self.keep(alloc, entry_found(&found))?;
+        Ok(found)
+    }
+
+    /// Posts the device's token to the server, as [`Device::open`] does.
+    ///
+    /// # Errors
+    ///
+    /// As of [`KeptDevice::ask`].
+    pub fn open<A: Ciphers>(
+        &mut self,
+        alloc: Global,
+        now: Moment,
+        draws: OwnDraws,
+    ) -> Result<Round, CallError>
+        ensures posted { Yields (HasPosted A.is_sealing self.old.device now draws) (self.old.device.own.waiting ≡ None) self.old result self.new }
+        ensures kept { OnOk result (StaysKept K.keeps self.old self.new) }
+        ensures crash { HoldsOneOf K.keeps K.may_hold self.old self.new }
+    {
+        one_path_changes();
+        self.goes_on()?;
+        let round = self.device.open::<A>(alloc, now, draws)?;
+        self.keep(alloc, entry_of(&round.served))?;
+        Ok(round)
+    }
+
+    /// Whether it takes another step: an error where what its last one changed isn't kept.
+    fn goes_on(&self) -> Result<(), CallError>
+        ensures ok { OnOk result (self.now.unkept ≡ None) }
+        ensures err { IfErr result (λ e. IsUnkept e self.now) }
+    {
+        match self.unkept {
+            Some(error) => Err(CallError::NotKept(error)),
+            None => Ok(()),
+        }
+    }
+
+    /// Keeps what the request of this entry changed, if there is one. Where it isn't kept, that is noted.
+    fn keep(&mut self, alloc: Global, served: Option<&Entry>) -> Result<(), CallError>
+        ensures device { self.new.device ≡ self.old.device }
+        ensures ok { OnOk result (self.new.unkept ≡ self.old.unkept) }
+        ensures err { IfErr result (λ e. IsUnkept e self.new) }
+        ensures kept { (before : AnyTree) → IsChangeOf (option_copied served.entry) before (tree_of self.old) → K.keeps self.old.keeper before
+            → OnOk result (K.keeps self.new.keeper (tree_of self.old)) }
+        ensures crash { (before : AnyTree) → IsChangeOf (option_copied served.entry) before (tree_of self.old) → K.keeps self.old.keeper before
+            → K.may_hold self.new.keeper before (tree_of self.old) }
+    {
+        match keep_change(alloc, &mut self.keeper, self.device.server().tree(), served) {
+            Ok(()) => Ok(()),
+            Err(error) => {
+                self.unkept = Some(error);
+                Err(CallError::NotKept(error))
+            }
+        }
+    }
+}
