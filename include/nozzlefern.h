@@ -3,8 +3,8 @@
  * here: the caller hands in what came, when it came and random bytes, and sends what comes out.
  *
  * Calls. Each answers a number of nzf_outcome: NZF_DONE, or why not. NZF_LOST and NZF_UNVERIFIED say that something was begun. After any other number
- * than these and NZF_DONE the node is as it was before the call. NZF_BAD_ARGUMENT says that an argument is out of its range; without memory the answer
- * to such a call may be NZF_NO_MEMORY.
+ * than these and NZF_DONE the node is as it was before the call. NZF_BAD_ARGUMENT says that an argument is out of its range, whatever memory there
+ * is: a call with such an argument never answers NZF_NO_MEMORY, but where it says so.
  *
  * Steps. What a step leaves is there until the next: the datagrams that are to be sent, and what was served, refused or learnt. So take the
  * datagrams by `next` before another step. A device's own calls (`open`, `put` and the like) leave nothing of the step before them, once
@@ -297,7 +297,7 @@ typedef struct nzf_proxy { void *held; } nzf_proxy;
  * below the revocation path revokes the tokens of one id, as `revoke` says. Heap: some 38 KiB, for as long as it is held.
  * NZF_BAD_SCOPE where `own` is no scope, or `unprotected` is neither one nor empty. NZF_TOO_LONG where `own` and `audience` are so long that the post
  * of the device's token, which `open` sends, fits no datagram: together they may have some 900 bytes. NZF_BAD_ARGUMENT: the size, an audience that is
- * no UTF-8, a flag that is neither 0 nor 1, a revocation path that is none or has more than 4 segments. Also NZF_NO_MEMORY. */
+ * no UTF-8, a flag that is neither 0 nor 1, a revocation path that is none or has more than 4 segments. Also NZF_NO_MEMORY, whatever the scopes are. */
 int32_t nzf_device_new(nzf_device *device, const nzf_device_settings *settings, const nzf_draw *draw) NZF_CALL;
 
 /* Gives the device a security context with its server, which `put`, `append`, `remove`, `revoke` and `allow` need; also after `restart`.
@@ -316,7 +316,7 @@ int32_t nzf_device_remove(nzf_device *device, uint64_t now, const void *path, si
 /* `revoke` puts an empty value at the path for this id: the revocation path, and the hexadecimal digits of the id, 32 in a segment. While it is there
  * no post of a token of this id makes a context, and no request under its contexts is served. `allow` removes what is at that path. Both are as `put`
  * and `remove`: `own` must grant PUT and DELETE there, else `code` is 4.03 or 4.05, and nothing changes. NZF_BAD_ARGUMENT where the device has no
- * revocation path, or the id is too long for it; one of at most NZF_ID_MAX bytes never is. Otherwise as `put`. */
+ * revocation path, or the id is too long for it; one of at most NZF_ID_MAX bytes never is. To tell that of a longer one takes memory. Otherwise as `put`. */
 int32_t nzf_device_revoke(nzf_device *device, uint64_t now, const void *id, size_t id_length, const nzf_draws *draws, uint8_t *code) NZF_CALL;
 int32_t nzf_device_allow(nzf_device *device, uint64_t now, const void *id, size_t id_length, const nzf_draws *draws, uint8_t *code) NZF_CALL;
 
@@ -339,7 +339,8 @@ int32_t nzf_device_on_tick(nzf_device *device, uint64_t now, const nzf_draw *dra
  * told as long as what was served is, so ask after each tick. */
 int32_t nzf_device_learnt(const nzf_device *device, uint8_t *code) NZF_CALL;
 
-/* The first time at which a tick does more than drop what was heard long ago; NZF_NOTHING where none would. */
+/* The first time at which a tick does anything for the device itself: something of its own is sent again, or ends without an answer. NZF_NOTHING where
+ * none would. */
 int32_t nzf_device_next_deadline(const nzf_device *device, uint64_t *moment) NZF_CALL;
 
 /* The next datagram of the last step: NZF_DONE with its bytes and to whom they go, each once, in order; NZF_NOTHING once all were taken;
@@ -347,8 +348,9 @@ int32_t nzf_device_next_deadline(const nzf_device *device, uint64_t *moment) NZF
 int32_t nzf_device_next(nzf_device *device, nzf_peer *to, void *bytes, size_t room, size_t *length) NZF_CALL;
 
 /* The protected request that the last step served. Its path, its payload and its id context are written one after the other, without anything between
- * them, where there is room for all. NZF_NOTHING where it served none; NZF_TOO_SHORT where `room` is less than the three lengths together, which are told
- * then, too. Also NZF_NO_MEMORY, where it served one. Heap: for the call. */
+ * them, where there is room for all: NZF_PATH_MAX + NZF_DATAGRAM_MAX + NZF_CONTEXT_MAX bytes are always enough. NZF_NOTHING where it served none;
+ * NZF_TOO_SHORT where `room` is less than the three lengths together, which are told then, too. Also NZF_NO_MEMORY, where it served one. Heap: for the
+ * call. */
 int32_t nzf_device_served(const nzf_device *device, nzf_served *served, void *bytes, size_t room) NZF_CALL;
 
 /* The request that the last step refused; NZF_NOTHING where it refused none. */
@@ -429,7 +431,7 @@ void nzf_proxy_free(nzf_proxy *proxy) NZF_POINTERS;
 
 /* Mints the token of these claims, as who has the server's key may. NZF_TOO_SHORT where `room` is less than `length`, which is told in either case.
  * NZF_BAD_ARGUMENT: the size, a length, a flag that is neither 0 nor 1, an algorithm that is none, an audience that is no UTF-8. NZF_TOO_LONG where the
- * claims have more than 65535 bytes. Also NZF_BAD_SCOPE, NZF_NO_MEMORY. Heap: for the call. */
+ * claims have more than 65535 bytes. Also NZF_BAD_SCOPE; and NZF_NO_MEMORY, whatever the scope is. Heap: for the call. */
 int32_t nzf_token_mint(const nzf_claims *claims, void *token, size_t room, size_t *length) NZF_CALL;
 
 #ifdef __cplusplus

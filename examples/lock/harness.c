@@ -78,6 +78,15 @@ static void answers_at(int32_t number, int32_t wanted, const char *call, int lin
 #define CLAIM(holds) claim_at(holds, #holds, __LINE__)
 #define ANSWERS(wanted, call) answers_at(call, wanted, #call, __LINE__)
 
+/* An argument is out of its range: so it answers with all memory there is, and without any. */
+#define IS_BAD(call)                       \
+    do {                                   \
+        ANSWERS(NZF_BAD_ARGUMENT, call);   \
+        plan(1, 1);                        \
+        ANSWERS(NZF_BAD_ARGUMENT, call);   \
+        plan(0, 0);                        \
+    } while (0)
+
 /* In the world below, which is also played with a heap that refuses: stops there, and claims only where nothing was refused. */
 #define NEEDS(holds)                                          \
     do {                                                      \
@@ -549,7 +558,7 @@ static void bad_devices(void) {
     ANSWERS(NZF_BAD_SCOPE, device_named(&it, "door", "e:GET", "/e:GET"));
     ANSWERS(NZF_BAD_SCOPE, device_named(&it, "door", "/e:GET", "/e:get"));
     ANSWERS(NZF_BAD_SCOPE, device_named(&it, "door", "/e:GET", "/e:GET,"));
-    ANSWERS(NZF_BAD_ARGUMENT, device_named(&it, "\xff", "", "/e:GET"));
+    IS_BAD(device_named(&it, "\xff", "", "/e:GET"));
     CLAIM(it.held == NULL && held == 0);
     ANSWERS(NZF_BAD_SCOPE, device_named(&it, "door", "", ""));
     ANSWERS(NZF_DONE, device_named(&it, "", "", "/e:GET"));
@@ -581,12 +590,12 @@ static void bad_sizes(world *w) {
         resource.size = OFF[at] == 1 ? sizeof resource + 8 : OFF[at];
         request.size = OFF[at] == 1 ? sizeof request + 8 : OFF[at];
         claim.size = OFF[at] == 1 ? sizeof claim + 8 : OFF[at];
-        ANSWERS(NZF_BAD_ARGUMENT, nzf_device_new(&w->device, &device, &it));
-        ANSWERS(NZF_BAD_ARGUMENT, nzf_client_new(&w->clients[0], &client));
-        ANSWERS(NZF_BAD_ARGUMENT, nzf_device_put(&w->device, w->now, &resource, &draws, &code));
-        ANSWERS(NZF_BAD_ARGUMENT, nzf_device_append(&w->device, w->now, &resource, &draws, &code));
-        ANSWERS(NZF_BAD_ARGUMENT, nzf_client_ask(&w->clients[0], w->now, &request, &it));
-        ANSWERS(NZF_BAD_ARGUMENT, nzf_token_mint(&claim, token, sizeof token, &length));
+        IS_BAD(nzf_device_new(&w->device, &device, &it));
+        IS_BAD(nzf_client_new(&w->clients[0], &client));
+        IS_BAD(nzf_device_put(&w->device, w->now, &resource, &draws, &code));
+        IS_BAD(nzf_device_append(&w->device, w->now, &resource, &draws, &code));
+        IS_BAD(nzf_client_ask(&w->clients[0], w->now, &request, &it));
+        IS_BAD(nzf_token_mint(&claim, token, sizeof token, &length));
     }
     claim.size = sizeof claim;
     ANSWERS(NZF_DONE, nzf_token_mint(&claim, token, sizeof token, &length));
@@ -608,9 +617,9 @@ static void bad_rules(void) {
     static const char *const BAD_ROOTS[] = {"/", "gone", "//", "/a/b/c/d/e", "/a/b/c/d/", "/123456789012345678901234567890123", "/\xff"};
     nzf_device it = {0};
     rules its = {KEY, 0, 0};
-    for (size_t at = 0; at < sizeof BAD_ROOTS / sizeof BAD_ROOTS[0]; at++) ANSWERS(NZF_BAD_ARGUMENT, device_with(&it, &its, BAD_ROOTS[at], "/e:GET"));
+    for (size_t at = 0; at < sizeof BAD_ROOTS / sizeof BAD_ROOTS[0]; at++) IS_BAD(device_with(&it, &its, BAD_ROOTS[at], "/e:GET"));
     its.has_old_key = 2;
-    ANSWERS(NZF_BAD_ARGUMENT, device_with(&it, &its, "", "/e:GET"));
+    IS_BAD(device_with(&it, &its, "", "/e:GET"));
     CLAIM(it.held == NULL && held == 0);
     its.has_old_key = 1;
     its.context_seconds = UINT32_MAX;
@@ -618,7 +627,7 @@ static void bad_rules(void) {
     ANSWERS(NZF_DONE, device_with(&it, &its, "", "/e:GET"));
     ANSWERS(NZF_DONE, device_with(&it, &its, "/a/b/c/d", "/e:GET"));
     void *before = it.held;
-    ANSWERS(NZF_BAD_ARGUMENT, device_with(&it, &its, "gone", "/e:GET"));
+    IS_BAD(device_with(&it, &its, "gone", "/e:GET"));
     CLAIM(it.held == before);
     nzf_device_free(&it);
 }
@@ -655,9 +664,9 @@ static void bad_paths(world *w) {
     uint8_t bytes[ROOM], code;
     for (size_t at = 0; at < sizeof BAD_PATHS / sizeof BAD_PATHS[0]; at++) {
         const char *path = BAD_PATHS[at];
-        for (uint8_t method = 2; method <= 4; method++) ANSWERS(NZF_BAD_ARGUMENT, writes(w, method, path, "x", &code));
-        ANSWERS(NZF_BAD_ARGUMENT, nzf_device_get(&w->device, path, strlen(path), bytes, sizeof bytes, &value));
-        ANSWERS(NZF_BAD_ARGUMENT, ask(w, 0, 1, path, ""));
+        for (uint8_t method = 2; method <= 4; method++) IS_BAD(writes(w, method, path, "x", &code));
+        IS_BAD(nzf_device_get(&w->device, path, strlen(path), bytes, sizeof bytes, &value));
+        IS_BAD(ask(w, 0, 1, path, ""));
     }
     CLAIM(writes(w, 3, "/d/b/c/d/e/f/g/h", "x", &code) == NZF_DONE && code == 0x41);
     CLAIM(writes(w, 3, "/d/12345678901234567890123456789012", "x", &code) == NZF_DONE && code == 0x41);
@@ -672,20 +681,20 @@ static void bad_moments(world *w) {
     nzf_request request = NZF_REQUEST;
     uint8_t code;
     request.path = nzf_text("/e");
-    ANSWERS(NZF_BAD_ARGUMENT, nzf_device_open(&w->device, late, &draws, &code));
-    ANSWERS(NZF_BAD_ARGUMENT, nzf_device_put(&w->device, late, &resource, &draws, &code));
+    IS_BAD(nzf_device_open(&w->device, late, &draws, &code));
+    IS_BAD(nzf_device_put(&w->device, late, &resource, &draws, &code));
     ANSWERS(NZF_DONE, new_device_with(&w->device));
-    ANSWERS(NZF_BAD_ARGUMENT, nzf_device_revoke(&w->device, late, TEXT("1"), &draws, &code));
-    ANSWERS(NZF_BAD_ARGUMENT, nzf_device_allow(&w->device, late, TEXT("1"), &draws, &code));
-    ANSWERS(NZF_BAD_ARGUMENT, nzf_device_on_datagram(&w->device, late, &from, TEXT("x"), &it));
-    ANSWERS(NZF_BAD_ARGUMENT, nzf_device_on_datagram(&w->device, w->now, &nowhere, TEXT("x"), &it));
-    ANSWERS(NZF_BAD_ARGUMENT, nzf_device_on_tick(&w->device, UINT64_MAX, &it));
-    ANSWERS(NZF_BAD_ARGUMENT, nzf_client_exchange(&w->clients[0], late, &it));
-    ANSWERS(NZF_BAD_ARGUMENT, nzf_client_ask(&w->clients[0], late, &request, &it));
-    ANSWERS(NZF_BAD_ARGUMENT, nzf_client_on_datagram(&w->clients[0], late, &from, TEXT("x")));
-    ANSWERS(NZF_BAD_ARGUMENT, nzf_client_on_tick(&w->clients[0], late));
-    ANSWERS(NZF_BAD_ARGUMENT, nzf_proxy_on_datagram(&w->proxy, late, &from, TEXT("x"), &it));
-    ANSWERS(NZF_BAD_ARGUMENT, nzf_proxy_on_tick(&w->proxy, late, &it));
+    IS_BAD(nzf_device_revoke(&w->device, late, TEXT("1"), &draws, &code));
+    IS_BAD(nzf_device_allow(&w->device, late, TEXT("1"), &draws, &code));
+    IS_BAD(nzf_device_on_datagram(&w->device, late, &from, TEXT("x"), &it));
+    IS_BAD(nzf_device_on_datagram(&w->device, w->now, &nowhere, TEXT("x"), &it));
+    IS_BAD(nzf_device_on_tick(&w->device, UINT64_MAX, &it));
+    IS_BAD(nzf_client_exchange(&w->clients[0], late, &it));
+    IS_BAD(nzf_client_ask(&w->clients[0], late, &request, &it));
+    IS_BAD(nzf_client_on_datagram(&w->clients[0], late, &from, TEXT("x")));
+    IS_BAD(nzf_client_on_tick(&w->clients[0], late));
+    IS_BAD(nzf_proxy_on_datagram(&w->proxy, late, &from, TEXT("x"), &it));
+    IS_BAD(nzf_proxy_on_tick(&w->proxy, late, &it));
 }
 
 static int32_t asks_with(world *w, uint8_t method, int32_t format, int32_t accept, uint8_t if_match_length, uint8_t if_none_match, uint8_t if_match) {
@@ -705,17 +714,17 @@ static void bad_requests(world *w) {
     nzf_draws draws = two_draws();
     nzf_resource below_all = value_at("/e", -2, "x"), above_all = value_at("/e", 65536, "x"), least = value_at("/e", INT32_MIN, "x");
     uint8_t code;
-    ANSWERS(NZF_BAD_ARGUMENT, nzf_device_put(&w->device, w->now, &below_all, &draws, &code));
-    ANSWERS(NZF_BAD_ARGUMENT, nzf_device_put(&w->device, w->now, &above_all, &draws, &code));
-    ANSWERS(NZF_BAD_ARGUMENT, nzf_device_append(&w->device, w->now, &least, &draws, &code));
-    ANSWERS(NZF_BAD_ARGUMENT, asks_with(w, 0, -1, -1, 0, 0, 0));
-    ANSWERS(NZF_BAD_ARGUMENT, asks_with(w, 5, -1, -1, 0, 0, 0));
-    ANSWERS(NZF_BAD_ARGUMENT, asks_with(w, 1, -2, -1, 0, 0, 0));
-    ANSWERS(NZF_BAD_ARGUMENT, asks_with(w, 1, 65536, -1, 0, 0, 0));
-    ANSWERS(NZF_BAD_ARGUMENT, asks_with(w, 1, -1, 65536, 0, 0, 0));
-    ANSWERS(NZF_BAD_ARGUMENT, asks_with(w, 1, -1, -1, 9, 0, 1));
-    ANSWERS(NZF_BAD_ARGUMENT, asks_with(w, 1, -1, -1, 0, 2, 0));
-    ANSWERS(NZF_BAD_ARGUMENT, asks_with(w, 1, -1, -1, 0, 0, 2));
+    IS_BAD(nzf_device_put(&w->device, w->now, &below_all, &draws, &code));
+    IS_BAD(nzf_device_put(&w->device, w->now, &above_all, &draws, &code));
+    IS_BAD(nzf_device_append(&w->device, w->now, &least, &draws, &code));
+    IS_BAD(asks_with(w, 0, -1, -1, 0, 0, 0));
+    IS_BAD(asks_with(w, 5, -1, -1, 0, 0, 0));
+    IS_BAD(asks_with(w, 1, -2, -1, 0, 0, 0));
+    IS_BAD(asks_with(w, 1, 65536, -1, 0, 0, 0));
+    IS_BAD(asks_with(w, 1, -1, 65536, 0, 0, 0));
+    IS_BAD(asks_with(w, 1, -1, -1, 9, 0, 1));
+    IS_BAD(asks_with(w, 1, -1, -1, 0, 2, 0));
+    IS_BAD(asks_with(w, 1, -1, -1, 0, 0, 2));
     ANSWERS(NZF_DONE, asks_with(w, 1, 65535, 0, 8, 0, 1));
 }
 
@@ -740,13 +749,13 @@ static int32_t client_of(size_t host, size_t secret, size_t salt, size_t context
 static void bad_clients(void) {
     ANSWERS(NZF_DONE, client_of(0, 1, 0, 0, 0, 10));
     ANSWERS(NZF_DONE, client_of(255, 64, 64, 64, 1, 30));
-    ANSWERS(NZF_BAD_ARGUMENT, client_of(256, 1, 0, 0, 0, 10));
-    ANSWERS(NZF_BAD_ARGUMENT, client_of(0, 0, 0, 0, 0, 10));
-    ANSWERS(NZF_BAD_ARGUMENT, client_of(0, 65, 0, 0, 0, 10));
-    ANSWERS(NZF_BAD_ARGUMENT, client_of(0, 1, 65, 0, 0, 10));
-    ANSWERS(NZF_BAD_ARGUMENT, client_of(0, 1, 0, 65, 1, 10));
-    ANSWERS(NZF_BAD_ARGUMENT, client_of(0, 1, 0, 0, 2, 10));
-    ANSWERS(NZF_BAD_ARGUMENT, client_of(0, 1, 0, 0, 0, 11));
+    IS_BAD(client_of(256, 1, 0, 0, 0, 10));
+    IS_BAD(client_of(0, 0, 0, 0, 0, 10));
+    IS_BAD(client_of(0, 65, 0, 0, 0, 10));
+    IS_BAD(client_of(0, 1, 65, 0, 0, 10));
+    IS_BAD(client_of(0, 1, 0, 65, 1, 10));
+    IS_BAD(client_of(0, 1, 0, 0, 2, 10));
+    IS_BAD(client_of(0, 1, 0, 0, 0, 11));
     CLAIM(held == 0);
 }
 
@@ -780,12 +789,12 @@ static void tokens(void) {
     ANSWERS(NZF_DONE, token_of(0, 1, 0, 0, "/e:GET", 10));
     ANSWERS(NZF_BAD_SCOPE, token_of(0, 1, 0, 0, "", 10));
     ANSWERS(NZF_DONE, token_of(64, 64, 64, 1, "/e:GET", 30));
-    ANSWERS(NZF_BAD_ARGUMENT, token_of(65, 1, 0, 0, "/e:GET", 10));
-    ANSWERS(NZF_BAD_ARGUMENT, token_of(1, 0, 0, 0, "/e:GET", 10));
-    ANSWERS(NZF_BAD_ARGUMENT, token_of(1, 65, 0, 0, "/e:GET", 10));
-    ANSWERS(NZF_BAD_ARGUMENT, token_of(1, 1, 65, 1, "/e:GET", 10));
-    ANSWERS(NZF_BAD_ARGUMENT, token_of(1, 1, 0, 2, "/e:GET", 10));
-    ANSWERS(NZF_BAD_ARGUMENT, token_of(1, 1, 0, 0, "/e:GET", 0));
+    IS_BAD(token_of(65, 1, 0, 0, "/e:GET", 10));
+    IS_BAD(token_of(1, 0, 0, 0, "/e:GET", 10));
+    IS_BAD(token_of(1, 65, 0, 0, "/e:GET", 10));
+    IS_BAD(token_of(1, 1, 65, 1, "/e:GET", 10));
+    IS_BAD(token_of(1, 1, 0, 2, "/e:GET", 10));
+    IS_BAD(token_of(1, 1, 0, 0, "/e:GET", 0));
     ANSWERS(NZF_BAD_SCOPE, token_of(1, 1, 0, 0, "/e", 10));
     CLAIM(held == 0);
 }
@@ -838,8 +847,8 @@ static void not_revoked(world *w) {
     rules its = {KEY, 0, 0};
     uint8_t code = 0xee;
     CLAIM(opens(w));
-    ANSWERS(NZF_BAD_ARGUMENT, revokes(w, 1, ids, 1, &code));
-    ANSWERS(NZF_BAD_ARGUMENT, revokes(w, 0, ids, 1, &code));
+    IS_BAD(revokes(w, 1, ids, 1, &code));
+    IS_BAD(revokes(w, 0, ids, 1, &code));
     CLAIM(code == 0);
     ANSWERS(NZF_DONE, device_with(&w->device, &its, "/a/b/c/d", "/a/b/c/d:PUT+DELETE+SUB"));
     CLAIM(opens(w));
@@ -1146,8 +1155,8 @@ static void targets(world *w) {
     memset(host, 'h', sizeof host);
     ANSWERS(NZF_DONE, nzf_proxy_add_target(&w->proxy, TEXT("gate"), 5683, &to));
     ANSWERS(NZF_DONE, nzf_proxy_add_target(&w->proxy, host, 255, 5683, &to));
-    ANSWERS(NZF_BAD_ARGUMENT, nzf_proxy_add_target(&w->proxy, host, 256, 5683, &to));
-    ANSWERS(NZF_BAD_ARGUMENT, nzf_proxy_add_target(&w->proxy, host, 0, 5683, &to));
+    IS_BAD(nzf_proxy_add_target(&w->proxy, host, 256, 5683, &to));
+    IS_BAD(nzf_proxy_add_target(&w->proxy, host, 0, 5683, &to));
     CLAIM(exchange(w, 1));
     ANSWERS(NZF_NOT_NOW, nzf_proxy_add_target(&w->proxy, TEXT("yard"), 5683, &to));
     ANSWERS(NZF_DONE, nzf_proxy_restart(&w->proxy));

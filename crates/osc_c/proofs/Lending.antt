@@ -61,11 +61,11 @@ module _ {A : Type 0} (old new : Option A) (outcome why : Outcome) (P : A → A 
 -- ---- calls that make something
 
 module _ {A : Type 0} {number : ℤ} (old new : Option A) (outcome : Outcome) (made : Result A Outcome) (Is : A → Type 0) (IsWhyNot : Outcome → Type 0) where
-  pub makes_by : Puts made old outcome new → number ≡ pos (number_of outcome) → IfOk made Is → IfErr made IsWhyNot → IsWhyNot which.NoMemory → Makes old number new Is IsWhyNot
+  pub makes_by : Puts made old outcome new → number ≡ pos (number_of outcome) → IfOk made Is → IfErr made IsWhyNot → ((node : A) → Is node → IsWhyNot which.NoMemory) → Makes old number new Is IsWhyNot
   makes_by puts number_is is why memory = by made puts is why where
     by : (m : Result A Outcome) → Puts m old outcome new → IfOk m Is → IfErr m IsWhyNot → Makes old number new Is IsWhyNot
     by (Ok node) (inl (done, now)) is why = inl (node, subst (λ (o : Outcome). number ≡ pos (number_of o)) done number_is, now, is)
-    by (Ok node) (inr (none, now)) is why = inr ((which.NoMemory, subst (λ (o : Outcome). number ≡ pos (number_of o)) none number_is, memory), now)
+    by (Ok node) (inr (none, now)) is why = inr ((which.NoMemory, subst (λ (o : Outcome). number ≡ pos (number_of o)) none number_is, memory node is), now)
     by (Err e) (same, now) is why = inr ((e, subst (λ (o : Outcome). number ≡ pos (number_of o)) same number_is, why), now)
 
 -- ---- the number 14

@@ -1,6 +1,5 @@
 -- What numbers and bytes stand for, as arguments.
-use Rattle.std.specs.Prelude.{◌≡◌, ℕ, ◌⊎◌, ℤ, ◌<ℤ◌, pos, negsuc, List, Option, Some, None, MatchOption}
-use Rattle.osc_model.specs.{IsPath}
+use Rattle.std.specs.Prelude.{◌≡◌, ℕ, ◌⊎◌, ℤ, ◌≤ℤ◌, pos, negsuc, Option, Some, None, MatchOption}
 use Rattle.osc_c.specs.declared.calls.outcome.Outcome.{Outcome}
 use Rattle.osc_c.specs.declared.calls.outcome.Outcome.TheVariants.{BadArgument, Done, NoMemory, Nothing}
 
@@ -12,16 +11,12 @@ format_number (Some format) = pos format
 abbrev pub IsFormat : ℤ → Option ℕ → Type 0
 IsFormat number format = number ≡ format_number format
 
-abbrev pub IsNoFormat : ℤ → Type 0
-IsNoFormat number = (number <ℤ negsuc 0) ⊎ (pos 65535 <ℤ number)
+abbrev pub IsFormatNumber : ℤ → Type 0
+IsFormatNumber number = (negsuc 0 ≤ℤ number) × (number ≤ℤ pos 65535)
 
--- an argument is out of its range, for this reason; or there was no memory
+-- The arguments don't fit, whatever memory there is; or they do, and there was no memory.
 abbrev pub IsUnfit : Type 0 → Outcome → Type 0
-IsUnfit Why outcome = ((outcome ≡ BadArgument) × Why) ⊎ (outcome ≡ NoMemory)
-
--- the text is no path, whatever memory there is; or it is one, and there was no memory for it
-abbrev pub IsNoPath : List ℕ → Outcome → Type 0
-IsNoPath text outcome = ((outcome ≡ BadArgument) × ¬ (IsPath text)) ⊎ ((outcome ≡ NoMemory) × IsPath text)
+IsUnfit Fit outcome = ((outcome ≡ BadArgument) × ¬ Fit) ⊎ ((outcome ≡ NoMemory) × Fit)
 
 -- a number is told, where there is one
 abbrev pub Tells : Option ℕ → ℕ → Outcome → ℕ → Type 0

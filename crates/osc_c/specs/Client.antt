@@ -16,9 +16,9 @@ use Rattle.osc_run.specs.{ClientStep, Came}
 use Rattle.osc_client.specs.declared.route.Route.{Route}
 use Rattle.osc_c.specs.Arguments.{IsUnfit, Tells}
 use Rattle.osc_c.specs.Ends.{At, DoneAt, Ends}
-use Rattle.osc_c.specs.Given.{GivenDatagram, GivenGrant, GivenRequest, client_settings_size, request_size}
-use Rattle.osc_c.specs.Granted.{IsDesk, IsLawfulGrant, IsWay, id_context_of, origin_of}
-use Rattle.osc_c.specs.Requests.{AreOptions, IsNoRequest, IsRequest}
+use Rattle.osc_c.specs.Given.{GivenDatagram, GivenGrant, GivenRequest, request_size}
+use Rattle.osc_c.specs.Granted.{FitsClient, IsDesk, id_context_of, origin_of}
+use Rattle.osc_c.specs.Requests.{IsRequest, MakeARequest}
 use Rattle.osc_model.specs.{algorithm_number}
 use Rattle.osc_model.specs.declared.algorithm.Algorithm.{Algorithm}
 use Rattle.osc_c.specs.Last.{nothing, since}
@@ -33,16 +33,13 @@ IsFresh desk way node = node ≡ record {
   last = nothing;
 }
 
--- It was granted this, and has done nothing. Its way and its input material are such as can be, the flag is 0 or 1, and the size is that of the struct.
+-- it was granted this, which makes a client, and has done nothing
 pub record IsNewClient (given : GivenGrant) (node : ClientNode) : Type 0 where
   pub desk : ClientDesk
   pub alg : Algorithm
   pub is_desk : IsDesk given.token given.secret given.salt (id_context_of given.has_context given.context) alg desk
   pub is_alg : given.algorithm ≡ algorithm_number alg
-  pub is_size : given.size ≡ client_settings_size
-  pub is_flag : given.has_context ≤ 1
-  pub is_way : IsWay given.host
-  pub is_lawful : IsLawfulGrant given.secret given.salt (id_context_of given.has_context given.context)
+  pub fits : FitsClient given
   pub fresh : IsFresh desk (record { next_hop = given.next_hop; origin = origin_of given.host given.port }) node
 
 -- the client makes such a step, and it is the last one
@@ -69,6 +66,10 @@ TickedBy old ms outcome new = DoneAt ms old outcome new (λ now. TickedAt old no
 abbrev pub AnswersOrReads : ClientNode → Moment → Peer → List ℕ → Type 0
 AnswersOrReads old now from bytes = (received : Received) × Receives bytes received × TakesMemory old.client from (heard old.client.endpoint.seen now from received)
 
+-- these numbers and bytes can be asked
+abbrev pub FitsToAsk : GivenRequest → Type 0
+FitsToAsk given = (given.ms < 2 ^ 63) × (given.size ≡ request_size) × MakeARequest given.method given.path given.options
+
 -- `is_sealing algorithm` is the relation of the algorithm's cipher
 module _ (is_sealing : Sealings) where
   abbrev pub AskedAt : Tags → ClientNode → Asked → ClientNode → Type 0
@@ -78,13 +79,12 @@ module _ (is_sealing : Sealings) where
   abbrev pub IsBegun : Tags → ClientNode → Request → Draw → Type 0
   IsBegun tag old request draw = (context : ClientContextState) × IsFree is_sealing tag old.client request draw context
 
-  -- A request of these numbers and bytes is asked, or there was no memory for the step; or it is none, or there was no memory for it.
+  -- A request of these numbers and bytes is asked, or there was no memory for the step; or they make none, or there was no memory for it.
   abbrev pub AskedBy : Tags → ClientNode → GivenRequest → Outcome → ClientNode → Type 0
   AskedBy tag old given outcome new =
-      ((now : Moment) × (request : Request) × (given.size ≡ request_size) × (now.ms ≡ given.ms) × IsRequest given.method given.path given.options given.payload request
-      × Ends old outcome new (IsBegun tag old request given.draw) (AskedAt tag old (record { at = now; draw = given.draw; request = request }) new)
-      × (0 < request.code.0) × (given.method ≤ 4) × AreOptions given.options)
-      ⊎ (IsUnfit (¬ (given.size ≡ request_size) ⊎ ¬ (given.ms < 2 ^ 63) ⊎ IsNoRequest given.method given.path given.options) outcome × (new ≡ old))
+      ((now : Moment) × (request : Request) × FitsToAsk given × (now.ms ≡ given.ms) × IsRequest given.method given.path given.options given.payload request
+      × Ends old outcome new (IsBegun tag old request given.draw) (AskedAt tag old (record { at = now; draw = given.draw; request = request }) new))
+      ⊎ (IsUnfit (FitsToAsk given) outcome × (new ≡ old))
 
   -- it hears this, whatever is drawn
   abbrev pub HeardAt : ClientNode → Moment → Peer → List ℕ → ClientNode → Type 0

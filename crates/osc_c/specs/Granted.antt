@@ -1,5 +1,5 @@
 -- What a client was granted, and the way to its server.
-use Rattle.std.specs.Prelude.{◌≡◌, ℕ, ◌⊎◌, ◌==◌, ◌<◌, if◌then◌else◌, List, [], ◌∷◌, Option, Some, None}
+use Rattle.std.specs.Prelude.{◌≡◌, ℕ, ◌⊎◌, ◌==◌, ◌≤◌, if◌then◌else◌, List, [], ◌∷◌, Option, Some, None}
 use Rattle.std.specs.Option.{ForSome}
 use Rattle.osc_model.specs.{algorithm_number}
 use Rattle.osc_model.specs.declared.algorithm.Algorithm.{Algorithm}
@@ -8,9 +8,9 @@ use Rattle.osc_authz.specs.declared.granted.ClientDesk.{ClientDesk}
 use Rattle.osc_client.specs.{HostAndPort, IsHost}
 use Rattle.osc_c.specs.Given.{GivenGrant, client_settings_size}
 
--- it is no algorithm's number
-abbrev pub IsNoAlgorithm : ℕ → Type 0
-IsNoAlgorithm number = (alg : Algorithm) → ¬ (number ≡ algorithm_number alg)
+-- it is an algorithm's number
+abbrev pub IsAlgorithm : ℕ → Type 0
+IsAlgorithm number = (alg : Algorithm) × (number ≡ algorithm_number alg)
 
 abbrev pub id_context_of : ℕ → List ℕ → Option (List ℕ)
 id_context_of is_there bytes = if is_there == 1 then Some bytes else None
@@ -32,8 +32,8 @@ IsLawfulGrant secret salt context = IsSecret secret × IsShort salt × ForSome c
 abbrev pub IsWay : List ℕ → Type 0
 IsWay host = (host ≡ []) ⊎ IsHost host
 
--- why there is no client for these numbers and bytes
-abbrev pub IsNoClient : GivenGrant → Type 0
-IsNoClient given =
-    ¬ (given.size ≡ client_settings_size) ⊎ IsNoAlgorithm given.algorithm ⊎ ¬ (IsWay given.host) ⊎ (1 < given.has_context)
-    ⊎ ¬ (IsLawfulGrant given.secret given.salt (id_context_of given.has_context given.context))
+-- these numbers and bytes make a client: the size is that of the struct, and the flag is 0 or 1
+abbrev pub FitsClient : GivenGrant → Type 0
+FitsClient given =
+    (given.size ≡ client_settings_size) × IsAlgorithm given.algorithm × (given.has_context ≤ 1)
+    × IsLawfulGrant given.secret given.salt (id_context_of given.has_context given.context) × IsWay given.host

@@ -31,10 +31,10 @@ pub use Client.{AskedBy, IsFresh, IsNewClient}
 pub use Device.{HeardAt, UnlessNowhere}
 pub use Ends.{At}
 pub use Given.{GivenDatagram, GivenDevice, GivenGrant, GivenRequest, GivenRules, GivenValue, came_at, claims_given, device_given, grant_given, request_given, rules_given, value_given}
-pub use Granted.{IsLawfulGrant, IsNoClient}
+pub use Granted.{FitsClient}
 pub use Held.{holds}
 pub use Last.{LastStep, nothing}
-pub use Making.{AreParts, IsNewDevice, IsNoNewDevice, IsOwnToken, rules_of}
+pub use Making.{AreParts, FitsDevice, IsNewDevice, IsNoNewDevice, IsOwnToken, rules_of}
 pub use Nodes.{ClientType, DeviceType, ProxyType}
 pub use Outcome.{number_of}
 pub use Own.{Asks, AsksBy, ComesTo, IsBegun, IsRefusal, Writing, asked_for, is_refused_by, last_after, revoked_by}

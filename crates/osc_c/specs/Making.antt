@@ -1,5 +1,5 @@
 -- Devices that are made of keys, names and scopes.
-use Rattle.std.specs.Prelude.{◌≡◌, ℕ, ◌⊎◌, ◌==◌, ◌<◌, ◌≤◌, if◌then◌else◌, List, [], ◌∷◌, length, take, drop, codes, Option, Some, None}
+use Rattle.std.specs.Prelude.{◌≡◌, ℕ, ◌⊎◌, ◌==◌, ◌≤◌, if◌then◌else◌, List, [], ◌∷◌, length, take, drop, codes, Option, Some, None}
 use Rattle.std.specs.Str.{IsUtf8}
 use Rattle.std.specs.FinMap as map
 use Rattle.std.specs.FinSet as set
@@ -17,7 +17,7 @@ use Rattle.osc_world.specs.declared.error.EnrollError.TheVariants as enroll
 use Rattle.osc_c.specs.Arguments.{IsUnfit}
 use Rattle.osc_c.specs.Given.{GivenDevice, GivenRules, device_settings_size}
 use Rattle.osc_c.specs.Last.{nothing}
-use Rattle.osc_c.specs.Tokens.{IsNoScope, IsNoScopeText, IsScopeOf}
+use Rattle.osc_c.specs.Tokens.{IsNoScopeText, IsScopeOf}
 use Rattle.osc_c.specs.declared.calls.device.DeviceNode.{DeviceNode}
 use Rattle.osc_c.specs.declared.calls.making.Rules.{Rules}
 use Rattle.osc_c.specs.declared.calls.outcome.Outcome.{Outcome}
@@ -49,10 +49,6 @@ IsRevocationText text = (text ≡ []) ⊎ (IsPath text × (length (segments_of t
 abbrev pub AreRules : GivenRules → Type 0
 AreRules given = (given.has_old_key ≤ 1) × IsRevocationText given.revoked
 
--- why these are no rules
-abbrev pub AreNoRules : GivenRules → Type 0
-AreNoRules given = (1 < given.has_old_key) ⊎ ¬ (IsRevocationText given.revoked)
-
 -- ---- what it is made of
 
 -- what a text grants to all: nothing where it is empty
@@ -78,12 +74,9 @@ IsOwnToken scope draw own =
 abbrev pub SaysNoScope : List ℕ → Type 0
 SaysNoScope text = IsNoScopeText text ⊎ ((bytes : List ℕ) × IsScopeOf text bytes × ((entries : List Entry) → ¬ (IsScope bytes entries)))
 
-abbrev pub IsNoOpenScope : List ℕ → Outcome → Type 0
-IsNoOpenScope text outcome = ((outcome ≡ BadScope) × ¬ (text ≡ []) × SaysNoScope text) ⊎ (outcome ≡ NoMemory)
-
--- why these are no parts of a server: what needs no protection, or its name
-abbrev pub IsNoServer : List ℕ → List ℕ → Outcome → Type 0
-IsNoServer audience free outcome = IsNoOpenScope free outcome ⊎ IsUnfit (¬ (IsUtf8 audience)) outcome
+-- it grants nothing to all, and isn't empty
+abbrev pub IsNoOpenScope : List ℕ → Type 0
+IsNoOpenScope text = ¬ (text ≡ []) × SaysNoScope text
 
 -- why a device isn't made of parts and a token
 abbrev pub unmade_as : NewError → Outcome
@@ -93,18 +86,19 @@ unmade_as (Token enroll.TooLong) = TooLong
 unmade_as device.TooLong = TooLong
 unmade_as other = BadArgument
 
--- the size is that of the struct, and the rules are some
-abbrev pub AreSettings : GivenDevice → Type 0
-AreSettings given = (given.size ≡ device_settings_size) × AreRules given.rules
+-- these numbers and bytes make a device, whatever the texts of scopes say: the size is that of the struct, the audience is UTF-8, and the rules are some
+abbrev pub FitsDevice : GivenDevice → Type 0
+FitsDevice given = (given.size ≡ device_settings_size) × IsUtf8 given.audience × AreRules given.rules
 
--- the size is another, or the rules are none
-abbrev pub AreNoSettings : GivenDevice → Type 0
-AreNoSettings given = ¬ (given.size ≡ device_settings_size) ⊎ AreNoRules given.rules
+-- a text of a scope says none
+abbrev pub HasNoScope : GivenDevice → Type 0
+HasNoScope given = IsNoOpenScope given.free ⊎ IsNoScopeText given.own
 
+-- Why there is none. What can be told without memory is told first; it takes memory to tell that a text says no scope, or why parts make no device.
 abbrev pub IsNoNewDevice : GivenDevice → List ℕ → Outcome → Type 0
 IsNoNewDevice given draw outcome =
-    IsUnfit (AreNoSettings given) outcome ⊎ IsNoServer given.audience given.free outcome ⊎ IsNoScope given.own outcome
-    ⊎ ((parts : ServerParts) × (token : OwnToken) × (error : NewError) × AreParts given (rules_of given.rules) parts
+    IsUnfit (FitsDevice given) outcome ⊎ ((outcome ≡ BadScope) × FitsDevice given × HasNoScope given)
+    ⊎ ((parts : ServerParts) × (token : OwnToken) × (error : NewError) × FitsDevice given × AreParts given (rules_of given.rules) parts
     × IsOwnToken given.own draw token × IsNoDevice parts token error × (outcome ≡ unmade_as error))
 
 -- `is_sealing algorithm` is the relation of the algorithm's cipher
@@ -113,7 +107,7 @@ module _ (is_sealing : Sealings) where
   pub record IsNewDevice (given : GivenDevice) (draw : List ℕ) (node : DeviceNode) : Type 0 where
     pub parts : ServerParts
     pub token : OwnToken
-    pub are_settings : AreSettings given
+    pub fits : FitsDevice given
     pub are_parts : AreParts given (rules_of given.rules) parts
     pub is_token : IsOwnToken given.own draw token
     pub begun : IsBegun is_sealing parts token node.device

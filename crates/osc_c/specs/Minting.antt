@@ -1,10 +1,10 @@
 -- Minting by numbers and bytes.
-use Rattle.std.specs.Prelude.{◌≡◌, ◌⊎◌, ◌≤◌}
+use Rattle.std.specs.Prelude.{◌≡◌, ◌⊎◌}
 use Rattle.osc_ccm.specs.{Sealing}
 use Rattle.osc_token.specs.declared.claims.Claims.{Claims}
 use Rattle.osc_c.specs.Filling.{Room}
-use Rattle.osc_c.specs.Given.{GivenClaims, claims_size}
-use Rattle.osc_c.specs.Tokens.{AreClaims, HaveLengths, IsNoClaims, KeyAndIv, Mints}
+use Rattle.osc_c.specs.Given.{GivenClaims}
+use Rattle.osc_c.specs.Tokens.{AreClaims, FitsClaims, IsNoClaims, KeyAndIv, Mints}
 use Rattle.osc_c.specs.declared.calls.outcome.Outcome.{Outcome}
 use Rattle.osc_c.specs.declared.calls.plain.PlainClaims.{PlainClaims}
 
@@ -15,6 +15,5 @@ sealed_under claims = record { key = claims.key.bytes; iv = claims.iv.bytes }
 -- A token of these claims is minted, or isn't; or they are none. In the latter two cases nothing is written.
 abbrev pub MintsBy : Sealing → KeyAndIv → GivenClaims → Room → Outcome → Room → Type 0
 MintsBy is_sealing under given room outcome filled =
-    ((claims : Claims) × (given.size ≡ claims_size) × AreClaims given claims × HaveLengths given.id given.secret given.context × (given.has_context ≤ 1)
-    × Mints is_sealing under claims room outcome filled)
+    ((claims : Claims) × FitsClaims given × AreClaims given claims × Mints is_sealing under claims room outcome filled)
     ⊎ (IsNoClaims given outcome × (filled.bytes ≡ room.bytes) × (filled.size ≡ room.size))

@@ -15,7 +15,7 @@ use Rattle.osc_scope.specs.{Entry}
 use Rattle.osc_token.specs.declared.claims.Claims.{Claims}
 use Rattle.osc_device.specs.{IsAnsweredWhereReady, IsOpen, IsWhole, MayOpen, own_request, AskedOfServer, AsksItsServer, Carries, asked_by, AllGoOn, IsOfAnEntry, noted}
 use Rattle.osc_device.specs.declared.round.Round.{Round}
-use Rattle.osc_c.specs.Arguments.{IsFormat, IsNoFormat, IsUnfit}
+use Rattle.osc_c.specs.Arguments.{IsFormat, IsFormatNumber, IsUnfit}
 use Rattle.osc_c.specs.Given.{GivenId, GivenPath, GivenValue, resource_size}
 use Rattle.osc_c.specs.Last.{LastStep, nothing}
 use Rattle.osc_c.specs.Plain.{draw_of}
@@ -51,9 +51,13 @@ ComesTo old told new Takes Does =
     × (IsRefusal told.outcome → new ≡ old))
     ⊎ ((told ≡ bare outcome.NoMemory) × (new ≡ old) × Takes)
 
--- it isn't of the struct's size, or it is no moment, no path, or no format
-abbrev pub IsNoValue : GivenValue → Type 0
-IsNoValue given = ¬ (given.size ≡ resource_size) ⊎ ¬ (given.ms < 2 ^ 63) ⊎ ¬ (IsPath given.path) ⊎ IsNoFormat given.format
+-- these numbers and bytes are a value for a path: the size is that of the struct
+abbrev pub FitsValue : GivenValue → Type 0
+FitsValue given = (given.size ≡ resource_size) × (given.ms < 2 ^ 63) × IsFormatNumber given.format × IsPath given.path
+
+-- a path at a moment
+abbrev pub FitsPath : GivenPath → Type 0
+FitsPath given = (given.ms < 2 ^ 63) × IsPath given.path
 
 -- the path whose resource revokes the tokens of this id, where the device has a revocation path and the id isn't too long for it
 abbrev pub revoked_by : DeviceNode → List ℕ → Option (List ℕ)
@@ -73,9 +77,9 @@ request_of writing format = own_request writing.method writing.value.path format
 abbrev pub asked_for : PlainDraws → Moment → Request → AskedOfServer
 asked_for draws now request = record { at = now; draw = draw_of draws.own; server_draw = draw_of draws.server; request = request }
 
--- an argument is out of its range, for this reason, or there was no memory for them: nothing changes
+-- the arguments don't fit, or there was no memory for them: nothing changes
 abbrev pub IsRejected : Type 0 → DeviceNode → Told → DeviceNode → Type 0
-IsRejected Why old told new = IsUnfit Why told.outcome × (told.code ≡ 0) × (new ≡ old)
+IsRejected Fit old told new = IsUnfit Fit told.outcome × (told.code ≡ 0) × (new ≡ old)
 
 -- `is_sealing algorithm` is the relation of the algorithm's cipher, and `tag algorithm` how long its tag is
 module _ (is_sealing : Sealings) where
@@ -110,22 +114,23 @@ module _ (is_sealing : Sealings) where
 
     abbrev pub AsksBy : DeviceNode → Writing → Told → DeviceNode → Type 0
     AsksBy old writing told new =
-        ((now : Moment) × (format : Option ℕ) × (writing.value.size ≡ resource_size) × (now.ms ≡ writing.value.ms) × IsFormat writing.value.format format
+        ((now : Moment) × (format : Option ℕ) × FitsValue writing.value × (now.ms ≡ writing.value.ms) × IsFormat writing.value.format format
         × ComesTo old told new (IsBegun old writing.draws (request_of writing format)) (λ round. Asks old (asked_for writing.draws now (request_of writing format)) round new))
-        ⊎ IsRejected (IsNoValue writing.value) old told new
+        ⊎ IsRejected (FitsValue writing.value) old told new
 
     abbrev pub RemovesBy : DeviceNode → GivenPath → Told → DeviceNode → Type 0
     RemovesBy old given told new =
-        ((now : Moment) × (now.ms ≡ given.ms)
+        ((now : Moment) × FitsPath given × (now.ms ≡ given.ms)
         × ComesTo old told new (IsBegun old given.draws (own_request Delete given.path None []))
         (λ round. Asks old (asked_for given.draws now (own_request Delete given.path None [])) round new))
-        ⊎ IsRejected (¬ (given.ms < 2 ^ 63) ⊎ ¬ (IsPath given.path)) old told new
+        ⊎ IsRejected (FitsPath given) old told new
 
     -- The device asks for nothing but this method, at the path that revokes the tokens of this id: PUT revokes them, and DELETE lets them in again.
-    -- Where there is no such path, or for a bad moment, nothing changes.
+    -- Where there is no such path, or for a bad moment, nothing changes. Memory is taken only where the device has a revocation path: to spell the path
+    -- for the id, which tells whether the id is too long, and for the step.
     abbrev pub AsksOfId : Method → DeviceNode → GivenId → Told → DeviceNode → Type 0
     AsksOfId method old given told new =
-        ((now : Moment) × (path : List ℕ) × (now.ms ≡ given.ms) × (revoked_by old given.id ≡ Some path)
+        ((now : Moment) × (now.ms ≡ given.ms)
         × ComesTo old told new (IsSome old.device.server.desk.rules.revoked)
-        (λ round. Asks old (asked_for given.draws now (own_request method path None [])) round new))
-        ⊎ IsRejected (¬ (given.ms < 2 ^ 63) ⊎ (revoked_by old given.id ≡ None)) old told new
+        (λ round. (path : List ℕ) × (revoked_by old given.id ≡ Some path) × Asks old (asked_for given.draws now (own_request method path None [])) round new))
+        ⊎ ((told ≡ bare outcome.BadArgument) × (¬ (given.ms < 2 ^ 63) ⊎ (revoked_by old given.id ≡ None)) × (new ≡ old))

@@ -11,7 +11,7 @@ use Rattle.osc_token.specs.declared.claims.Claims.{Claims}
 use Rattle.osc_c.specs.Arguments.{IsUnfit}
 use Rattle.osc_c.specs.Filling.{Room, if_fits, written}
 use Rattle.osc_c.specs.Given.{GivenClaims, claims_size}
-use Rattle.osc_c.specs.Granted.{IsNoAlgorithm, id_context_of}
+use Rattle.osc_c.specs.Granted.{IsAlgorithm, id_context_of}
 use Rattle.osc_c.specs.declared.calls.outcome.Outcome.{Outcome}
 use Rattle.osc_c.specs.declared.calls.outcome.Outcome.TheVariants.{BadScope, NoMemory, TooLong}
 
@@ -22,27 +22,24 @@ IsScopeOf text bytes = (entries : List Written) × IsScopeText text entries × (
 abbrev pub IsNoScopeText : List ℕ → Type 0
 IsNoScopeText text = (entries : List Written) → ¬ (IsScopeText text entries)
 
--- the text says no scope, or there was no memory for it
-abbrev pub IsNoScope : List ℕ → Outcome → Type 0
-IsNoScope text outcome = ((outcome ≡ BadScope) × IsNoScopeText text) ⊎ (outcome ≡ NoMemory)
-
 -- a name, a secret and an id context of lengths that a reader takes (RFC 9203 section 3.2.1 leaves them open)
 abbrev pub HaveLengths : List ℕ → List ℕ → List ℕ → Type 0
 HaveLengths id secret context = (length id ≤ 64) × (1 ≤ length secret) × (length secret ≤ 64) × (length context ≤ 64)
 
-abbrev pub HaveNoLengths : List ℕ → List ℕ → List ℕ → Type 0
-HaveNoLengths id secret context = (64 < length id) ⊎ (length secret < 1) ⊎ (64 < length secret) ⊎ (64 < length context)
+-- these numbers and bytes are claims, whatever the text of the scope says: the size is that of the struct, and the flag is 0 or 1
+abbrev pub FitsClaims : GivenClaims → Type 0
+FitsClaims given =
+    (given.size ≡ claims_size) × HaveLengths given.id given.secret given.context × IsAlgorithm given.algorithm × (given.has_context ≤ 1) × IsUtf8 given.audience
 
--- why these numbers and bytes are no claims
+-- Why they are none. What can be told without memory is told first; it takes memory to tell that a text says no scope.
 abbrev pub IsNoClaims : GivenClaims → Outcome → Type 0
-IsNoClaims given outcome =
-    IsUnfit
-    (¬ (given.size ≡ claims_size) ⊎ HaveNoLengths given.id given.secret given.context ⊎ IsNoAlgorithm given.algorithm ⊎ (1 < given.has_context) ⊎ ¬ (IsUtf8 given.audience)) outcome
-    ⊎ ((outcome ≡ BadScope) × IsNoScopeText given.scope)
+IsNoClaims given outcome = IsUnfit (FitsClaims given) outcome ⊎ ((outcome ≡ BadScope) × FitsClaims given × IsNoScopeText given.scope)
 
--- why no token of these claims is minted: they are too long, or there was no memory
+-- why no token of these claims is minted: they are too long, whatever memory there is; or they aren't, and there was none
 abbrev pub IsUnminted : Claims → Outcome → Type 0
-IsUnminted claims outcome = ((outcome ≡ TooLong) × (most_claims < length (spelling (claims_item claims)))) ⊎ (outcome ≡ NoMemory)
+IsUnminted claims outcome =
+    ((outcome ≡ TooLong) × (most_claims < length (spelling (claims_item claims))))
+    ⊎ ((outcome ≡ NoMemory) × (length (spelling (claims_item claims)) ≤ most_claims))
 
 abbrev pub date_of : ℕ → Option ℕ
 date_of seconds = if seconds == 0 then None else Some seconds

@@ -5,7 +5,7 @@ ghost use Rattle.osc_client.specs.{restarted};
 ghost use Rattle.osc_c.specs.Client.{AskedBy, BegunBy, HeardBy, IsNewClient, TellsContext, TellsDeadline, TickedBy};
 ghost use Rattle.osc_c.specs.Arguments.{IsUnfit};
 ghost use Rattle.osc_c.specs.Given.{grant_given, request_given};
-ghost use Rattle.osc_c.specs.Granted.{IsNoClient};
+ghost use Rattle.osc_c.specs.Granted.{FitsClient};
 ghost use Rattle.osc_c.specs.Last.{HandsOut, nothing};
 ghost use Rattle.osc_c.specs.Plain.{draw_of, peer_of};
 ghost use Rattle.osc_c.specs.Results.{TellsResult, learnt_in};
@@ -32,7 +32,7 @@ pub extern "C" fn nzf_client_new(
     settings: &PlainClientSettings<'_>,
 ) -> i32
     ensures { Makes client.old.held result client.new.held (λ node. IsNewClient (grant_given settings.now) node)
-        (IsUnfit (IsNoClient (grant_given settings.now))) }
+        (IsUnfit (FitsClient (grant_given settings.now))) }
 {
     hold(alloc, client, ClientNode::new(alloc, settings)).number()
 }
@@ -108,9 +108,9 @@ pub extern "C" fn nzf_client_on_datagram(
     .number()
 }
 
-/// What is due by now is done.
+/// What is due by now is done, whatever memory there is.
 ///
-/// Answers 0; or 9 without memory, 34 where the moment is none, and 33 where nothing is held: then what was held is held. Heap: for the step.
+/// Answers 0; or 34 where the moment is none, and 33 where nothing is held: then what was held is held. Heap: for what is sent.
 #[unsafe(no_mangle)]
 pub extern "C" fn nzf_client_on_tick(alloc: Global, client: &mut ClientHandle, now: u64) -> i32
     ensures { Calls client.old.held result client.new.held (λ old outcome new. TickedBy old now outcome new) }

@@ -43,7 +43,7 @@ pub extern "C" fn nzf_device_new(
 
 /// These bytes came from this peer at this moment as one datagram.
 ///
-/// Answers 0; or 9 without memory, 34 where the moment is none, and 33 where nothing is held: then what was held is held. Heap: for the step.
+/// Answers 0; or 9 without memory to answer them, 34 where the moment is none or the peer is 0.0.0.0, and 33 where nothing is held: then what was held is held. Heap: for the step.
 #[unsafe(no_mangle)]
 pub extern "C" fn nzf_device_on_datagram(
     alloc: Global,
@@ -66,9 +66,9 @@ pub extern "C" fn nzf_device_on_datagram(
     .number()
 }
 
-/// What is due by now is done.
+/// What is due by now is done, whatever memory there is.
 ///
-/// Answers 0; or 9 without memory, 34 where the moment is none, and 33 where nothing is held: then what was held is held. Heap: for the step.
+/// Answers 0; or 34 where the moment is none, and 33 where nothing is held: then what was held is held. Heap: for what is sent.
 #[unsafe(no_mangle)]
 pub extern "C" fn nzf_device_on_tick(
     alloc: Global,

@@ -4,8 +4,8 @@ ghost use Rattle.osc_model.specs.declared.code.Method.TheVariants.{Delete, Post,
 ghost use Rattle.osc_c.specs.Given.{value_given};
 ghost use Rattle.osc_c.specs.Own.{AsksBy, AsksOfId, OpensBy, RemovesBy};
 ghost use Rattle.osc_c.specs.Calls.{Tells};
+ghost use Rattle.osc_c.specs.Inner.Lending.{IsTold};
 ghost use Rattle.osc_c.specs.declared.calls.outcome.Outcome.TheVariants as outcome;
-ghost use Rattle.osc_c.specs.declared.calls.round.Told.{Told};
 ghost use Rattle.osc_c.specs.Ciphers.{sealing, tags};
 
 use crate::calls::{Outcome, PlainDraws, PlainResource, Told};
@@ -44,8 +44,7 @@ pub extern "C" fn nzf_device_open(
         alloc,
         device,
         &mut |node|
-            ensures tells { (told : Told) × (result ≡ told.outcome) × (code.exit.now ≡ told.code)
-                × OpensBy sealing node.old now draws.entry.now told node.new }
+            ensures tells { IsTold result code.exit.now (λ told. OpensBy sealing node.old now draws.entry.now told node.new) }
             ensures fits { result ≢ outcome.TooLong }
         { tell(node.open::<Suite>(alloc, now, draws), code) },
     )
@@ -71,8 +70,7 @@ pub extern "C" fn nzf_device_put(
         alloc,
         device,
         &mut |node|
-            ensures { (told : Told) × (result ≡ told.outcome) × (code.exit.now ≡ told.code)
-                × AsksBy sealing tags node.old (record { method = Put; value = value_given now resource.entry.now; draws = draws.entry.now }) told node.new }
+            ensures { IsTold result code.exit.now (λ told. AsksBy sealing tags node.old (record { method = Put; value = value_given now resource.entry.now; draws = draws.entry.now }) told node.new) }
         {
             tell(
                 node.write::<Suite>(alloc, Method::Put, now, resource, draws),
@@ -100,8 +98,7 @@ pub extern "C" fn nzf_device_append(
         alloc,
         device,
         &mut |node|
-            ensures { (told : Told) × (result ≡ told.outcome) × (code.exit.now ≡ told.code)
-                × AsksBy sealing tags node.old (record { method = Post; value = value_given now resource.entry.now; draws = draws.entry.now }) told node.new }
+            ensures { IsTold result code.exit.now (λ told. AsksBy sealing tags node.old (record { method = Post; value = value_given now resource.entry.now; draws = draws.entry.now }) told node.new) }
         {
             tell(
                 node.write::<Suite>(alloc, Method::Post, now, resource, draws),
@@ -129,8 +126,7 @@ pub extern "C" fn nzf_device_remove(
         alloc,
         device,
         &mut |node|
-            ensures { (told : Told) × (result ≡ told.outcome) × (code.exit.now ≡ told.code)
-                × RemovesBy sealing tags node.old (record { ms = now; path = path.entry.now; draws = draws.entry.now }) told node.new }
+            ensures { IsTold result code.exit.now (λ told. RemovesBy sealing tags node.old (record { ms = now; path = path.entry.now; draws = draws.entry.now }) told node.new) }
         { tell(node.remove::<Suite>(alloc, now, path, draws), code) },
     )
     .number()
@@ -155,9 +151,13 @@ pub extern "C" fn nzf_device_revoke(
         alloc,
         device,
         &mut |node|
-            ensures { (told : Told) × (result ≡ told.outcome) × (code.exit.now ≡ told.code)
-                × AsksOfId sealing tags Put node.old (record { ms = now; id = id.entry.now; draws = draws.entry.now }) told node.new }
-        { tell(node.revoke::<Suite>(alloc, now, id, draws), code) },
+            ensures { IsTold result code.exit.now (λ told. AsksOfId sealing tags Put node.old (record { ms = now; id = id.entry.now; draws = draws.entry.now }) told node.new) }
+        {
+            tell(
+                node.ask_of_id::<Suite>(alloc, Method::Put, now, id, draws),
+                code,
+            )
+        },
     )
     .number()
 }
@@ -179,9 +179,13 @@ pub extern "C" fn nzf_device_allow(
         alloc,
         device,
         &mut |node|
-            ensures { (told : Told) × (result ≡ told.outcome) × (code.exit.now ≡ told.code)
-                × AsksOfId sealing tags Delete node.old (record { ms = now; id = id.entry.now; draws = draws.entry.now }) told node.new }
-        { tell(node.allow::<Suite>(alloc, now, id, draws), code) },
+            ensures { IsTold result code.exit.now (λ told. AsksOfId sealing tags Delete node.old (record { ms = now; id = id.entry.now; draws = draws.entry.now }) told node.new) }
+        {
+            tell(
+                node.ask_of_id::<Suite>(alloc, Method::Delete, now, id, draws),
+                code,
+            )
+        },
     )
     .number()
 }

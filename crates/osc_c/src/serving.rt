@@ -1,5 +1,4 @@
 //! What a device has, and what its server served and refused.
-ghost use Rattle.std.specs.Prelude.{◌≡◌};
 ghost use Rattle.osc_c.specs.Serving.{TellsRefused, TellsServed, refused_by_last, served_by_last};
 ghost use Rattle.osc_c.specs.Told.{TellsLearnt};
 ghost use Rattle.osc_c.specs.Values.{TellsValueAt};

@@ -1,12 +1,21 @@
 //! Arguments that a caller hands in as numbers and bytes.
-ghost use Rattle.std.specs.Prelude.{◌≡◌, ◌==◌, ◌<◌, ◌≤◌, ◌^◌, if◌then◌else◌, IfOk, IfErr, OnOk, None, Some};
-ghost use Rattle.osc_c.specs.Arguments.{IsFormat, IsNoFormat, IsNoPath, Tells};
+ghost use Rattle.std.specs.Prelude.{◌≡◌, ◌↔◌, ◌==◌, ◌<◌, ◌≤◌, ◌^◌, if◌then◌else◌, IfOk, IfErr, IsTrue, OnOk, None, Some};
+ghost use Rattle.std.specs.Str.{IsUtf8};
+ghost use Rattle.osc_c.specs.Arguments.{IsFormat, IsFormatNumber, IsUnfit, Tells};
 ghost use Rattle.osc_c.specs.declared.calls.outcome.Outcome.TheVariants.{BadArgument};
 ghost use Rattle.osc_model.specs.{IsPath};
+ghost use Rattle.osc_client.specs.{IsHost};
 
 use crate::calls::outcome::Outcome;
 use osc_model::{Bytes, Moment, Path};
 use std::alloc::{AllocError, Global};
+use std::str;
+
+/// The most bytes of a host that Uri-Host can hold (RFC 7252 section 5.10).
+const LONGEST_HOST: usize = 255;
+
+/// The most bytes of a token's id, a secret, a salt and an id context (RFC 9203 section 3.2.1 leaves them open).
+pub(crate) const LONGEST_PART: usize = 64;
 
 /// Refuses a struct whose first member isn't its size.
 pub(crate) fn sized(size: usize, wanted: usize) -> Result<(), Outcome>
@@ -22,6 +31,7 @@ pub(crate) fn sized(size: usize, wanted: usize) -> Result<(), Outcome>
 /// The moment of so many milliseconds.
 pub(crate) fn moment(ms: u64) -> Result<Moment, Outcome>
     ensures ok { IfOk result (λ moment. moment.ms ≡ ms) }
+    ensures fits { OnOk result (ms < 2 ^ 63) }
     ensures err { IfErr result (λ outcome. (outcome ≡ BadArgument) × ¬ (ms < 2 ^ 63)) }
 {
     match Moment::new(ms) {
@@ -33,7 +43,7 @@ pub(crate) fn moment(ms: u64) -> Result<Moment, Outcome>
 /// The path of this text.
 pub(crate) fn path(alloc: Global, text: &[u8]) -> Result<Path, Outcome>
     ensures ok { IfOk result (λ path. (path ≡ text.now) × IsPath text.now) }
-    ensures err { IfErr result (IsNoPath text.now) }
+    ensures err { IfErr result (IsUnfit (IsPath text.now)) }
 {
     match Path::from_text(alloc, text)? {
         Some(path) => Ok(path),
@@ -41,10 +51,28 @@ pub(crate) fn path(alloc: Global, text: &[u8]) -> Result<Path, Outcome>
     }
 }
 
+/// The text of these bytes.
+pub(crate) fn text(bytes: &[u8]) -> Result<&str, Outcome>
+    ensures ok { IfOk result (λ text. (text.now ≡ bytes.now) × IsUtf8 bytes.now) }
+    ensures err { IfErr result (λ outcome. (outcome ≡ BadArgument) × ¬ (IsUtf8 bytes.now)) }
+{
+    match str::from_utf8(bytes) {
+        Ok(text) => Ok(text),
+        Err(_) => Err(Outcome::BadArgument),
+    }
+}
+
+/// Whether a request can name this host.
+pub(crate) fn is_host(host: &[u8]) -> bool
+    ensures { IsTrue result ↔ IsHost host.now }
+{
+    !host.is_empty() && host.len() <= LONGEST_HOST
+}
+
 /// The Content-Format or Accept of this number; -1 is none.
 pub(crate) fn format(number: i32) -> Result<Option<u16>, Outcome>
-    ensures ok { IfOk result (IsFormat number) }
-    ensures err { IfErr result (λ outcome. (outcome ≡ BadArgument) × IsNoFormat number) }
+    ensures ok { IfOk result (λ format. IsFormat number format × IsFormatNumber number) }
+    ensures err { IfErr result (λ outcome. (outcome ≡ BadArgument) × ¬ (IsFormatNumber number)) }
 {
     if number < -1 || number > 65_535 {
         return Err(Outcome::BadArgument);
@@ -83,7 +111,7 @@ pub(crate) fn optional(
 /// Whether this flag is set: 1 is, 0 isn't.
 pub(crate) fn flag(number: u8) -> Result<bool, Outcome>
     ensures set { IfOk result (λ set. (set ≡ (number == 1)) × (number ≤ 1)) }
-    ensures err { IfErr result (λ outcome. (outcome ≡ BadArgument) × (1 < number)) }
+    ensures err { IfErr result (λ outcome. (outcome ≡ BadArgument) × ¬ (number ≤ 1)) }
 {
     if number > 1 {
         return Err(Outcome::BadArgument);

@@ -4,13 +4,13 @@ ghost use Rattle.osc_c.specs.Ends.{Ends};
 ghost use Rattle.osc_c.specs.Client.{AnswersOrReads, AskedAt, AskedBy, BegunAt, BegunBy, HeardAt, HeardBy, IsBegun, IsFresh, IsNewClient, TellsContext, TellsDeadline, TickedAt, TickedBy};
 ghost use Rattle.osc_c.specs.Arguments.{IsUnfit};
 ghost use Rattle.osc_c.specs.Given.{grant_given, request_given};
-ghost use Rattle.osc_c.specs.Granted.{IsNoClient};
+ghost use Rattle.osc_c.specs.Granted.{FitsClient};
 ghost use Rattle.osc_c.specs.Last.{HandsOut, nothing};
 ghost use Rattle.osc_c.specs.Results.{TellsResult, learnt_in};
 ghost use Rattle.osc_c.specs.Plain.{draw_of, peer_of};
 ghost use Rattle.osc_client.specs.{restarted};
 
-use crate::calls::arguments::{moment, sized, tell};
+use crate::calls::arguments::{flag, moment, sized, tell};
 use crate::calls::granted;
 use crate::calls::last::Last;
 use crate::calls::outcome::Outcome;
@@ -48,13 +48,20 @@ impl ClientNode {
         })
     }
 
-    /// A client that was granted this, and does it this way.
+    /// A client that was granted this, and does it this way. What it is made of is judged before memory is taken.
     pub fn new(alloc: Global, settings: &PlainClientSettings<'_>) -> Result<ClientNode, Outcome>
         ensures ok { IfOk result (λ node. IsNewClient (grant_given settings.now) node) }
-        ensures err { IfErr result (IsUnfit (IsNoClient (grant_given settings.now))) }
+        ensures err { IfErr result (IsUnfit (FitsClient (grant_given settings.now))) }
     {
         sized(settings.size, size_of::<PlainClientSettings<'_>>())?;
         let alg = granted::algorithm(settings.algorithm)?;
+        flag(settings.has_context)?;
+        granted::lawful(
+            settings.secret.bytes,
+            settings.salt.bytes,
+            settings.has_context,
+            settings.context.bytes,
+        )?;
         let way = granted::way(
             alloc,
             &settings.next_hop,

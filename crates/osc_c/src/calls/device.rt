@@ -1,9 +1,6 @@
 //! A device by calls of plain numbers and bytes.
-ghost use Rattle.std.specs.Prelude.{◌≡◌, ◌≢◌, IfErr, IfOk, OnErr};
+ghost use Rattle.std.specs.Prelude.{◌≡◌};
 ghost use Rattle.osc_device.specs.{ServerTakesMemory};
-ghost use Rattle.osc_device.specs.State.{State};
-ghost use Rattle.osc_client.specs.{restarted};
-ghost use Rattle.osc_message.specs.{fresh};
 ghost use Rattle.osc_c.specs.Ends.{Ends};
 ghost use Rattle.osc_c.specs.Device.{HeardAt, HeardBy, TellsDeadline, TickedAt, TickedBy, Restarts, is_nowhere};
 ghost use Rattle.osc_c.specs.Last.{HandsOut, nothing};

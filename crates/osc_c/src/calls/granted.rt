@@ -1,12 +1,12 @@
 //! What a client was granted, and the way to its server.
-ghost use Rattle.std.specs.Prelude.{◌≡◌, ◌<◌, ◌≤◌, IfErr, IfOk};
+ghost use Rattle.std.specs.Prelude.{◌≡◌, IfErr, IfOk, OnOk};
 ghost use Rattle.osc_c.specs.Arguments.{IsUnfit};
 ghost use Rattle.osc_c.specs.Plain.{peer_of};
-ghost use Rattle.osc_c.specs.Granted.{IsDesk, IsLawfulGrant, IsNoAlgorithm, IsWay, id_context_of, origin_of};
+ghost use Rattle.osc_c.specs.Granted.{IsAlgorithm, IsDesk, IsLawfulGrant, IsWay, id_context_of, origin_of};
 ghost use Rattle.osc_c.specs.declared.calls.outcome.Outcome.TheVariants.{BadArgument};
 ghost use Rattle.osc_model.specs.{algorithm_number};
 
-use crate::calls::arguments::{flag, optional};
+use crate::calls::arguments::{LONGEST_PART, is_host, optional};
 use crate::calls::outcome::Outcome;
 use crate::calls::plain::PlainPeer;
 use osc_authz::ClientDesk;
@@ -17,7 +17,7 @@ use std::alloc::{AllocError, Global};
 /// The algorithm of this number: 10 or 30.
 pub(crate) fn algorithm(number: u8) -> Result<Algorithm, Outcome>
     ensures ok { IfOk result (λ algorithm. number ≡ algorithm_number algorithm) }
-    ensures err { IfErr result (λ outcome. (outcome ≡ BadArgument) × IsNoAlgorithm number) }
+    ensures err { IfErr result (λ outcome. (outcome ≡ BadArgument) × ¬ (IsAlgorithm number)) }
 {
     match Algorithm::from_number(number as u64) {
         Some(algorithm) => Ok(algorithm),
@@ -30,12 +30,30 @@ pub(crate) fn id_context(
     alloc: Global,
     is_there: u8,
     bytes: &[u8],
-) -> Result<Option<Bytes>, Outcome>
-    ensures ok { IfOk result (λ context. (context ≡ id_context_of is_there bytes.now) × (is_there ≤ 1)) }
-    ensures err { IfErr result (IsUnfit (1 < is_there)) }
+) -> Result<Option<Bytes>, AllocError>
+    ensures { IfOk result (λ context. context ≡ id_context_of is_there bytes.now) }
 {
-    let is_there = flag(is_there)?;
-    Ok(optional(alloc, is_there, bytes)?)
+    optional(alloc, is_there == 1, bytes)
+}
+
+/// Refuses input material of lengths that no token may have (RFC 9203 section 3.2.1).
+pub(crate) fn lawful(
+    secret: &[u8],
+    salt: &[u8],
+    has_context: u8,
+    context: &[u8],
+) -> Result<(), Outcome>
+    ensures ok { OnOk result (IsLawfulGrant secret.now salt.now (id_context_of has_context context.now)) }
+    ensures err { IfErr result (λ outcome. (outcome ≡ BadArgument) × ¬ (IsLawfulGrant secret.now salt.now (id_context_of has_context context.now))) }
+{
+    if secret.is_empty()
+        || secret.len() > LONGEST_PART
+        || salt.len() > LONGEST_PART
+        || (has_context == 1 && context.len() > LONGEST_PART)
+    {
+        return Err(Outcome::BadArgument);
+    }
+    Ok(())
 }
 
 /// The secret and the salt.
@@ -46,7 +64,7 @@ fn keying(alloc: Global, secret: &[u8], salt: &[u8]) -> Result<(Bytes, Bytes), A
     Ok((secret, Bytes::from_slice(alloc, salt)?))
 }
 
-/// What a client was granted.
+/// What a client was granted: input material of lengths that a token may have.
 pub(crate) fn desk(
     alloc: Global,
     token: &[u8],
@@ -54,16 +72,16 @@ pub(crate) fn desk(
     salt: &[u8],
     context: Option<Bytes>,
     alg: Algorithm,
-) -> Result<ClientDesk, Outcome>
-    ensures ok { IfOk result (λ desk. IsDesk token.now secret.now salt.now context alg desk) }
-    ensures lawful { IfOk result (λ desk. IsLawfulGrant secret.now salt.now context) }
-    ensures err { IfErr result (IsUnfit (¬ (IsLawfulGrant secret.now salt.now context))) }
+) -> Result<ClientDesk, AllocError>
+    requires { IsLawfulGrant secret.now salt.now context }
+    ensures { IfOk result (λ desk. IsDesk token.now secret.now salt.now context alg desk) }
 {
     let (secret, salt) = keying(alloc, secret, salt)?;
     let token = Bytes::from_slice(alloc, token)?;
     match ClientDesk::new(token, secret, salt, context, alg) {
         Ok(desk) => Ok(desk),
-        Err(_) => Err(Outcome::BadArgument),
+        // They are of such lengths.
+        Err(_) => unreachable!(),
     }
 }
 
@@ -76,13 +94,16 @@ pub(crate) fn way(
 ) -> Result<Route, Outcome>
     ensures ok { IfOk result (λ way. way ≡ record { next_hop = peer_of next_hop.now; origin = origin_of host.now port }) }
     ensures lawful { IfOk result (λ way. IsWay host.now) }
-    ensures err { IfErr result (IsUnfit (¬ (IsWay host.now))) }
+    ensures err { IfErr result (IsUnfit (IsWay host.now)) }
 {
     if host.is_empty() {
         return Ok(Route {
             next_hop: next_hop.peer(),
             origin: None,
         });
+    }
+    if !is_host(host) {
+        return Err(Outcome::BadArgument);
     }
     match Origin::new(Bytes::from_slice(alloc, host)?, port) {
         Some(origin) => Ok(Route {

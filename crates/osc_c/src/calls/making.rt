@@ -1,22 +1,26 @@
 //! A device of keys, names and scopes.
-ghost use Rattle.std.specs.Prelude.{◌≡◌, ◌<◌, ◌≤◌, IfErr, IfOk, drop, take};
+ghost use Rattle.std.specs.Prelude.{◌≡◌, ◌==◌, ◌↔◌, ◌≤◌, IfErr, IfOk, IsTrue, drop, length, take};
+ghost use Rattle.std.specs.List.{count_by};
 ghost use Rattle.osc_c.specs.Arguments.{IsUnfit};
 ghost use Rattle.osc_c.specs.Given.{device_given, rules_given};
-ghost use Rattle.osc_c.specs.Making.{AreNoRules, AreParts, AreRules, IsNewDevice, IsNoNewDevice, IsNoOpenScope, IsNoServer, IsOpenScope, IsOwnToken, IsRevocationText, limit_of, old_key_of, revoked_of, rules_of, unmade_as};
-ghost use Rattle.osc_c.specs.Tokens.{IsNoScope};
+ghost use Rattle.osc_c.specs.Inner.Reading.{IsUnread};
+ghost use Rattle.osc_c.specs.Making.{AreParts, AreRules, IsNewDevice, IsNoNewDevice, IsNoOpenScope, IsOpenScope, IsOwnToken, IsRevocationText, limit_of, old_key_of, revoked_of, rules_of, unmade_as};
+ghost use Rattle.osc_c.specs.Tokens.{IsNoScopeText};
+ghost use Rattle.osc_model.specs.{segments_of};
 ghost use Rattle.osc_c.specs.declared.calls.outcome.Outcome.TheVariants.{BadArgument};
 
 use crate::calls::arguments;
-use crate::calls::arguments::{flag, sized};
+use crate::calls::arguments::{flag, sized, text};
 use crate::calls::device::DeviceNode;
 use crate::calls::last::Last;
 use crate::calls::outcome::Outcome;
 use crate::calls::plain::{PlainDeviceSettings, PlainDraw};
-use crate::calls::tokens::{audience, scope_bytes};
+use crate::calls::tokens::scope_bytes;
 use osc_ccm::Ciphers;
 use osc_device::{Device, NewError, OwnToken, ServerParts};
 use osc_model::{Bytes, Path};
 use osc_scope::{Scope, ScopeError};
+use osc_token::Audience;
 use osc_tree::Tree;
 use osc_world::EnrollError;
 use std::alloc::Global;
@@ -45,7 +49,7 @@ impl Rules {
     /// What these settings rule.
     fn of(alloc: Global, settings: &PlainDeviceSettings<'_>) -> Result<Rules, Outcome>
         ensures ok { IfOk result (λ rules. (rules ≡ rules_of (rules_given settings.now)) × AreRules (rules_given settings.now)) }
-        ensures err { IfErr result (IsUnfit (AreNoRules (rules_given settings.now))) }
+        ensures err { IfErr result (IsUnfit (AreRules (rules_given settings.now))) }
     {
         let old_key = old_key(settings)?;
         Ok(Rules {
@@ -59,7 +63,7 @@ impl Rules {
 /// The former key, where the flag is 1.
 fn old_key(settings: &PlainDeviceSettings<'_>) -> Result<Option<[u8; 16]>, Outcome>
     ensures ok { IfOk result (λ key. (key ≡ old_key_of (rules_given settings.now)) × (settings.now.has_old_key ≤ 1)) }
-    ensures err { IfErr result (λ outcome. (outcome ≡ BadArgument) × (1 < settings.now.has_old_key)) }
+    ensures err { IfErr result (λ outcome. (outcome ≡ BadArgument) × ¬ (settings.now.has_old_key ≤ 1)) }
 {
     let key = settings.old_key.bytes;
     if flag(settings.has_old_key)? {
@@ -69,19 +73,35 @@ fn old_key(settings: &PlainDeviceSettings<'_>) -> Result<Option<[u8; 16]>, Outco
     }
 }
 
+/// How many `/` these bytes have.
+fn slashes(bytes: &[u8]) -> usize
+    ensures { result ≡ count_by (λ b. b == 47) bytes.now }
+{
+    bytes.iter().filter(|b| **b == b'/').count()
+}
+
+/// Whether a path of this text has so few segments that those of a token's id fit below it.
+fn has_few_segments(text: &[u8]) -> bool
+    ensures { IsTrue result ↔ (length (segments_of text.now) ≤ 4) }
+{
+    match text.split_first() {
+        Some((_, rest)) => slashes(rest) < MOST_SEGMENTS,
+        None => true,
+    }
+}
+
 /// The revocation path of this text: none where it is empty.
 fn revocation_path(alloc: Global, text: &[u8]) -> Result<Option<Path>, Outcome>
     ensures ok { IfOk result (λ path. (path ≡ revoked_of text.now) × IsRevocationText text.now) }
-    ensures err { IfErr result (IsUnfit (¬ (IsRevocationText text.now))) }
+    ensures err { IfErr result (IsUnfit (IsRevocationText text.now)) }
 {
     if text.is_empty() {
         return Ok(None);
     }
-    let path = arguments::path(alloc, text)?;
-    if path.segments() > MOST_SEGMENTS {
+    if !has_few_segments(text) {
         return Err(Outcome::BadArgument);
     }
-    Ok(Some(path))
+    Ok(Some(arguments::path(alloc, text)?))
 }
 
 /// A limit: 0 seconds are none.
@@ -94,7 +114,7 @@ fn limit(seconds: u32) -> Option<u32>
 /// The scope of what needs no protection: none where the text is empty.
 fn open_scope(alloc: Global, text: &[u8]) -> Result<Scope, Outcome>
     ensures ok { IfOk result (IsOpenScope text.now) }
-    ensures err { IfErr result (IsNoOpenScope text.now) }
+    ensures err { IfErr result (IsUnread (IsNoOpenScope text.now)) }
 {
     if text.is_empty() {
         return Ok(Scope::new(alloc));
@@ -107,14 +127,16 @@ fn open_scope(alloc: Global, text: &[u8]) -> Result<Scope, Outcome>
     }
 }
 
-/// A server without resources.
+/// A server of this audience, without resources.
 fn parts(
     alloc: Global,
     settings: &PlainDeviceSettings<'_>,
+    audience: Audience,
     rules: Rules,
 ) -> Result<ServerParts, Outcome>
+    requires { audience ≡ settings.now.audience.bytes.now }
     ensures ok { IfOk result (AreParts (device_given settings.now) rules) }
-    ensures err { IfErr result (IsNoServer settings.now.audience.bytes.now settings.now.unprotected.bytes.now) }
+    ensures err { IfErr result (IsUnread (IsNoOpenScope settings.now.unprotected.bytes.now)) }
 {
     let key = settings.key.bytes;
     let Rules {
@@ -127,7 +149,7 @@ fn parts(
         open_scope: open_scope(alloc, settings.unprotected.bytes)?,
         key,
         old_key,
-        audience: audience(alloc, settings.audience.bytes)?,
+        audience,
         revoked,
         context_seconds: seconds,
     })
@@ -175,7 +197,7 @@ fn iv_of(draw: &PlainDraw) -> [u8; 13]
 /// The device's own token, for this scope: its secret and its IV are of the draw.
 fn own_token(alloc: Global, scope: &[u8], draw: &PlainDraw) -> Result<OwnToken, Outcome>
     ensures ok { IfOk result (IsOwnToken scope.now draw.now.bytes) }
-    ensures err { IfErr result (IsNoScope scope.now) }
+    ensures err { IfErr result (IsUnread (IsNoScopeText scope.now)) }
 {
     let iv = iv_of(draw);
     let (secret, _) = draw.bytes.split_at(SECRET);
@@ -202,7 +224,7 @@ fn refused(error: NewError) -> Outcome
 }
 
 impl DeviceNode {
-    /// A device without resources.
+    /// A device without resources. All but the scopes is judged before memory is taken.
     pub fn new<A: Ciphers>(
         alloc: Global,
         settings: &PlainDeviceSettings<'_>,
@@ -212,8 +234,10 @@ impl DeviceNode {
         ensures err { IfErr result (IsNoNewDevice (device_given settings.now) draw.now.bytes) }
     {
         sized(settings.size, size_of::<PlainDeviceSettings<'_>>())?;
+        let audience = text(settings.audience.bytes)?;
         let rules = Rules::of(alloc, settings)?;
-        let parts = parts(alloc, settings, rules)?;
+        let audience = Audience::new(alloc, audience)?;
+        let parts = parts(alloc, settings, audience, rules)?;
         let own = own_token(alloc, settings.own.bytes, draw)?;
         match Device::new::<A>(alloc, parts, own) {
             Ok(device) => Ok(DeviceNode {

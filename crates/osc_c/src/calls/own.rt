@@ -2,9 +2,8 @@
 ghost use Rattle.std.specs.Prelude.{◌≡◌, ◌≢◌, ◌<◌, IfErr, IfOk, None};
 ghost use Rattle.osc_c.specs.Arguments.{IsUnfit};
 ghost use Rattle.osc_device.specs.{own_request};
-ghost use Rattle.osc_model.specs.declared.code.Method.TheVariants.{Delete, Put};
 ghost use Rattle.osc_c.specs.Given.{value_given};
-ghost use Rattle.osc_c.specs.Own.{Asks, AsksBy, AsksOfId, ComesTo, IsBegun, IsNoValue, Opens, OpensBy, RemovesBy, asked_for, is_refused_by, last_after};
+ghost use Rattle.osc_c.specs.Own.{Asks, AsksBy, AsksOfId, ComesTo, FitsValue, IsBegun, Opens, OpensBy, RemovesBy, asked_for, is_refused_by, last_after};
 ghost use Rattle.osc_c.specs.Inner.Writes.{Reads};
 ghost use Rattle.osc_c.specs.Told.{told_of};
 ghost use Rattle.osc_c.specs.declared.calls.outcome.Outcome.TheVariants as outcome;
@@ -50,7 +49,7 @@ fn own_request(
     }
 }
 
-/// The request for this value.
+/// The request for this value, which is judged before memory is taken.
 fn read(
     alloc: Global,
     method: Method,
@@ -59,12 +58,12 @@ fn read(
 ) -> Result<OwnRequest, Outcome>
     ensures ok { IfOk result (λ own. Reads method (value_given now given.now) own.now own.request) }
     ensures code { IfOk result (λ own. 0 < own.request.code.0) }
-    ensures err { IfErr result (IsUnfit (IsNoValue (value_given now given.now))) }
+    ensures err { IfErr result (IsUnfit (FitsValue (value_given now given.now))) }
 {
     sized(given.size, size_of::<PlainResource<'_>>())?;
     let now = moment(now)?;
-    let path = arguments::path(alloc, given.path.bytes)?;
     let format = arguments::format(given.format)?;
+    let path = arguments::path(alloc, given.path.bytes)?;
     let payload = Bytes::from_slice(alloc, given.payload.bytes)?;
     let request = own_request(alloc, method, path, format, payload);
     Ok(OwnRequest { now, request })
@@ -144,51 +143,28 @@ impl DeviceNode {
         }
     }
 
-    /// Revokes the tokens of this id: puts an empty value at the path that is for it. `BadArgument` where there is no such path.
-    pub fn revoke<A: Ciphers>(
+    /// Asks for this method, and nothing else, at the path that is for the tokens of this id: PUT revokes them, and DELETE lets them in again.
+    /// `BadArgument` where there is no such path.
+    pub fn ask_of_id<A: Ciphers>(
         &mut self,
         alloc: Global,
+        method: Method,
         now: u64,
         id: &[u8],
         draws: &PlainDraws,
     ) -> Told
-        ensures { AsksOfId A.is_sealing A.TAG Put self.old (record { ms = now; id = id.now; draws = draws.now }) result self.new }
+        ensures { AsksOfId A.is_sealing A.TAG method self.old (record { ms = now; id = id.now; draws = draws.now }) result self.new }
     {
         let now = match moment(now) {
             Ok(now) => now,
             Err(outcome) => return bare(outcome),
         };
-        let both = OwnDraws {
-            own: Draw(draws.own.bytes),
-            server: Draw(draws.server.bytes),
-        };
-        match self.device.revoke::<A>(alloc, now, id, both) {
-            Ok(Some(round)) => keep(&mut self.last, round),
-            Ok(None) => bare(Outcome::BadArgument),
-            Err(_) => bare(Outcome::NoMemory),
-        }
-    }
-
-    /// Lets the tokens of this id in again: removes what is at the path that is for it. `BadArgument` where there is no such path.
-    pub fn allow<A: Ciphers>(
-        &mut self,
-        alloc: Global,
-        now: u64,
-        id: &[u8],
-        draws: &PlainDraws,
-    ) -> Told
-        ensures { AsksOfId A.is_sealing A.TAG Delete self.old (record { ms = now; id = id.now; draws = draws.now }) result self.new }
-    {
-        let now = match moment(now) {
-            Ok(now) => now,
-            Err(outcome) => return bare(outcome),
-        };
-        let both = OwnDraws {
-            own: Draw(draws.own.bytes),
-            server: Draw(draws.server.bytes),
-        };
-        match self.device.allow::<A>(alloc, now, id, both) {
-            Ok(Some(round)) => keep(&mut self.last, round),
+        match self.device.server().desk().revocation_of(alloc, id) {
+            Ok(Some(path)) => {
+                let nothing = Bytes::new(alloc);
+                let request = own_request(alloc, method, path, None, nothing);
+                self.ask_at::<A>(alloc, now, &request, draws)
+            }
             Ok(None) => bare(Outcome::BadArgument),
             Err(_) => bare(Outcome::NoMemory),
         }

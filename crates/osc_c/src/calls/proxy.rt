@@ -1,6 +1,5 @@
 //! A proxy by calls of plain numbers and bytes.
-ghost use Rattle.std.specs.Prelude.{◌≡◌, ◌↔◌, [], IfOk, IsTrue, OnOk, OnErr};
-ghost use Rattle.osc_client.specs.{IsHost};
+ghost use Rattle.std.specs.Prelude.{◌≡◌, [], IfOk, OnOk, OnErr};
 ghost use Rattle.osc_c.specs.Ends.{Ends};
 ghost use Rattle.osc_c.specs.Last.{HandsOut, nothing};
 ghost use Rattle.osc_c.specs.Plain.{draw_of, peer_of};
@@ -9,7 +8,7 @@ ghost use Rattle.osc_proxy.specs.{Hears};
 ghost use Rattle.osc_proxy.specs.Ticks.{Ticks};
 ghost use Rattle.osc_c.specs.declared.calls.proxy.Forwarding.TheVariants.{Setting};
 
-use crate::calls::arguments::{moment, tell};
+use crate::calls::arguments::{is_host, moment, tell};
 use crate::calls::last::Last;
 use crate::calls::outcome::Outcome;
 use crate::calls::plain::{PlainDraw, PlainPeer};
@@ -17,16 +16,6 @@ use crate::calls::setting::Settings;
 use osc_model::{Moment, Peer, Step};
 use osc_proxy::Proxy;
 use std::alloc::{AllocError, Global};
-
-/// The most bytes of a host that Uri-Host can hold (RFC 7252 section 5.10).
-const LONGEST_HOST: usize = 255;
-
-/// Whether a request can name this host.
-fn is_host(host: &[u8]) -> bool
-    ensures { IsTrue result ↔ IsHost host.now }
-{
-    !host.is_empty() && host.len() <= LONGEST_HOST
-}
 
 /// A proxy before its first event, and after it.
 pub enum Forwarding {

@@ -1,12 +1,11 @@
 //! Tokens of numbers and bytes.
-ghost use Rattle.std.specs.Prelude.{◌≡◌, ◌≤◌, [], IfErr, IfOk, OnOk};
-ghost use Rattle.std.specs.Str.{IsUtf8};
-ghost use Rattle.osc_c.specs.Arguments.{IsUnfit};
-ghost use Rattle.osc_c.specs.Given.{claims_given, claims_size};
-ghost use Rattle.osc_c.specs.Tokens.{AreClaims, HaveLengths, HaveNoLengths, IsMinted, IsNoClaims, IsNoScope, IsScopeOf, IsUnminted, Mints, date_of};
+ghost use Rattle.std.specs.Prelude.{◌≡◌, [], IfErr, IfOk, OnOk};
+ghost use Rattle.osc_c.specs.Given.{claims_given};
+ghost use Rattle.osc_c.specs.Inner.Reading.{IsUnread};
+ghost use Rattle.osc_c.specs.Tokens.{AreClaims, FitsClaims, HaveLengths, IsMinted, IsNoClaims, IsNoScopeText, IsScopeOf, IsUnminted, Mints, date_of};
 ghost use Rattle.osc_c.specs.declared.calls.outcome.Outcome.TheVariants.{BadArgument};
 
-use crate::calls::arguments::sized;
+use crate::calls::arguments::{LONGEST_PART, flag, sized, text};
 use crate::calls::filling::fill;
 use crate::calls::granted;
 use crate::calls::outcome::Outcome;
@@ -16,32 +15,17 @@ use osc_model::{Algorithm, Bytes};
 use osc_scope::{ScopeError, text_to_cbor};
 use osc_token::{Audience, Claims, InputMaterial, MintError};
 use std::alloc::{AllocError, Global};
-use std::str;
-
-/// The most bytes of a part of input material.
-const LONGEST: usize = 64;
 
 /// The bytes of the scope that a text says.
 pub(crate) fn scope_bytes(alloc: Global, text: &[u8]) -> Result<Bytes, Outcome>
     ensures ok { IfOk result (λ bytes. IsScopeOf text.now bytes) }
-    ensures err { IfErr result (IsNoScope text.now) }
+    ensures err { IfErr result (IsUnread (IsNoScopeText text.now)) }
 {
     let mut bytes = Vec::new(alloc);
     match text_to_cbor(alloc, text, &mut bytes) {
         Ok(()) => Ok(Bytes::from_vec(bytes)),
         Err(ScopeError::BadScope) => Err(Outcome::BadScope),
         Err(ScopeError::Memory) => Err(Outcome::NoMemory),
-    }
-}
-
-/// The audience of this name.
-pub(crate) fn audience(alloc: Global, name: &[u8]) -> Result<Audience, Outcome>
-    ensures ok { IfOk result (λ audience. audience ≡ name.now) }
-    ensures err { IfErr result (IsUnfit (¬ (IsUtf8 name.now))) }
-{
-    match str::from_utf8(name) {
-        Ok(name) => Ok(Audience::new(alloc, name)?),
-        Err(_) => Err(Outcome::BadArgument),
     }
 }
 
@@ -75,33 +59,34 @@ fn date(seconds: u64) -> Option<u64>
 /// Refuses input material of lengths that a reader doesn't take (RFC 9203 section 3.2.1 leaves them open).
 fn lengths(id: &[u8], secret: &[u8], context: &[u8]) -> Result<(), Outcome>
     ensures ok { OnOk result (HaveLengths id.now secret.now context.now) }
-    ensures err { IfErr result (λ outcome. (outcome ≡ BadArgument) × HaveNoLengths id.now secret.now context.now) }
+    ensures err { IfErr result (λ outcome. (outcome ≡ BadArgument) × ¬ (HaveLengths id.now secret.now context.now)) }
 {
-    if id.len() > LONGEST
+    if id.len() > LONGEST_PART
         || secret.is_empty()
-        || secret.len() > LONGEST
-        || context.len() > LONGEST
+        || secret.len() > LONGEST_PART
+        || context.len() > LONGEST_PART
     {
         return Err(Outcome::BadArgument);
     }
     Ok(())
 }
 
-/// What a token is to claim.
+/// What a token is to claim. All but the scope is judged before memory is taken.
 pub fn claims(alloc: Global, given: &PlainClaims<'_>) -> Result<Claims, Outcome>
     ensures ok { IfOk result (λ claims. AreClaims (claims_given given.now) claims) }
-    ensures size { OnOk result (given.now.size ≡ claims_size) }
-    ensures lengths { OnOk result (HaveLengths given.now.id.bytes.now given.now.secret.bytes.now given.now.context.bytes.now × (given.now.has_context ≤ 1)) }
+    ensures fits { OnOk result (FitsClaims (claims_given given.now)) }
     ensures err { IfErr result (IsNoClaims (claims_given given.now)) }
 {
     sized(given.size, size_of::<PlainClaims<'_>>())?;
     lengths(given.id.bytes, given.secret.bytes, given.context.bytes)?;
     let alg = granted::algorithm(given.algorithm)?;
+    flag(given.has_context)?;
+    let audience = text(given.audience.bytes)?;
     let id_context = granted::id_context(alloc, given.has_context, given.context.bytes)?;
     let material = material(alloc, given.id.bytes, given.secret.bytes, id_context, alg)?;
     let scope = scope_bytes(alloc, given.scope.bytes)?;
     Ok(Claims {
-        audience: audience(alloc, given.audience.bytes)?,
+        audience: Audience::new(alloc, audience)?,
         not_before: date(given.not_before),
         expires: date(given.expires),
         material,

@@ -4,4 +4,4 @@ use Rattle.osc_c.proofs.Lending.{makes_by}
 use Rattle.osc_c.proofs.client.nzf_client_new.Goals as goal
 
 pub returns : goal.returns
-returns c = makes_by _ _ _ _ _ _ c.hold.ensures (search rules) c.new.ensures.ok c.new.ensures.err (inr refl)
+returns c = makes_by _ _ _ _ _ _ c.hold.ensures (search rules) c.new.ensures.ok c.new.ensures.err (λ node is. inr (refl, is.fits))

@@ -11,6 +11,7 @@ returns-in-Ok-path g c =
     let is : c.own_request-request.result ≡ own_request Delete c.args.path.now None [] = search rules in
     inl (
       c.in-Ok.now,
+      (c.in-Ok.ensures.fits, c.in-Ok-path.ensures.ok.1),
       c.in-Ok.ensures.ok,
       subst (λ (request : Request). ComesTo c.args.self.now c.ask_at.result c.ask_at.new.self (IsBegun g.A.Ciphers.is_sealing g.A.Ciphers.TAG c.args.self.now c.args.draws.now request)
           (λ round. Asks g.A.Ciphers.is_sealing g.A.Ciphers.TAG c.args.self.now (asked_for c.args.draws.now c.in-Ok.now request) round c.ask_at.new.self))
