@@ -1,47 +1,52 @@
 -- What a lab's nodes did and told, one thing after another.
-use Rattle.std.proofs.Common.{◌≡◌, ◌∙◌, ◌+◌, ◌<◌, ◌≤◌, ℕ, Bool, true, false, List, [], ◌∷◌, ◌++◌, length, take, drop, get_or, Option, Some, None, Result, Ok, Err, IfErr, OnOk, refl, ap, sym, subst, append_assoc, append-nil, add-one, arith, inl, inr}
+use Rattle.std.proofs.Common.{◌≡◌, ◌∙◌, ◌+◌, ◌<◌, ◌≤◌, ℕ, suc, Bool, true, false, List, [], ◌∷◌, ◌++◌, length, take, drop, get_or, Option, Some, None, Result, Ok, Err, IfErr, OnErr, OnOk, refl, ap, sym, subst, append_assoc, append-nil, add-one, arith}
 use Rattle.std.proofs.lemmas.Grind.{flat_map-append}
-use Rattle.std.proofs.Math.Nat.{lt_of_not-le}
 use Rattle.std.proofs.lemmas.Bool.{ne_eqb}
 use Rattle.std.proofs.Math.Seq.{take-suc}
 use Rattle.std.proofs.lemmas.List.{map-set, set-get_or, take_all, take-append-drop}
 use Rattle.std.proofs.lemmas.Option.{get_or_from_slice_get, same_Some, slice_get-map}
 use Rattle.std.specs.Option.{IfSome}
-use Rattle.std.specs.Prelude.{◌↔◌, ◌==◌, IsErrAnd, IsSome, IsTrue, option_map, slice_get, slice_set, option_to_list}
+use Rattle.std.specs.Prelude.{◌↔◌, ◌==◌, ◌||◌, IsErrAnd, IsTrue, map, option_map, slice_get, slice_set, option_to_list}
 use Rattle.std.specs.Io.KnownBytes.{Appends}
+use Rattle.std.specs.List.{list_all}
 use Rattle.osc_client.specs.Hearing as hearing
 use Rattle.osc_client.specs.{acts_at, core, IsStep as IsStepOfClient}
 use Rattle.osc_client.specs.State.{State as Client}
 use Rattle.osc_proxy.specs.State.{State as Proxy}
-use Rattle.osc_proxy.specs.{IsStep as IsStepOfProxy}
-use Rattle.osc_server.specs.{core as core_of_server, IsStep as IsStepOfServer}
+use Rattle.osc_proxy.specs.{IsStep as IsStepOfProxy, acts as proxy_acts}
+use Rattle.osc_server.specs.{core as core_of_server, IsStep as IsStepOfServer, acts as server_acts}
 use Rattle.osc_server.specs.State.{State as Server}
 use Rattle.osc_model.specs.StepNotes.{StepNotes}
 use Rattle.osc_model.specs.declared.request.Request.{Request}
+use Rattle.osc_model.specs.declared.step.Datagram.{Datagram}
 use Rattle.osc_model.specs.declared.step.Step.{Step}
 use Rattle.osc_model.specs.declared.node.Draw.{Draw}
 use Rattle.osc_model.specs.declared.node.Moment.{Moment}
-use Rattle.osc_run.specs.{ClientStep, history, Cause, moment_of, Kept, Noted, by_client, by_proxy, by_server, IsReached, WorldStep, OfServer as ByTheServer, OfClient as ByTheClient, OfProxy as ByTheProxy, ClientState, Minted, WorldState}
+use Rattle.osc_run.specs.{ClientStep, history, moment_of, Kept, Noted, by_client, by_proxy, by_server, IsReached, WorldStep, OfServer as ByTheServer, OfClient as ByTheClient, OfProxy as ByTheProxy, ClientState, Minted, WorldState}
 use Rattle.osc_run.specs.Premise.{Premise}
 use Rattle.osc_run.specs.declared.noted.Actor.{Actor}
-use Rattle.osc_run.specs.declared.noted.Actor.TheVariants.{Proxy as ByProxy, Server as ByServer}
+use Rattle.osc_run.specs.declared.noted.Actor.TheVariants.{Client as ByClient, Proxy as ByProxy, Server as ByServer}
 use Rattle.osc_script.specs.{IsScript}
 use Rattle.osc_script.specs.declared.client_name.ClientName.{ClientName}
 use Rattle.osc_script.specs.declared.line.Line.{Line}
 use Rattle.osc_script.specs.declared.line.Line.TheVariants.{Exchange, Ask}
-use Rattle.osc_world.specs.{Ask as Asks, ClientTask, Deed, Do, NodeStates, Nothing, OfClient, Take, a_node}
+use Rattle.osc_turn.specs.{ClockAndRandomState, cause_of, grown}
+use Rattle.osc_world.specs.{Ask as Asks, ClientTask, Do, NodeStates, Nothing, OfClient, Take, a_node}
 use Rattle.osc_world.specs.declared.nodes.Placed.{Placed}
 use Rattle.osc_world.specs.declared.nodes.Whose.{Whose}
 use Rattle.osc_world.specs.declared.nodes.Whose.TheVariants as whose
-use Rattle.osc_turn.specs.{cause_of}
 use Rattle.osc_simulation.specs.{granted, name_of_number, is_sealing, tag_of, end_text}
-use Rattle.osc_programs.specs.{IsFault, Running, TakesTurn}
-use Rattle.osc_lab.specs.Inner.Telling.{Begins, BeginsBy, Did, DidTask, IsUntold, LearnsNothing, Observed, Stayed, Stops, Tells, TookTurn, TookTurnOrStayed}
-use Rattle.osc_lab.specs.{BreaksOff, EndsWith, Learnt, Rules, learnt, learnt_by, all_told, Goes, Leads, stays, goes, LineBegins, TellsLine, TellsLines, ComesOf, Turn, Turns, WholeTurn, WholeTurns, Prints, client_of, deed_of, is_waiting, rules_of, run_of, task_of}
-use Rattle.osc_lab.specs.Lab.{Lab}
-use Rattle.osc_lab.specs.Lab as lab
+use Rattle.osc_programs.specs.{IsFault}
 use Rattle.osc_programs.specs.declared.ended.Ended.{Ended}
+use Rattle.osc_lab.specs.Inner.Telling.{Begins as Began, BeginsBy, Did, DidAsked, DidOrStayed, IsUntold, LeadsTo, LearnsNothing, Stayed, Stops, Tells, TookOrStayed, TookTurn, did, idle, seen, stayed, took}
+use Rattle.osc_lab.specs.{BreaksOff, EndsWith, Goes, HandsOver, Leads, Learnt, LineBegins, LiveLab, Ports, Rules, TakesTurns, TellsLine, TellsLines, ComesOf, Turn, Turns, TurnsAt, WholeTurn, WholeTurns, Prints, acts_of, all_told, begins, client_of, deed_of, is_heeded, is_waiting, learnt, learnt_by, named, next_turn, next_whole_turn, out_of, posted, rules_of, run_of, sent_by, stays, task_of, then_line, then_turn}
+use Rattle.osc_lab.specs.Lab.{Lab}
+use Rattle.osc_lab.specs.Network.{Network}
+use Rattle.osc_lab.specs.Telling as telling
+use Rattle.osc_lab.specs.Turning as turning
+use Rattle.osc_lab.specs.declared.ports.PacedPort.{PacedPort}
 use Rattle.osc_lab.proofs.Appended.{appends_more}
+use Rattle.osc_lab.proofs.LabRuns.{leads_more}
 
 -- ---- what was written
 
@@ -50,7 +55,7 @@ pub appends_as : (a b : Option (List ℕ)) (some other : List ℕ) → some ≡ 
 appends_as a b some other e p = subst (λ (bytes : List ℕ). Appends a b bytes) e p
 
 pub all_told_more : (clients : List ClientName) (some more : List Learnt) → all_told clients (some ++ more) ≡ all_told clients some ++ all_told clients more
-all_told_more clients some more = flat_map-append (lab.told_text clients) some more
+all_told_more clients some more = flat_map-append (telling.told_text clients) some more
 
 -- ---- what was told
 
@@ -125,38 +130,39 @@ stops_more ended clients first between last a b c p q = record {
   tells = λ n. appends_as a c (all_told clients p.0 ++ all_told clients q.more) _ (sym (all_told_more clients p.0 q.more)) (appends_more a b c _ _ p.2 (q.tells n));
 }
 
--- ---- steps
+-- ---- where it halts
 
-pub leads_same : (old new : Lab) → new ≡ old → Leads old new
-leads_same old new e = subst (λ (other : Lab). Leads old other) (sym e) stays
+module _ {P : Type 0} (net : Network P) where
+  pub halts_here : (live : LiveLab P) → LeadsTo net live live
+  halts_here live = (live, stays, record { lab = refl; sent = refl })
 
-pub leads_by : (deed : Deed) (old new : Lab) → Goes deed old new → Leads old new
-leads_by deed old new step = goes deed old new stays step
+  -- after steps
+  pub halts_then : (first last : LiveLab P) → Leads net first last → LeadsTo net first last
+  halts_then first last leads = (last, leads, record { lab = refl; sent = refl })
 
-pub leads_more : (first between last : Lab) → Leads first between → Leads between last → Leads first last
-leads_more first between _ so_far stays = so_far
-leads_more first between last so_far (goes deed next _ further step) = goes deed next last (leads_more first between next so_far further) step
+  pub halts_later : (first between last : LiveLab P) → Leads net first between → LeadsTo net between last → LeadsTo net first last
+  halts_later first between last leads further = (further.0, leads_more net first between further.0 leads further.1, further.2)
 
--- ---- the whole
+  -- ---- the whole
 
--- the outcome of the lines, and the last lines after it
-pub prints_by : (turns : ℕ) (lines : List Line) (first last : Lab) (a b c : Option (List ℕ))
-    → (text : List ℕ) × TellsLines (rules_of turns lines) first lines text last × Appends a b text
-    → (held : Bool) × (IsTrue held ↔ Premise last.minted last.steps) × Appends b c (end_text last.nodes.server.tree (length (history last.steps)) held)
-    → (text : List ℕ) × Prints turns lines first text last × Appends a c text
-prints_by turns lines first last a b c told ends = (
-  told.0 ++ end_text last.nodes.server.tree (length (history last.steps)) ends.0,
-  record { told = told.0; tells = told.1; held = ends.0; holds = ends.1; is = refl },
-  appends_more a b c told.0 (end_text last.nodes.server.tree (length (history last.steps)) ends.0) told.2 ends.2,
-)
+  -- the outcome of the lines, and the last lines after it
+  pub prints_by : (turns : ℕ) (lines : List Line) (first last : LiveLab P) (a b c : Option (List ℕ))
+      → (text : List ℕ) × TellsLines net (rules_of turns lines) first lines text last × Appends a b text
+      → (held : Bool) × (IsTrue held ↔ Premise last.lab.minted last.lab.steps) × Appends b c (end_text last.lab.nodes.server.tree (length (history last.lab.steps)) held)
+      → (text : List ℕ) × Prints net turns lines first text last × Appends a c text
+  prints_by turns lines first last a b c told ends = (
+    told.0 ++ end_text last.lab.nodes.server.tree (length (history last.lab.steps)) ends.0,
+    record { told = told.0; tells = told.1; held = ends.0; holds = ends.1; is = refl },
+    appends_more a b c told.0 (end_text last.lab.nodes.server.tree (length (history last.lab.steps)) ends.0) told.2 ends.2,
+  )
 
 -- ---- what one node did
 
-abbrev pub seen : {N : Type 0} → N → List Noted → Observed N
-seen node steps = record { node = node; steps = steps }
-
 abbrev pub at : List Minted → NodeStates → List Noted → Lab
 at minted nodes steps = record { minted = minted; nodes = nodes; steps = steps }
+
+abbrev pub live_at : {P : Type 0} → List Minted → NodeStates → List Noted → Ports P → ClockAndRandomState → LiveLab P
+live_at minted nodes steps ports supply = record { lab = at minted nodes steps; ports = ports; supply = supply }
 
 abbrev pub with_node : {S : Type 0} → List (Placed S) → ℕ → Placed S → S → List (Placed S)
 with_node all number placed node = slice_set all number (record { at = placed.at; node = node })
@@ -167,11 +173,51 @@ with_client nodes number placed client = record nodes { clients = with_node node
 abbrev pub with_proxy : NodeStates → ℕ → Placed Proxy → Proxy → NodeStates
 with_proxy nodes number placed proxy = record nodes { proxies = with_node nodes.proxies number placed proxy }
 
+abbrev pub with_client_port : {P : Type 0} → Ports P → ℕ → PacedPort P → Ports P
+with_client_port ports number port = record ports { clients = slice_set ports.clients number port }
+
+abbrev pub with_proxy_port : {P : Type 0} → Ports P → ℕ → PacedPort P → Ports P
+with_proxy_port ports number port = record ports { proxies = slice_set ports.proxies number port }
+
+set_same : {A : Type 0} (all : List A) (number : ℕ) (item : A) → slice_get all number ≡ Some item → slice_set all number item ≡ all
+set_same all number item there = ap (λ it. slice_set all number it) (sym (get_or_from_slice_get all number item item there)) ∙ set-get_or all number item
+
 same_place : {S : Type 0} (all : List (Placed S)) (number : ℕ) (placed : Placed S) (node : S) → slice_get all number ≡ Some placed → node ≡ placed.node
     → with_node all number placed node ≡ all
 same_place all number placed node there e =
-    ap (λ n. with_node all number placed n) e
-    ∙ ap (λ p. slice_set all number p) (sym (get_or_from_slice_get all number placed placed there)) ∙ set-get_or all number placed
+    ap (λ n. with_node all number placed n) e ∙ set_same all number placed there
+
+-- what is the same of one of these is of all
+same_of_all : {A B : Type 0} (of : A → B) (all : List A) (number : ℕ) (old new : A) → slice_get all number ≡ Some old → of new ≡ of old
+    → map of (slice_set all number new) ≡ map of all
+same_of_all of all number old new there e =
+    let known : slice_get (map of all) number ≡ Some (of old) = slice_get-map of all number ∙ ap (option_map of) there in
+    map-set of all number new ∙ ap (λ item. slice_set (map of all) number item) (e ∙ sym (get_or_from_slice_get (map of all) number (of old) (of old) known))
+    ∙ set-get_or (map of all) number (of old)
+
+grown_none : {A : Type 0} (told : Option (List A)) → told ≡ grown told []
+grown_none None = refl
+grown_none (Some items) = ap Some (sym (append-nil items))
+
+module _ {P : Type 0} (net : Network P) (minted : List Minted) (nodes : NodeStates) (steps : List Noted) (ports : Ports P) (supply : ClockAndRandomState) where
+  -- nothing was done to what was lent
+  pub halts_at_client_port : (number : ℕ) (port : PacedPort P) → slice_get ports.clients number ≡ Some port
+      → LeadsTo net (live_at minted nodes steps ports supply) (live_at minted nodes steps (with_client_port ports number port) supply)
+  halts_at_client_port number port had =
+      subst (λ (all : List (PacedPort P)). LeadsTo net (live_at minted nodes steps ports supply) (live_at minted nodes steps (record ports { clients = all }) supply))
+      (sym (set_same ports.clients number port had)) (halts_here net (live_at minted nodes steps ports supply))
+
+  pub halts_at_proxy_port : (number : ℕ) (port : PacedPort P) → slice_get ports.proxies number ≡ Some port
+      → LeadsTo net (live_at minted nodes steps ports supply) (live_at minted nodes steps (with_proxy_port ports number port) supply)
+  halts_at_proxy_port number port had =
+      subst (λ (all : List (PacedPort P)). LeadsTo net (live_at minted nodes steps ports supply) (live_at minted nodes steps (record ports { proxies = all }) supply))
+      (sym (set_same ports.proxies number port had)) (halts_here net (live_at minted nodes steps ports supply))
+
+  pub halts_at_client : (number : ℕ) (placed : Placed Client) → slice_get nodes.clients number ≡ Some placed
+      → LeadsTo net (live_at minted nodes steps ports supply) (live_at minted (with_client nodes number placed placed.node) steps ports supply)
+  halts_at_client number placed there =
+      subst (λ (all : List (Placed Client)). LeadsTo net (live_at minted nodes steps ports supply) (live_at minted (record nodes { clients = all }) steps ports supply))
+      (sym (set_same nodes.clients number placed there)) (halts_here net (live_at minted nodes steps ports supply))
 
 next_reached : (old new : WorldState) → WorldStep old new → IsReached old → IsReached new
 next_reached old new step reached = (old ∷ reached.0, (step, reached.1))
@@ -179,106 +225,203 @@ next_reached old new step reached = (old ∷ reached.0, (step, reached.1))
 abbrev core_of : Placed Client → ClientState
 core_of placed = core placed.node
 
-module _ (minted : List Minted) (nodes : NodeStates) (before after : List Noted) where
+module _ {P : Type 0} (net : Network P) (minted : List Minted) (nodes : NodeStates) (before after : List Noted) (ports : Ports P) (supply later : ClockAndRandomState) where
+  abbrev earlier : LiveLab P
+  earlier = live_at minted nodes before ports supply
+
   -- the server took a turn
-  module _ (node : Server) (there : node ≡ nodes.server) (server : Server) where
-    pub server_turned : TookTurn (IsStepOfServer is_sealing) ByServer (seen node before) (seen server after)
-        → Turn whose.Server (at minted nodes before) (at minted (record nodes { server = server }) after)
-    server_turned t =
-        let makes : IsStepOfServer is_sealing nodes.server t.cause t.step server =
-        subst (λ (old : Server). IsStepOfServer is_sealing old t.cause t.step server) there t.makes in
+  module _ (node : Server) (there : node ≡ nodes.server) (server : Server) (port : PacedPort P) where
+    abbrev served : LiveLab P
+    served = live_at minted (record nodes { server = server }) after (record ports { server = port }) later
+
+    pub server_turned : (busy : Bool) → TookTurn net server_acts (IsStepOfServer is_sealing) ByServer busy (seen node ports.server supply before) (seen server port later after)
+        → Turn net whose.Server busy earlier served
+    server_turned busy t =
+        let cause = cause_of t.took.now t.took.draw (option_map (named net.sockets) t.took.came) in
+        let makes : IsStepOfServer is_sealing nodes.server cause t.step server =
+        subst (λ (old : Server). IsStepOfServer is_sealing old cause t.step server) there t.took.makes in
         record {
-          cause = t.cause;
+          now = t.took.now;
+          draw = t.took.draw;
+          came = t.took.came;
+          gives = t.took.gives;
           goes = record {
             taken = Some (record { at = nodes.server_at; noted = by_server t.step.notes; out = t.step.out });
             nodes = record nodes { server = server };
             takes = record { step = t.step; server = server; it_does = makes; taken_is = refl; is = refl };
             is = ap (λ (steps : List Noted). at minted (record nodes { server = server }) steps) t.steps;
             runs = λ first reached. next_reached (run_of first (at minted nodes before)) (run_of first (at minted (record nodes { server = server }) after))
-                (ByTheServer (moment_of t.cause) (core_of_server server) t.step.notes makes.kind
+                (ByTheServer (moment_of cause) (core_of_server server) t.step.notes makes.kind
                 (λ j. record (run_of first (at minted nodes before)) { server = core_of_server server; notes = t.steps j })) reached;
           };
+          port = ports.server;
+          there = refl;
+          after = port;
+          at_port = t.took.turns;
+          ports = refl;
+          is_busy = t.took.is_busy;
         }
 
-    pub server_leads : TookTurnOrStayed (IsStepOfServer is_sealing) ByServer (seen node before) (seen server after)
-        → Leads (at minted nodes before) (at minted (record nodes { server = server }) after)
-    server_leads (inl t) = leads_by _ _ _ (server_turned t).goes
-    server_leads (inr s) =
-        let same : server ≡ nodes.server = s.node ∙ there in
-        leads_same _ _ (λ j. at minted (record nodes { server = same j }) (s.steps j))
+    pub server_leads : TookOrStayed net server_acts (IsStepOfServer is_sealing) ByServer (seen node ports.server supply before) (seen server port later after)
+        → LeadsTo net earlier served
+    server_leads (took busy t) = halts_then net earlier served (then_turn whose.Server busy earlier served stays (server_turned busy t))
+    server_leads (stayed s) =
+        let same : server ≡ nodes.server = s.node ∙ there in (
+          earlier,
+          stays,
+          record {
+            lab = λ j. at minted (record nodes { server = same j }) (s.steps j);
+            sent = λ j. record (sent_by net ports) { server = s.sent j };
+          },
+        )
 
   -- the proxy of this number did
-  module _ (number : ℕ) (placed : Placed Proxy) (there : slice_get nodes.proxies number ≡ Some placed) (proxy : Proxy) where
-    pub proxy_turned : TookTurn IsStepOfProxy (ByProxy number) (seen placed.node before) (seen proxy after)
-        → Turn (whose.Proxy number) (at minted nodes before) (at minted (with_proxy nodes number placed proxy) after)
-    proxy_turned t = record {
-      cause = t.cause;
-      goes = record {
-        taken = Some (record { at = placed.at; noted = by_proxy number t.step.notes; out = t.step.out });
-        nodes = with_proxy nodes number placed proxy;
-        takes = (with_node nodes.proxies number placed proxy, a_node placed t.step proxy there t.makes refl refl, refl);
-        is = ap (λ (steps : List Noted). at minted (with_proxy nodes number placed proxy) steps) t.steps;
-        runs = λ first reached. next_reached (run_of first (at minted nodes before)) (run_of first (at minted (with_proxy nodes number placed proxy) after))
-            (ByTheProxy number t.step.notes t.makes.kind (λ j. record (run_of first (at minted nodes before)) { notes = t.steps j })) reached;
-      };
-    }
+  module _ (number : ℕ) (placed : Placed Proxy) (there : slice_get nodes.proxies number ≡ Some placed) (proxy : Proxy) (was port : PacedPort P) (had : slice_get ports.proxies number ≡ Some was) where
+    abbrev forwarded : LiveLab P
+    forwarded = live_at minted (with_proxy nodes number placed proxy) after (with_proxy_port ports number port) later
 
-    pub proxy_leads : TookTurnOrStayed IsStepOfProxy (ByProxy number) (seen placed.node before) (seen proxy after)
-        → Leads (at minted nodes before) (at minted (with_proxy nodes number placed proxy) after)
-    proxy_leads (inl t) = leads_by _ _ _ (proxy_turned t).goes
-    proxy_leads (inr s) =
-        leads_same _ _ (λ j. at minted (record nodes { proxies = same_place nodes.proxies number placed proxy there s.node j }) (s.steps j))
+    pub proxy_turned : (busy : Bool) → TookTurn net (λ state now. proxy_acts now state) IsStepOfProxy (ByProxy number) busy (seen placed.node was supply before) (seen proxy port later after)
+        → Turn net (whose.Proxy number) busy earlier forwarded
+    proxy_turned busy t =
+        let acts : acts_of nodes (whose.Proxy number) t.took.now ≡ proxy_acts t.took.now placed.node =
+        ap (λ (it : Option (Placed Proxy)). turning.acts_there (λ state now. proxy_acts now state) it t.took.now) there in
+        record {
+          now = t.took.now;
+          draw = t.took.draw;
+          came = t.took.came;
+          gives = t.took.gives;
+          goes = record {
+            taken = Some (record { at = placed.at; noted = by_proxy number t.step.notes; out = t.step.out });
+            nodes = with_proxy nodes number placed proxy;
+            takes = (with_node nodes.proxies number placed proxy, a_node placed t.step proxy there t.took.makes refl refl, refl);
+            is = ap (λ (steps : List Noted). at minted (with_proxy nodes number placed proxy) steps) t.steps;
+            runs = λ first reached. next_reached (run_of first (at minted nodes before)) (run_of first (at minted (with_proxy nodes number placed proxy) after))
+                (ByTheProxy number t.step.notes t.took.makes.kind (λ j. record (run_of first (at minted nodes before)) { notes = t.steps j })) reached;
+          };
+          port = was;
+          there = had;
+          after = port;
+          at_port = subst (λ (due : Bool). TurnsAt net due t.took.now t.took.came t.step.out was port) (sym acts) t.took.turns;
+          ports = refl;
+          is_busy = t.took.is_busy;
+        }
+
+    pub proxy_leads : TookOrStayed net (λ state now. proxy_acts now state) IsStepOfProxy (ByProxy number) (seen placed.node was supply before) (seen proxy port later after)
+        → LeadsTo net earlier forwarded
+    proxy_leads (took busy t) = halts_then net earlier forwarded (then_turn (whose.Proxy number) busy earlier forwarded stays (proxy_turned busy t))
+    proxy_leads (stayed s) =
+        let all = same_of_all (λ (one : PacedPort P). net.sent one.port) ports.proxies number was port had s.sent in (
+          earlier,
+          stays,
+          record {
+            lab = λ j. at minted (record nodes { proxies = same_place nodes.proxies number placed proxy there s.node j }) (s.steps j);
+            sent = λ j. record (sent_by net ports) { proxies = all j };
+          },
+        )
 
   -- the client of this number did something
-  module _ (number : ℕ) (placed : Placed Client) (there : slice_get nodes.clients number ≡ Some placed) (client : Client) where
-    did_task : (task : ClientTask) → DidTask task number (seen placed.node before) (seen client after)
+  module _ (number : ℕ) (placed : Placed Client) (there : slice_get nodes.clients number ≡ Some placed) (client : Client) (was port : PacedPort P) (had : slice_get ports.clients number ≡ Some was) where
+    abbrev asked_of : LiveLab P
+    asked_of = live_at minted (with_client nodes number placed client) after (with_client_port ports number port) later
+
+    abbrev goes_by : (task : ClientTask) (step : Step) → BeginsBy task placed.node step client → after ≡ by_client number false step.notes ∷ before
         → Goes (OfClient number task) (at minted nodes before) (at minted (with_client nodes number placed client) after)
-    did_task task d = record {
-      taken = Some (record { at = placed.at; noted = by_client number false d.step.notes; out = d.step.out });
+    goes_by task step begun e = record {
+      taken = Some (record { at = placed.at; noted = by_client number false step.notes; out = step.out });
       nodes = with_client nodes number placed client;
       takes = (
         with_node nodes.clients number placed client,
-        a_node placed d.step client there d.begins.does
-            (ap (λ (lied : Bool). Some (record { at = placed.at; noted = by_client number lied d.step.notes; out = d.step.out })) (sym d.begins.honest)) refl,
+        a_node placed step client there begun.does
+            (ap (λ (lied : Bool). Some (record { at = placed.at; noted = by_client number lied step.notes; out = step.out })) (sym begun.honest)) refl,
         refl,
       );
-      is = ap (λ (steps : List Noted). at minted (with_client nodes number placed client) steps) d.steps;
+      is = ap (λ (steps : List Noted). at minted (with_client nodes number placed client) steps) e;
       runs = λ first reached. next_reached (run_of first (at minted nodes before)) (run_of first (at minted (with_client nodes number placed client) after))
-          (ByTheClient number false (core placed.node) (core client) d.step.notes (slice_get-map core_of nodes.clients number ∙ ap (option_map core_of) there) d.begins.kind
+          (ByTheClient number false (core placed.node) (core client) step.notes (slice_get-map core_of nodes.clients number ∙ ap (option_map core_of) there) begun.kind
           (λ j. record (run_of first (at minted nodes before)) {
             clients = map-set core_of nodes.clients number (record { at = placed.at; node = client }) j;
-            notes = d.steps j;
+            notes = e j;
           })) reached;
     }
 
-    did_nothing : Stayed (seen placed.node before) (seen client after) → Goes Nothing (at minted nodes before) (at minted (with_client nodes number placed client) after)
-    did_nothing s =
+    abbrev goes_nowhere : client ≡ placed.node → after ≡ before → Goes Nothing (at minted nodes before) (at minted (with_client nodes number placed client) after)
+    goes_nowhere e f =
         let same : at minted (with_client nodes number placed client) after ≡ at minted nodes before =
-        λ j. at minted (record nodes { clients = same_place nodes.clients number placed client there s.node j }) (s.steps j) in
+        λ j. at minted (record nodes { clients = same_place nodes.clients number placed client there e j }) (f j) in
         record {
           taken = None;
           nodes = with_client nodes number placed client;
-          takes = record { taken_is = refl; is = λ j. record nodes { clients = same_place nodes.clients number placed client there s.node j } };
-          is = ap (λ (steps : List Noted). at minted (with_client nodes number placed client) steps) s.steps;
+          takes = record { taken_is = refl; is = λ j. record nodes { clients = same_place nodes.clients number placed client there e j } };
+          is = ap (λ (steps : List Noted). at minted (with_client nodes number placed client) steps) f;
           runs = λ first reached. subst (λ (lab : Lab). IsReached (run_of first lab)) (sym same) reached;
         }
 
-    pub did_goes : (task : Option ClientTask) → Did task number (seen placed.node before) (seen client after)
-        → Goes (deed_of number task) (at minted nodes before) (at minted (with_client nodes number placed client) after)
-    did_goes None d = did_nothing d
-    did_goes (Some task) d = did_task task d
+    pub client_turned : (busy : Bool) → TookTurn net acts_at (IsStepOfClient is_sealing) (ByClient number) busy (seen placed.node was supply before) (seen client port later after)
+        → Turn net (whose.Client number) busy earlier asked_of
+    client_turned busy t =
+        let acts : acts_of nodes (whose.Client number) t.took.now ≡ acts_at placed.node t.took.now =
+        ap (λ (it : Option (Placed Client)). turning.acts_there acts_at it t.took.now) there in
+        let cause = cause_of t.took.now t.took.draw (option_map (named net.sockets) t.took.came) in
+        record {
+          now = t.took.now;
+          draw = t.took.draw;
+          came = t.took.came;
+          gives = t.took.gives;
+          goes = goes_by (Do (Take cause)) t.step (record { does = t.took.makes; honest = refl; kind = t.took.makes.kind }) t.steps;
+          port = was;
+          there = had;
+          after = port;
+          at_port = subst (λ (due : Bool). TurnsAt net due t.took.now t.took.came t.step.out was port) (sym acts) t.took.turns;
+          ports = refl;
+          is_busy = t.took.is_busy;
+        }
 
-    pub client_leads : (task : Option ClientTask) × Did task number (seen placed.node before) (seen client after)
-        → Leads (at minted nodes before) (at minted (with_client nodes number placed client) after)
-    client_leads d = leads_by _ _ _ (did_goes d.0 d.1)
+    unmoved : Stayed net (seen placed.node was supply before) (seen client port later after) → LeadsTo net earlier asked_of
+    unmoved s =
+        let all = same_of_all (λ (one : PacedPort P). net.sent one.port) ports.clients number was port had s.sent in (
+          earlier,
+          stays,
+          record {
+            lab = λ j. at minted (record nodes { clients = same_place nodes.clients number placed client there s.node j }) (s.steps j);
+            sent = λ j. record (sent_by net ports) { clients = all j };
+          },
+        )
 
-    pub client_turned : (cause : Cause) × Did (Some (Do (Take cause))) number (seen placed.node before) (seen client after)
-        → Turn (whose.Client number) (at minted nodes before) (at minted (with_client nodes number placed client) after)
-    client_turned d = record { cause = d.0; goes = did_task (Do (Take d.0)) d.1 }
+    pub client_leads : TookOrStayed net acts_at (IsStepOfClient is_sealing) (ByClient number) (seen placed.node was supply before) (seen client port later after)
+        → LeadsTo net earlier asked_of
+    client_leads (took busy t) = halts_then net earlier asked_of (then_turn (whose.Client number) busy earlier asked_of stays (client_turned busy t))
+    client_leads (stayed s) = unmoved s
 
-    pub client_began : (asked : Line) → (now : Moment) × (draw : Draw) × Did (task_of asked now draw) number (seen placed.node before) (seen client after)
-        → LineBegins asked number (at minted nodes before) (at minted (with_client nodes number placed client) after)
-    client_began asked d = lab.begins d.0 d.1 (did_goes (task_of asked d.0 d.1) d.2)
+    begun_by : (task : Option ClientTask) → Did net task number (seen placed.node was supply before) (seen client port later after)
+        → (goes : Goes (deed_of number task) (at minted nodes before) (at minted (with_client nodes number placed client) after)) × HandsOver net (out_of goes.taken) was port
+    begun_by None d = (
+      goes_nowhere d.node d.steps,
+      record {
+        handed = ap (λ (one : PacedPort P). net.sent one.port) d.port ∙ grown_none (net.sent was.port);
+        received = ap (λ (one : PacedPort P). net.received one.port) d.port;
+        pace = ap (λ (one : PacedPort P). one.pace) d.port;
+      },
+    )
+    begun_by (Some task) d = (goes_by task d.step d.begins d.steps, d.hands)
+
+    pub client_began : (asked : Line) → DidAsked net asked number (seen placed.node was supply before) (seen client port later after) → LineBegins net asked number earlier asked_of
+    client_began asked d =
+        let begun = begun_by (task_of asked d.now d.draw) d.did in
+        begins (record {
+          now = d.now;
+          draw = d.draw;
+          gives = d.gives;
+          goes = begun.0;
+          port = was;
+          there = had;
+          after = port;
+          hands = begun.1;
+          ports = refl;
+        })
+
+    pub began_leads : (asked : Line) → DidOrStayed net asked number (seen placed.node was supply before) (seen client port later after) → LeadsTo net earlier asked_of
+    began_leads asked (did d) = halts_then net earlier asked_of (then_line asked number earlier asked_of stays (client_began asked d))
+    began_leads asked (idle s) = unmoved s
 
 -- ---- a line
 
@@ -293,97 +436,124 @@ stops_then ended clients before after a b c p u = record {
   tells = λ n. appends_as a c (all_told clients p.0 ++ []) _ (append-nil _) (appends_more a b c _ _ p.2 (u.1 n));
 }
 
-pub line_told : (rules : Rules) (asked : Line) (number : ℕ) (old begun new : Lab) (taken : ℕ) (client : List ℕ) (waits : Bool) (a b c d : Option (List ℕ))
-    → LineBegins asked number old begun → Tells rules.clients (learnt old.steps) (learnt begun.steps) a b → WholeTurns begun taken new → taken ≤ rules.turns
-    → (is_waiting new.nodes.clients number ≡ true → taken ≡ rules.turns) → Tells rules.clients (learnt begun.steps) (learnt new.steps) b c
-    → client ≡ name_of_number rules.clients number → waits ≡ is_waiting new.nodes.clients number → Appends c d (lab.open_text client waits)
-    → (text : List ℕ) × TellsLine rules asked number old text new × Appends a d text
-line_told rules asked number old begun new taken client waits a b c d did first took_all most patient then e f opens =
-    let all = tells_more rules.clients _ _ _ a b c first then in (
-      all_told rules.clients all.0 ++ lab.open_text (name_of_number rules.clients number) (is_waiting new.nodes.clients number),
-      record { begun = begun; begins = did; taken = taken; takes = took_all; most = most; patient = patient; more = all.0; learns = all.1; is = refl },
-      appends_more a c d _ _ all.2
-          (appends_as c d (lab.open_text client waits) _ (ap (λ (name : List ℕ). lab.open_text name waits) e ∙ ap (λ (w : Bool). lab.open_text (name_of_number rules.clients number) w) f) opens),
-    )
+module _ {P : Type 0} (net : Network P) where
+  pub line_told : (rules : Rules) (asked : Line) (number : ℕ) (old begun new : LiveLab P) (client : List ℕ) (waits : Bool) (a b c d : Option (List ℕ))
+      → LineBegins net asked number old begun → Tells rules.clients (learnt old.lab.steps) (learnt begun.lab.steps) a b → TakesTurns net number rules.turns begun new
+      → Tells rules.clients (learnt begun.lab.steps) (learnt new.lab.steps) b c
+      → client ≡ name_of_number rules.clients number → waits ≡ is_waiting new.lab.nodes.clients number → Appends c d (telling.open_text client waits)
+      → (text : List ℕ) × TellsLine net rules asked number old text new × Appends a d text
+  line_told rules asked number old begun new client waits a b c d begun_is first taken then e f opens =
+      let all = tells_more rules.clients _ _ _ a b c first then in (
+        all_told rules.clients all.0 ++ telling.open_text (name_of_number rules.clients number) (is_waiting new.lab.nodes.clients number),
+        record { begun = begun; begins = begun_is; takes = taken; more = all.0; learns = all.1; is = refl },
+        appends_more a c d _ _ all.2
+            (appends_as c d (telling.open_text client waits) _
+            (ap (λ (name : List ℕ). telling.open_text name waits) e ∙ ap (λ (w : Bool). telling.open_text (name_of_number rules.clients number) w) f) opens),
+      )
 
--- ---- one after another
+  -- ---- one after another
 
-pub one_more_turn : (who : ℕ → Whose) (first between last : Lab) (n : ℕ) → Turns who first n between → Turn (who n) between last → Turns who first (n + 1) last
-one_more_turn who first between last n so_far turn = subst (λ (k : ℕ). Turns who first k last) (sym (add-one n)) (lab.next_turn n between last so_far turn)
+  pub one_more_turn : (who : ℕ → Whose) (first between last : LiveLab P) (n : ℕ) (some busy all : Bool) → all ≡ some || busy → Turns net who first n some between
+      → Turn net (who n) busy between last → Turns net who first (n + 1) all last
+  one_more_turn who first between last n some busy all e so_far turn =
+      subst (λ (k : ℕ). Turns net who first k all last) (sym (add-one n))
+      (subst (λ (any : Bool). Turns net who first (suc n) any last) (sym e) (next_turn n some busy between last so_far turn))
 
-pub one_more_whole : (first between last : Lab) (n : ℕ) → WholeTurns first n between → WholeTurn between last → WholeTurns first (n + 1) last
-one_more_whole first between last n so_far turn = subst (λ (k : ℕ). WholeTurns first k last) (sym (add-one n)) (lab.next_whole_turn n between last so_far turn)
+  pub one_more_whole : (number : ℕ) (first between last : LiveLab P) (n : ℕ) (busy : Bool) → WholeTurns net number first n between → WholeTurn net busy between last
+      → (busy || is_waiting last.lab.nodes.clients number) ≡ true → WholeTurns net number first (n + 1) last
+  one_more_whole number first between last n busy so_far whole goes_on =
+      subst (λ (k : ℕ). WholeTurns net number first k last) (sym (add-one n)) (next_whole_turn n busy between last so_far whole goes_on)
 
--- one line more
-pub one_more_line : (rules : Rules) (first between last : Lab) (lines : List Line) (i : ℕ) (d next : Line) (a b c : Option (List ℕ))
-    → i < length lines → next ≡ get_or lines i d
-    → (text : List ℕ) × TellsLines rules first (take i lines) text between × Appends a b text
-    → (text : List ℕ) × ComesOf rules next (client_of next) between text last × Appends b c text
-    → (text : List ℕ) × TellsLines rules first (take (i + 1) lines) text last × Appends a c text
-one_more_line rules first between last lines i d next a b c lt e p q =
-    let more = lab.next_line (take i lines) next p.0 q.0 between last p.1 q.1 in
-    let same : take (i + 1) lines ≡ take i lines ++ next ∷ [] = rw (add-one i, take-suc lines i d lt, e) refl in (
-      p.0 ++ q.0,
-      subst (λ (all : List Line). TellsLines rules first all (p.0 ++ q.0) last) (sym same) more,
-      appends_more a b c p.0 q.0 p.2 q.2,
-    )
+  both_false : (a b : Bool) → (a || b) ≡ false → (a ≡ false) × (b ≡ false)
+  both_false true b e = absurd cc
+  both_false false b e = (refl, e)
 
--- all of them
-pub all_lines : (turns : ℕ) (clients : List ClientName) (lines : List Line) (i : ℕ) (first last : Lab) (a b : Option (List ℕ)) → clients ≡ granted lines → length lines ≤ i
-    → (text : List ℕ) × TellsLines (record { clients = clients; turns = turns }) first (take i lines) text last × Appends a b text
-    → (text : List ℕ) × TellsLines (rules_of turns lines) first lines text last × Appends a b text
-all_lines turns clients lines i first last a b e le p = (
-  p.0,
-  subst (λ (names : List ClientName). TellsLines (record { clients = names; turns = turns }) first lines p.0 last) e
-      (subst (λ (all : List Line). TellsLines (record { clients = clients; turns = turns }) first all p.0 last) (take_all i lines le) p.1),
-  p.2,
-)
+  -- a last one, in which no node was busy, and after which the client waits for nothing
+  pub quiet_at_last : (number most : ℕ) (first between last : LiveLab P) (n : ℕ) (busy : Bool) → n < most → WholeTurns net number first n between → WholeTurn net busy between last
+      → (busy || is_waiting last.lab.nodes.clients number) ≡ false → TakesTurns net number most first last
+  quiet_at_last number most first between last n busy lt so_far whole e =
+      let idle = both_false busy (is_waiting last.lab.nodes.clients number) e in
+      turning.rested n between lt so_far (subst (λ (some : Bool). WholeTurn net some between last) idle.0 whole) idle.1
 
--- in these lines it ends early
-pub stops_in : (ended : Ended) (turns : ℕ) (clients : List ClientName) (lines : List Line) (i : ℕ) (first between last : Lab) (a b c : Option (List ℕ))
-    → clients ≡ granted lines → (text : List ℕ) × TellsLines (record { clients = clients; turns = turns }) first (take i lines) text between × Appends a b text
-    → Leads between last → Stops ended clients (learnt between.steps) (learnt last.steps) b c → EndsWith (λ text. BreaksOff turns lines first text last) ended a c
-stops_in ended turns clients lines i first between last a b c e p leads q = (
-  q.fault,
-  p.0 ++ all_told (granted lines) q.more,
-  record {
-    before = take i lines;
-    after = drop i lines;
-    whole = sym (take-append-drop i lines);
-    told = p.0;
-    between = between;
-    tells = subst (λ (names : List ClientName). TellsLines (record { clients = names; turns = turns }) first (take i lines) p.0 between) e p.1;
-    leads = leads;
-    more = q.more;
-    untold = q.untold;
-    learns = q.learns;
-    is = refl;
-  },
-  λ n. subst (λ (names : List ClientName). Appends a c (p.0 ++ all_told names q.more)) e (appends_more a b c _ _ p.2 (q.tells n)),
-)
+  pub all_turns_taken : (number most n : ℕ) (first last : LiveLab P) → n ≤ most → most ≤ n → WholeTurns net number first n last → TakesTurns net number most first last
+  all_turns_taken number most n first last le ge all =
+      let same : n ≡ most = omega (arith, le, ge) in
+      turning.all_taken (subst (λ (k : ℕ). WholeTurns net number first k last) same all)
 
--- the last lines can't be told
-pub stops_at_end : (ended : Ended) (turns : ℕ) (lines : List Line) (first last : Lab) (a b c : Option (List ℕ))
-    → (text : List ℕ) × TellsLines (rules_of turns lines) first lines text last × Appends a b text → IsUntold ended b c
-    → EndsWith (λ text. BreaksOff turns lines first text last) ended a c
-stops_at_end ended turns lines first last a b c p u = (
-  u.0,
-  p.0 ++ [],
-  record {
-    before = lines;
-    after = [];
-    whole = sym (append-nil lines);
-    told = p.0;
-    between = last;
-    tells = p.1;
-    leads = stays;
-    more = [];
-    untold = None;
-    learns = sym (append-nil (learnt last.steps));
-    is = refl;
-  },
-  λ n. appends_more a b c p.0 [] p.2 (u.1 n),
-)
+  -- one line more
+  pub one_more_line : (rules : Rules) (first between last : LiveLab P) (lines : List Line) (i : ℕ) (d next : Line) (a b c : Option (List ℕ))
+      → i < length lines → next ≡ get_or lines i d
+      → (text : List ℕ) × TellsLines net rules first (take i lines) text between × Appends a b text
+      → (text : List ℕ) × ComesOf net rules next (client_of next) between text last × Appends b c text
+      → (text : List ℕ) × TellsLines net rules first (take (i + 1) lines) text last × Appends a c text
+  one_more_line rules first between last lines i d next a b c lt e p q =
+      let more = telling.next_line (take i lines) next p.0 q.0 between last p.1 q.1 in
+      let same : take (i + 1) lines ≡ take i lines ++ next ∷ [] = rw (add-one i, take-suc lines i d lt, e) refl in (
+        p.0 ++ q.0,
+        subst (λ (all : List Line). TellsLines net rules first all (p.0 ++ q.0) last) (sym same) more,
+        appends_more a b c p.0 q.0 p.2 q.2,
+      )
+
+  -- all of them
+  pub all_lines : (turns : ℕ) (clients : List ClientName) (lines : List Line) (i : ℕ) (first last : LiveLab P) (a b : Option (List ℕ)) → clients ≡ granted lines → length lines ≤ i
+      → (text : List ℕ) × TellsLines net (record { clients = clients; turns = turns }) first (take i lines) text last × Appends a b text
+      → (text : List ℕ) × TellsLines net (rules_of turns lines) first lines text last × Appends a b text
+  all_lines turns clients lines i first last a b e le p = (
+    p.0,
+    subst (λ (names : List ClientName). TellsLines net (record { clients = names; turns = turns }) first lines p.0 last) e
+        (subst (λ (all : List Line). TellsLines net (record { clients = clients; turns = turns }) first all p.0 last) (take_all i lines le) p.1),
+    p.2,
+  )
+
+  -- in these lines it ends early
+  pub stops_in : (ended : Ended) (turns : ℕ) (clients : List ClientName) (lines : List Line) (i : ℕ) (first between last : LiveLab P) (a b c : Option (List ℕ))
+      → clients ≡ granted lines → (text : List ℕ) × TellsLines net (record { clients = clients; turns = turns }) first (take i lines) text between × Appends a b text
+      → LeadsTo net between last → Stops ended clients (learnt between.lab.steps) (learnt last.lab.steps) b c → EndsWith (λ text. BreaksOff net turns lines first text last) ended a c
+  stops_in ended turns clients lines i first between last a b c e p leads q = (
+    q.fault,
+    p.0 ++ all_told (granted lines) q.more,
+    record {
+      before = take i lines;
+      after = drop i lines;
+      whole = sym (take-append-drop i lines);
+      told = p.0;
+      between = between;
+      tells = subst (λ (names : List ClientName). TellsLines net (record { clients = names; turns = turns }) first (take i lines) p.0 between) e p.1;
+      reached = leads.0;
+      leads = leads.1;
+      halts = leads.2;
+      more = q.more;
+      untold = q.untold;
+      learns = q.learns;
+      is = refl;
+    },
+    λ n. subst (λ (names : List ClientName). Appends a c (p.0 ++ all_told names q.more)) e (appends_more a b c _ _ p.2 (q.tells n)),
+  )
+
+  -- the last lines can't be told
+  pub stops_at_end : (ended : Ended) (turns : ℕ) (lines : List Line) (first last : LiveLab P) (a b c : Option (List ℕ))
+      → (text : List ℕ) × TellsLines net (rules_of turns lines) first lines text last × Appends a b text → IsUntold ended b c
+      → EndsWith (λ text. BreaksOff net turns lines first text last) ended a c
+  stops_at_end ended turns lines first last a b c p u = (
+    u.0,
+    p.0 ++ [],
+    record {
+      before = lines;
+      after = [];
+      whole = sym (append-nil lines);
+      told = p.0;
+      between = last;
+      tells = p.1;
+      reached = last;
+      leads = stays;
+      halts = record { lab = refl; sent = refl };
+      more = [];
+      untold = None;
+      learns = sym (append-nil (learnt last.lab.steps));
+      is = refl;
+    },
+    λ n. appends_more a b c p.0 [] p.2 (u.1 n),
+  )
 
 -- ---- exits
 
@@ -395,11 +565,9 @@ pub always_ok : {T E : Type 0} (r : Result T E) (P : Type 0) → P → OnOk r P
 always_ok (Ok x) P p = p
 always_ok (Err e) P p = tt
 
--- what isn't there is past the end
-pub no_item : {T : Type 0} (item : Option T) (i n : ℕ) → IsSome item ↔ (i < n) → item ≡ None → n ≤ i
-no_item None i n within none =
-    let within_end : n < i + 1 = lt_of_not-le (λ (le : i + 1 ≤ n). let lt : i < n = omega arith in let e : false ≡ true = within.1 lt in cc) in omega arith
-no_item (Some x) i n within none = absurd cc
+pub always_err : {T E : Type 0} (r : Result T E) (P : Type 0) → P → OnErr r P
+always_err (Ok x) P p = tt
+always_err (Err e) P p = p
 
 -- ---- what is noted
 
@@ -408,8 +576,8 @@ pub noted_steps : (kept : Kept) (one is : Noted) (between before : List Noted) (
 noted_steps kept one is between before room e f h =
     ap (λ (k : Kept). k.steps) e ∙ ap (λ (n : Noted). n ∷ between) f ∙ ap (λ (all : List Noted). is ∷ all) h
 
-pub behind : (after between before : List Noted) (one : Noted) → after ≡ one ∷ between → between ≡ before → after ≡ one ∷ before
-behind after between before one e f = e ∙ ap (λ (all : List Noted). one ∷ all) f
+pub noted_later : (after between before : List Noted) (one : Noted) → after ≡ one ∷ between → between ≡ before → after ≡ one ∷ before
+noted_later after between before one e f = e ∙ ap (λ (all : List Noted). one ∷ all) f
 
 pub nothing_learnt : (after before : List Noted) → after ≡ before → learnt after ≡ learnt before
 nothing_learnt after before e = ap (λ (all : List Noted). learnt all) e
@@ -425,52 +593,51 @@ taught_nothing actor notes between before after nothing e f =
 
 -- by a line that has it exchange
 pub does_exchange : (asked : Line) (name : ClientName) (old new : Client) (now : Moment) (draw : Draw) (step : Step) → asked ≡ Exchange name
-    → hearing.Begins old now draw step new → ClientStep false (core old) step.notes (core new)
-    → (now : Moment) × (draw : Draw) × Begins (task_of asked now draw) old (Some step) new
+    → hearing.Begins old now draw step new → ClientStep false (core old) step.notes (core new) → Began (task_of asked now draw) old (Some step) new
 does_exchange asked name old new now draw step is does kind =
-    subst (λ (line : Line). (now : Moment) × (draw : Draw) × Begins (task_of line now draw) old (Some step) new) (sym is)
-    (now, draw, (step, refl, record { does = does; honest = refl; kind = kind }))
+    subst (λ (line : Line). Began (task_of line now draw) old (Some step) new) (sym is) (step, refl, record { does = does; honest = refl; kind = kind })
 
 -- by one that has it ask
 pub does_ask : (asked : Line) (name : ClientName) (request : Request) (old new : Client) (now : Moment) (draw : Draw) (step : Step) → asked ≡ Ask name request
     → 0 < request.code.0
     → hearing.Requests is_sealing tag_of old (record { at = now; draw = draw; request = request }) step new → ClientStep false (core old) step.notes (core new)
-    → (now : Moment) × (draw : Draw) × Begins (task_of asked now draw) old (Some step) new
+    → Began (task_of asked now draw) old (Some step) new
 does_ask asked name request old new now draw step is code does kind =
     let some : (request.code.0 == 0) ≡ false = ne_eqb request.code.0 0 (λ none. omega (arith, none, code)) in
     let task : task_of (Ask name request) now draw ≡ Some (Asks (record { at = now; draw = draw; request = request })) = rw some refl in
-    subst (λ (line : Line). (now : Moment) × (draw : Draw) × Begins (task_of line now draw) old (Some step) new) (sym is)
-    (now, draw, subst (λ (t : Option ClientTask). Begins t old (Some step) new) (sym task) (step, refl, record { does = does; honest = refl; kind = kind }))
+    subst (λ (line : Line). Began (task_of line now draw) old (Some step) new) (sym is)
+    (subst (λ (t : Option ClientTask). Began t old (Some step) new) (sym task) (step, refl, record { does = does; honest = refl; kind = kind }))
 
-pub began : (task : Option ClientTask) (number : ℕ) (made : Option Step) (step : Step) (old new : Client) (before between after : List Noted) → made ≡ Some step
-    → Begins task old made new → after ≡ by_client number false step.notes ∷ between → between ≡ before → Did task number (seen old before) (seen new after)
-began None number made step old new before between after is begins e f = let bad : None ≡ Some step = sym begins.0 ∙ is in absurd (cc)
-began (Some task) number made step old new before between after is begins e f =
-    let same : begins.0 ≡ step = same_Some begins.0 step (sym begins.1 ∙ is) in
-    record { step = step; begins = subst (λ (s : Step). BeginsBy task old s new) same begins.2; steps = behind after between before _ e f }
+module _ {P : Type 0} (net : Network P) (number : ℕ) (old new : Client) (supply later : ClockAndRandomState) (before after : List Noted) where
+  pub began : (between : List Noted) (task : Option ClientTask) (made : Option Step) (step : Step) (was port : PacedPort P) → made ≡ Some step → Began task old made new → HandsOver net step.out was port
+      → after ≡ by_client number false step.notes ∷ between → between ≡ before → Did net task number (seen old was supply before) (seen new port later after)
+  began between None made step was port is begun hands e f = let bad : None ≡ Some step = sym begun.0 ∙ is in absurd (cc)
+  began between (Some task) made step was port is begun hands e f =
+      let same : begun.0 ≡ step = same_Some begun.0 step (sym begun.1 ∙ is) in
+      record { step = step; begins = subst (λ (s : Step). BeginsBy task old s new) same begun.2; hands = hands; steps = noted_later after between before _ e f }
 
-pub not_begun : (task : Option ClientTask) (number : ℕ) (made : Option Step) (old new : Client) (before after : List Noted) → made ≡ None
-    → Begins task old made new → after ≡ before → Did task number (seen old before) (seen new after)
-not_begun None number made old new before after is begins e = record { node = begins.1; steps = e }
-not_begun (Some task) number made old new before after is begins e = let bad : None ≡ Some begins.0 = sym is ∙ begins.1 in absurd (cc)
+  pub not_begun : (task : Option ClientTask) (made : Option Step) (was : PacedPort P) → made ≡ None → Began task old made new → after ≡ before
+      → Did net task number (seen old was supply before) (seen new was later after)
+  not_begun None made was is begun e = record { node = begun.1; port = refl; steps = e }
+  not_begun (Some task) made was is begun e = let bad : None ≡ Some begun.0 = sym is ∙ begun.1 in absurd (cc)
 
--- in a turn it took a step
-pub turned : (number : ℕ) (old : Running Client) (step : Step) (new : Running Client) (before after : List Noted) → TakesTurn acts_at (IsStepOfClient is_sealing) old step new
-    → after ≡ by_client number false step.notes ∷ before
-    → (cause : Cause) × Did (Some (Do (Take cause))) number (seen old.node before) (seen new.node after)
-turned number old step new before after turn e = (
-  cause_of turn.now turn.draw turn.came,
-  record { step = step; begins = record { does = turn.steps; honest = refl; kind = turn.steps.kind }; steps = e },
-)
+-- what was sent beside a turn
+pub hands_over : {P : Type 0} (net : Network P) (was : PacedPort P) (port : P) (out shown : List Datagram) → net.sent port ≡ grown (net.sent was.port) (map (posted net.sockets) shown)
+    → shown ≡ out → net.received port ≡ net.received was.port → HandsOver net out was (record was { port = port })
+hands_over net was port out shown e is f = record {
+  handed = e ∙ ap (λ (all : List Datagram). grown (net.sent was.port) (map (posted net.sockets) all)) is;
+  received = f;
+  pace = refl;
+}
 
 -- ---- the script
 
-pub printed_by : (script : Option (List ℕ)) (turns : ℕ) (lines lines-are : List Line) (text : List ℕ) → lines ≡ lines-are → IfSome script (λ bytes. IsScript bytes lines-are)
-    → lab.LinesPrint turns lines text → IfSome script (λ bytes. lab.Labs turns bytes text)
-printed_by None turns lines lines-are text e says prints = tt
-printed_by (Some bytes) turns lines lines-are text e says prints = (lines, subst (λ (all : List Line). IsScript bytes all) (sym e) says, prints)
+pub printed_by : (Printed : List Line → Type 0) (script : Option (List ℕ)) (lines : List Line) → IfSome script (λ bytes. IsScript bytes lines) → list_all is_heeded lines ≡ true
+    → Printed lines → IfSome script (λ bytes. (all : List Line) × IsScript bytes all × (list_all is_heeded all ≡ true) × Printed all)
+printed_by Printed None lines says heeded prints = tt
+printed_by Printed (Some bytes) lines says heeded prints = (lines, says, heeded, prints)
 
-pub stopped_by : (ended : Ended) (script : Option (List ℕ)) (turns : ℕ) (lines lines-are : List Line) (a b : Option (List ℕ)) → lines ≡ lines-are
-    → IfSome script (λ bytes. IsScript bytes lines-are) → lab.LinesStop ended turns lines a b → lab.EndsEarly ended turns script a b
-stopped_by ended script turns lines lines-are a b e says stops =
-    lab.in_script lines (subst (λ (all : List Line). IfSome script (λ bytes. IsScript bytes all)) (sym e) says) stops
+pub heeds : (script : Option (List ℕ)) (lines : List Line) → IfSome script (λ bytes. IsScript bytes lines) → list_all is_heeded lines ≡ true
+    → IfSome script (λ bytes. IsScript bytes lines × (list_all is_heeded lines ≡ true))
+heeds None lines says heeded = tt
+heeds (Some bytes) lines says heeded = (says, heeded)

@@ -1,5 +1,8 @@
 pub mod Appended
-pub mod Printing
+pub mod Bound
 pub mod Endings
+pub mod Heeded
+pub mod LabRuns
 pub mod Labs
-mod LabRuns
+pub mod Printing
+pub mod Taken

@@ -1,26 +1,32 @@
 //! The nodes of a lab, which take their turns one after another.
-ghost use Rattle.std.specs.Prelude.{◌≡◌, ◌<◌, ◌∷◌, ◌↔◌, Option, Some, false, length, IfErr, IfOk, IsTrue, OnErr, OnOk};
+ghost use Rattle.std.specs.Prelude.{◌≡◌, ◌<◌, ◌∷◌, ◌↔◌, false, length, IfErr, IfOk, IsTrue, OnErr, OnOk};
+ghost use Rattle.osc_client.specs.{acts_at, IsStep};
+ghost use Rattle.osc_run.specs.{history, by_client};
+ghost use Rattle.osc_run.specs.Premise.{Premise};
+ghost use Rattle.osc_run.specs.declared.noted.Actor.TheVariants as actor;
 ghost use Rattle.osc_model.specs.declared.node.Draw.{Draw as AnyDraw};
 ghost use Rattle.osc_model.specs.declared.node.Moment.{Moment as AnyMoment};
-ghost use Rattle.osc_run.specs.{history, Cause, by_client};
-ghost use Rattle.osc_run.specs.Premise.{Premise};
-ghost use Rattle.osc_world.specs.{ClientTask, Do, Take};
+ghost use Rattle.osc_simulation.specs.{is_sealing};
+ghost use Rattle.osc_turn.specs.{Gives};
 ghost use Rattle.osc_world.specs.declared.nodes.Whose.TheVariants as whose;
 ghost use Rattle.osc_programs.specs.Ended as ends;
 ghost use Rattle.osc_lab.specs.Inner.Telling as inner;
 ghost use Rattle.osc_lab.specs.Lab as spec;
-ghost use Rattle.osc_programs.specs.Turning as turning;
+ghost use Rattle.osc_lab.specs.Telling as telling;
+ghost use Rattle.osc_lab.specs.Turning as turning;
 
+use crate::cast::{Cast, Who};
 use crate::ports::{Means, PacedPort};
-use crate::telling::{Who, tell_result};
+use crate::telling::tell_result;
+use crate::turning::{Turned, either, send_out, turn_of};
 use osc_ccm::Suite;
 use osc_client::Client;
-use osc_model::{Datagrams, Step, StepNotes};
-use osc_programs::{Ended, moment_and_draw, send, take_turn};
+use osc_model::{Step, StepNotes};
+use osc_programs::{Ended, moment_and_draw};
 use osc_run::{Actor, Minted, Node, Noted, Notes};
-use osc_script::{ClientName, Line};
+use osc_script::Line;
 use osc_tree::Tree;
-use osc_turn::{ClockAndRandom, Port, PortFault, Turned, Watch};
+use osc_turn::{ClockAndRandom, Port, PortFault, Watch};
 use osc_world::{Nodes, Parts};
 use std::alloc::{AllocError, Global};
 use std::io::Write;
@@ -85,49 +91,63 @@ impl LabNodes {
         asked: &Line,
         writer: &mut O,
     ) -> Result<(), Ended>
-        ensures begins { OnOk result (spec.LineBegins asked.now who.entry.number (inner.lab_of self.old) (inner.lab_of self.new)) }
-        ensures leads { spec.Leads (inner.lab_of self.old) (inner.lab_of self.new) }
-        ensures told { OnOk result (inner.Tells who.entry.clients.now (spec.learnt self.old.notes.steps) (spec.learnt self.new.notes.steps) (O.contents writer.old) (O.contents writer.new)) }
-        ensures stopped { IfErr result (λ ended. inner.Stops ended who.entry.clients.now (spec.learnt self.old.notes.steps) (spec.learnt self.new.notes.steps) (O.contents writer.old) (O.contents writer.new)) }
+        ensures begins { OnOk result (turning.LineBegins (inner.network P.received P.sent who.entry.cast.addresses.now) asked.now who.entry.number (inner.live self.old means.old) (inner.live self.new means.new)) }
+        ensures leads { OnErr result (inner.LeadsTo (inner.network P.received P.sent who.entry.cast.addresses.now) (inner.live self.old means.old) (inner.live self.new means.new)) }
+        ensures told { OnOk result (inner.Tells who.entry.cast.clients.now (telling.learnt self.old.notes.steps) (telling.learnt self.new.notes.steps) (O.contents writer.old) (O.contents writer.new)) }
+        ensures stopped { IfErr result (λ ended. inner.Stops ended who.entry.cast.clients.now (telling.learnt self.old.notes.steps) (telling.learnt self.new.notes.steps) (O.contents writer.old) (O.contents writer.new)) }
     {
         let Some(placed) = self.nodes.client_mut(who.number) else {
             return Ok(());
         };
-        client_begins(means, &mut placed.node, who, asked, &mut self.notes, writer)
+        let Some(port) = means.ports.clients.get_mut(who.number) else {
+            return Err(Ended::PortFailed);
+        };
+        let asked = Asked { who, line: asked };
+        let notes = &mut self.notes;
+        client_begins(
+            &mut means.supply,
+            port,
+            &mut placed.node,
+            asked,
+            notes,
+            writer,
+        )
     }
 
     /// Each node takes one turn: whether one of them was busy. What clients learn is told, in order.
     pub fn round<W: Watch + Drop, P: Port + Drop, O: Write>(
         &mut self,
         means: &mut Means<W, P>,
-        names: &[ClientName],
+        cast: Cast<'_>,
         writer: &mut O,
     ) -> Result<bool, Ended>
-        ensures takes { OnOk result (spec.WholeTurn (inner.lab_of self.old) (inner.lab_of self.new)) }
-        ensures leads { spec.Leads (inner.lab_of self.old) (inner.lab_of self.new) }
-        ensures told { OnOk result (inner.Tells names.now (spec.learnt self.old.notes.steps) (spec.learnt self.new.notes.steps) (O.contents writer.old) (O.contents writer.new)) }
-        ensures stopped { IfErr result (λ ended. inner.Stops ended names.now (spec.learnt self.old.notes.steps) (spec.learnt self.new.notes.steps) (O.contents writer.old) (O.contents writer.new)) }
+        ensures takes { IfOk result (λ busy. turning.WholeTurn (inner.network P.received P.sent cast.entry.addresses.now) busy (inner.live self.old means.old) (inner.live self.new means.new)) }
+        ensures leads { OnErr result (inner.LeadsTo (inner.network P.received P.sent cast.entry.addresses.now) (inner.live self.old means.old) (inner.live self.new means.new)) }
+        ensures told { OnOk result (inner.Tells cast.entry.clients.now (telling.learnt self.old.notes.steps) (telling.learnt self.new.notes.steps) (O.contents writer.old) (O.contents writer.new)) }
+        ensures stopped { IfErr result (λ ended. inner.Stops ended cast.entry.clients.now (telling.learnt self.old.notes.steps) (telling.learnt self.new.notes.steps) (O.contents writer.old) (O.contents writer.new)) }
     {
-        let server = self.server_turn(means)?;
-        let proxies = self.proxy_turns(means)?;
-        let clients = self.client_turns(means, names, writer)?;
-        Ok(server || proxies || clients)
+        let server = self.server_turn(means, cast)?;
+        let proxies = self.proxy_turns(means, cast)?;
+        let clients = self.client_turns(means, cast, writer)?;
+        let others = either(proxies, clients);
+        Ok(either(server, others))
     }
 
     // The server's turn, which is noted: whether it was busy.
     fn server_turn<W: Watch + Drop, P: Port + Drop>(
         &mut self,
         means: &mut Means<W, P>,
+        cast: Cast<'_>,
     ) -> Result<bool, Ended>
-        ensures takes { OnOk result (spec.Turn whose.Server (inner.lab_of self.old) (inner.lab_of self.new)) }
-        ensures leads { spec.Leads (inner.lab_of self.old) (inner.lab_of self.new) }
-        ensures learns { spec.learnt self.new.notes.steps ≡ spec.learnt self.old.notes.steps }
+        ensures takes { IfOk result (λ busy. turning.Turn (inner.network P.received P.sent cast.entry.addresses.now) whose.Server busy (inner.live self.old means.old) (inner.live self.new means.new)) }
+        ensures leads { OnErr result (inner.LeadsTo (inner.network P.received P.sent cast.entry.addresses.now) (inner.live self.old means.old) (inner.live self.new means.new)) }
+        ensures learns { telling.learnt self.new.notes.steps ≡ telling.learnt self.old.notes.steps }
         ensures fault { IfErr result ends.IsFault }
     {
         let port = &mut means.ports.server;
         let node = self.nodes.server_mut();
         noted_turn(
-            means.alloc,
+            cast,
             &mut means.supply,
             port,
             node,
@@ -140,16 +160,17 @@ impl LabNodes {
     fn proxy_turns<W: Watch + Drop, P: Port + Drop>(
         &mut self,
         means: &mut Means<W, P>,
+        cast: Cast<'_>,
     ) -> Result<bool, Ended>
-        ensures take { OnOk result (spec.Turns whose.Proxy (inner.lab_of self.old) (length self.old.nodes.proxies) (inner.lab_of self.new)) }
-        ensures leads { spec.Leads (inner.lab_of self.old) (inner.lab_of self.new) }
-        ensures learns { spec.learnt self.new.notes.steps ≡ spec.learnt self.old.notes.steps }
+        ensures take { IfOk result (λ busy. turning.Turns (inner.network P.received P.sent cast.entry.addresses.now) whose.Proxy (inner.live self.old means.old) (length self.old.nodes.proxies) busy (inner.live self.new means.new)) }
+        ensures leads { OnErr result (inner.LeadsTo (inner.network P.received P.sent cast.entry.addresses.now) (inner.live self.old means.old) (inner.live self.new means.new)) }
+        ensures learns { telling.learnt self.new.notes.steps ≡ telling.learnt self.old.notes.steps }
         ensures fault { IfErr result ends.IsFault }
     {
         let mut busy = false;
         for number in 0..self.nodes.proxies().len() {
-            let one = self.proxy_turn(means, number)?;
-            busy = busy || one;
+            let one = self.proxy_turn(means, cast, number)?;
+            busy = either(busy, one);
         }
         Ok(busy)
     }
@@ -158,11 +179,12 @@ impl LabNodes {
     fn proxy_turn<W: Watch + Drop, P: Port + Drop>(
         &mut self,
         means: &mut Means<W, P>,
+        cast: Cast<'_>,
         number: usize,
     ) -> Result<bool, Ended>
-        ensures takes { OnOk result (spec.Turn (whose.Proxy number) (inner.lab_of self.old) (inner.lab_of self.new)) }
-        ensures leads { spec.Leads (inner.lab_of self.old) (inner.lab_of self.new) }
-        ensures learns { spec.learnt self.new.notes.steps ≡ spec.learnt self.old.notes.steps }
+        ensures takes { IfOk result (λ busy. turning.Turn (inner.network P.received P.sent cast.entry.addresses.now) (whose.Proxy number) busy (inner.live self.old means.old) (inner.live self.new means.new)) }
+        ensures leads { OnErr result (inner.LeadsTo (inner.network P.received P.sent cast.entry.addresses.now) (inner.live self.old means.old) (inner.live self.new means.new)) }
+        ensures learns { telling.learnt self.new.notes.steps ≡ telling.learnt self.old.notes.steps }
         ensures fault { IfErr result ends.IsFault }
     {
         let Some(port) = means.ports.proxies.get_mut(number) else {
@@ -172,7 +194,7 @@ impl LabNodes {
             return Err(Ended::PortFailed);
         };
         noted_turn(
-            means.alloc,
+            cast,
             &mut means.supply,
             port,
             &mut placed.node,
@@ -185,22 +207,19 @@ impl LabNodes {
     fn client_turns<W: Watch + Drop, P: Port + Drop, O: Write>(
         &mut self,
         means: &mut Means<W, P>,
-        names: &[ClientName],
+        cast: Cast<'_>,
         writer: &mut O,
     ) -> Result<bool, Ended>
-        ensures take { OnOk result (spec.Turns whose.Client (inner.lab_of self.old) (length self.old.nodes.clients) (inner.lab_of self.new)) }
-        ensures leads { spec.Leads (inner.lab_of self.old) (inner.lab_of self.new) }
-        ensures told { OnOk result (inner.Tells names.now (spec.learnt self.old.notes.steps) (spec.learnt self.new.notes.steps) (O.contents writer.old) (O.contents writer.new)) }
-        ensures stopped { IfErr result (λ ended. inner.Stops ended names.now (spec.learnt self.old.notes.steps) (spec.learnt self.new.notes.steps) (O.contents writer.old) (O.contents writer.new)) }
+        ensures take { IfOk result (λ busy. turning.Turns (inner.network P.received P.sent cast.entry.addresses.now) whose.Client (inner.live self.old means.old) (length self.old.nodes.clients) busy (inner.live self.new means.new)) }
+        ensures leads { OnErr result (inner.LeadsTo (inner.network P.received P.sent cast.entry.addresses.now) (inner.live self.old means.old) (inner.live self.new means.new)) }
+        ensures told { OnOk result (inner.Tells cast.entry.clients.now (telling.learnt self.old.notes.steps) (telling.learnt self.new.notes.steps) (O.contents writer.old) (O.contents writer.new)) }
+        ensures stopped { IfErr result (λ ended. inner.Stops ended cast.entry.clients.now (telling.learnt self.old.notes.steps) (telling.learnt self.new.notes.steps) (O.contents writer.old) (O.contents writer.new)) }
     {
         let mut busy = false;
         for number in 0..self.nodes.clients().len() {
-            let who = Who {
-                clients: names,
-                number,
-            };
+            let who = Who { cast, number };
             let one = self.client_turn(means, who, writer)?;
-            busy = busy || one;
+            busy = either(busy, one);
         }
         Ok(busy)
     }
@@ -212,80 +231,95 @@ impl LabNodes {
         who: Who<'_>,
         writer: &mut O,
     ) -> Result<bool, Ended>
-        ensures takes { OnOk result (spec.Turn (whose.Client who.entry.number) (inner.lab_of self.old) (inner.lab_of self.new)) }
-        ensures leads { spec.Leads (inner.lab_of self.old) (inner.lab_of self.new) }
-        ensures told { OnOk result (inner.Tells who.entry.clients.now (spec.learnt self.old.notes.steps) (spec.learnt self.new.notes.steps) (O.contents writer.old) (O.contents writer.new)) }
-        ensures stopped { IfErr result (λ ended. inner.Stops ended who.entry.clients.now (spec.learnt self.old.notes.steps) (spec.learnt self.new.notes.steps) (O.contents writer.old) (O.contents writer.new)) }
+        ensures takes { IfOk result (λ busy. turning.Turn (inner.network P.received P.sent who.entry.cast.addresses.now) (whose.Client who.entry.number) busy (inner.live self.old means.old) (inner.live self.new means.new)) }
+        ensures leads { OnErr result (inner.LeadsTo (inner.network P.received P.sent who.entry.cast.addresses.now) (inner.live self.old means.old) (inner.live self.new means.new)) }
+        ensures told { OnOk result (inner.Tells who.entry.cast.clients.now (telling.learnt self.old.notes.steps) (telling.learnt self.new.notes.steps) (O.contents writer.old) (O.contents writer.new)) }
+        ensures stopped { IfErr result (λ ended. inner.Stops ended who.entry.cast.clients.now (telling.learnt self.old.notes.steps) (telling.learnt self.new.notes.steps) (O.contents writer.old) (O.contents writer.new)) }
     {
+        let Some(port) = means.ports.clients.get_mut(who.number) else {
+            return Err(Ended::PortFailed);
+        };
         let Some(placed) = self.nodes.client_mut(who.number) else {
             return Err(Ended::PortFailed);
         };
-        client_turns_at(means, &mut placed.node, who, &mut self.notes, writer)
+        let notes = &mut self.notes;
+        client_turns_at(
+            &mut means.supply,
+            port,
+            &mut placed.node,
+            who,
+            notes,
+            writer,
+        )
     }
 }
 
 // ---- a client
 
+// A client, and the line that has it do something.
+#[derive(Clone, Copy)]
+struct Asked<'a> {
+    who: Who<'a>,
+    line: &'a Line,
+}
+
 // The client does what the line says.
 fn client_begins<W: Watch + Drop, P: Port + Drop, O: Write>(
-    means: &mut Means<W, P>,
+    supply: &mut ClockAndRandom<W>,
+    port: &mut PacedPort<P>,
     client: &mut Client,
-    who: Who<'_>,
-    asked: &Line,
+    asked: Asked<'_>,
     notes: &mut Notes,
     writer: &mut O,
 ) -> Result<(), Ended>
-    ensures begins { OnOk result ((now : AnyMoment) × (draw : AnyDraw) × inner.Did (spec.task_of asked.now now draw) who.entry.number
-        (record { node = client.old; steps = notes.old.steps }) (record { node = client.new; steps = notes.new.steps })) }
-    ensures does { (task : Option ClientTask) × inner.Did task who.entry.number
-        (record { node = client.old; steps = notes.old.steps }) (record { node = client.new; steps = notes.new.steps }) }
-    ensures told { OnOk result (inner.Tells who.entry.clients.now (spec.learnt notes.old.steps) (spec.learnt notes.new.steps) (O.contents writer.old) (O.contents writer.new)) }
-    ensures stopped { IfErr result (λ ended. inner.Stops ended who.entry.clients.now (spec.learnt notes.old.steps) (spec.learnt notes.new.steps) (O.contents writer.old) (O.contents writer.new)) }
+    ensures begins { OnOk result (inner.DidAsked (inner.network P.received P.sent asked.entry.who.cast.addresses.now) asked.entry.line.now asked.entry.who.number
+        (inner.seen client.old port.old supply.old notes.old.steps) (inner.seen client.new port.new supply.new notes.new.steps)) }
+    ensures halts { OnErr result (inner.DidOrStayed (inner.network P.received P.sent asked.entry.who.cast.addresses.now) asked.entry.line.now asked.entry.who.number
+        (inner.seen client.old port.old supply.old notes.old.steps) (inner.seen client.new port.new supply.new notes.new.steps)) }
+    ensures told { OnOk result (inner.Tells asked.entry.who.cast.clients.now (telling.learnt notes.old.steps) (telling.learnt notes.new.steps) (O.contents writer.old) (O.contents writer.new)) }
+    ensures stopped { IfErr result (λ ended. inner.Stops ended asked.entry.who.cast.clients.now (telling.learnt notes.old.steps) (telling.learnt notes.new.steps) (O.contents writer.old) (O.contents writer.new)) }
 {
     reserve(notes)?;
-    let Some(step) = begun(means.alloc, &mut means.supply, client, asked)? else {
+    let Some(step) = begun(asked, supply, client)? else {
         return Ok(());
     };
-    let sent = send_from(&mut means.ports.clients, who.number, &step.out);
+    let fault = send_out(
+        &mut port.port,
+        asked.who.cast.addresses,
+        step.out.as_slice(),
+    );
     let Step { notes: done, .. } = step;
-    note(means.alloc, who, done, notes, writer)?;
-    sent
+    note(asked.who, done, notes, writer)?;
+    unless_lost(fault)
 }
 
 // The client takes a turn: whether it was busy.
 fn client_turns_at<W: Watch + Drop, P: Port + Drop, O: Write>(
-    means: &mut Means<W, P>,
+    supply: &mut ClockAndRandom<W>,
+    port: &mut PacedPort<P>,
     client: &mut Client,
     who: Who<'_>,
     notes: &mut Notes,
     writer: &mut O,
 ) -> Result<bool, Ended>
-    ensures takes { OnOk result ((cause : Cause) × inner.Did (Some (Do (Take cause))) who.entry.number
-        (record { node = client.old; steps = notes.old.steps }) (record { node = client.new; steps = notes.new.steps })) }
-    ensures does { (task : Option ClientTask) × inner.Did task who.entry.number
-        (record { node = client.old; steps = notes.old.steps }) (record { node = client.new; steps = notes.new.steps }) }
-    ensures told { OnOk result (inner.Tells who.entry.clients.now (spec.learnt notes.old.steps) (spec.learnt notes.new.steps) (O.contents writer.old) (O.contents writer.new)) }
-    ensures stopped { IfErr result (λ ended. inner.Stops ended who.entry.clients.now (spec.learnt notes.old.steps) (spec.learnt notes.new.steps) (O.contents writer.old) (O.contents writer.new)) }
+    ensures takes { IfOk result (λ busy. inner.TookTurn (inner.network P.received P.sent who.entry.cast.addresses.now) acts_at (IsStep is_sealing) (actor.Client who.entry.number) busy
+        (inner.seen client.old port.old supply.old notes.old.steps) (inner.seen client.new port.new supply.new notes.new.steps)) }
+    ensures halts { OnErr result (inner.TookOrStayed (inner.network P.received P.sent who.entry.cast.addresses.now) acts_at (IsStep is_sealing) (actor.Client who.entry.number)
+        (inner.seen client.old port.old supply.old notes.old.steps) (inner.seen client.new port.new supply.new notes.new.steps)) }
+    ensures told { OnOk result (inner.Tells who.entry.cast.clients.now (telling.learnt notes.old.steps) (telling.learnt notes.new.steps) (O.contents writer.old) (O.contents writer.new)) }
+    ensures stopped { IfErr result (λ ended. inner.Stops ended who.entry.cast.clients.now (telling.learnt notes.old.steps) (telling.learnt notes.new.steps) (O.contents writer.old) (O.contents writer.new)) }
 {
-    let Some(port) = means.ports.clients.get_mut(who.number) else {
-        return Err(Ended::PortFailed);
-    };
     reserve(notes)?;
-    let was_busy = port.is_busy();
-    let turned = turn_of(means.alloc, &mut means.supply, port, client)?;
-    let Turned {
-        received,
-        step,
-        fault,
-    } = turned;
+    let turned = turn_of(who.cast, supply, port, client)?;
+    let Turned { busy, step, fault } = turned;
     let Step { notes: done, .. } = step;
-    note(means.alloc, who, done, notes, writer)?;
-    unless_lost(fault, was_busy || received)
+    note(who, done, notes, writer)?;
+    unless_lost(fault)?;
+    Ok(busy)
 }
 
 // Tells what the client learnt by a step, if it did, and notes the step, for which there is room.
 fn note<O: Write>(
-    alloc: Global,
     who: Who<'_>,
     step: StepNotes,
     notes: &mut Notes,
@@ -293,27 +327,28 @@ fn note<O: Write>(
 ) -> Result<(), Ended>
     requires { 0 < notes.old.room }
     ensures noted { notes.new.steps ≡ by_client who.entry.number false step ∷ notes.old.steps }
-    ensures told { OnOk result (inner.Tells who.entry.clients.now (spec.learnt notes.old.steps) (spec.learnt notes.new.steps) (O.contents writer.old) (O.contents writer.new)) }
-    ensures stopped { IfErr result (λ ended. inner.Stops ended who.entry.clients.now (spec.learnt notes.old.steps) (spec.learnt notes.new.steps) (O.contents writer.old) (O.contents writer.new)) }
+    ensures told { OnOk result (inner.Tells who.entry.cast.clients.now (telling.learnt notes.old.steps) (telling.learnt notes.new.steps) (O.contents writer.old) (O.contents writer.new)) }
+    ensures stopped { IfErr result (λ ended. inner.Stops ended who.entry.cast.clients.now (telling.learnt notes.old.steps) (telling.learnt notes.new.steps) (O.contents writer.old) (O.contents writer.new)) }
 {
-    let told = tell_result(alloc, who, step.result(), writer);
+    let told = tell_result(who, step.result(), writer);
     notes.add(Noted::by_client(who.number, false, step));
     told
 }
 
 // The step by which the client does what the line says, if it says something: a request with the code 0.00 is none.
 fn begun<W: Watch + Drop>(
-    alloc: Global,
+    asked: Asked<'_>,
     supply: &mut ClockAndRandom<W>,
     client: &mut Client,
-    asked: &Line,
 ) -> Result<Option<Step>, Ended>
-    ensures begins { IfOk result (λ begun. (now : AnyMoment) × (draw : AnyDraw) × inner.Begins (spec.task_of asked.now now draw) client.old begun client.new) }
+    ensures begins { IfOk result (λ begun. (now : AnyMoment) × (draw : AnyDraw) × Gives supply.old now draw supply.new
+        × inner.Begins (turning.task_of asked.entry.line.now now draw) client.old begun client.new) }
     ensures err { OnErr result (client.new ≡ client.old) }
     ensures fault { IfErr result ends.IsFault }
 {
     let (now, draw) = moment_and_draw(supply)?;
-    match asked {
+    let alloc = asked.who.cast.alloc;
+    match asked.line {
         Line::Exchange { .. } => match client.exchange(alloc, now, &draw) {
             Ok(step) => Ok(Some(step)),
             Err(_) => Err(Ended::OutOfMemory),
@@ -325,20 +360,6 @@ fn begun<W: Watch + Drop>(
             }
         }
         _ => Ok(None),
-    }
-}
-
-// What the client of this number sends.
-fn send_from<P: Port + Drop>(
-    ports: &mut [PacedPort<P>],
-    number: usize,
-    out: &Datagrams,
-) -> Result<(), Ended>
-    ensures fault { IfErr result ends.IsFault }
-{
-    match ports.get_mut(number) {
-        Some(port) => send(&mut port.port, out),
-        None => Err(Ended::PortFailed),
     }
 }
 
@@ -357,7 +378,7 @@ fn reserve(notes: &mut Notes) -> Result<(), Ended>
 
 // The node's turn, which is noted as this actor's, which learns nothing: whether it was busy.
 fn noted_turn<W: Watch + Drop, P: Port + Drop, N: Node<Suite>>(
-    alloc: Global,
+    cast: Cast<'_>,
     supply: &mut ClockAndRandom<W>,
     port: &mut PacedPort<P>,
     node: &mut N,
@@ -365,24 +386,20 @@ fn noted_turn<W: Watch + Drop, P: Port + Drop, N: Node<Suite>>(
     notes: &mut Notes,
 ) -> Result<bool, Ended>
     requires { inner.LearnsNothing actor }
-    ensures takes { OnOk result (inner.TookTurn N.is_step actor
-        (record { node = node.old; steps = notes.old.steps }) (record { node = node.new; steps = notes.new.steps })) }
-    ensures does { inner.TookTurnOrStayed N.is_step actor
-        (record { node = node.old; steps = notes.old.steps }) (record { node = node.new; steps = notes.new.steps }) }
-    ensures learns { spec.learnt notes.new.steps ≡ spec.learnt notes.old.steps }
+    ensures takes { IfOk result (λ busy. inner.TookTurn (inner.network P.received P.sent cast.entry.addresses.now) N.acts N.is_step actor busy
+        (inner.seen node.old port.old supply.old notes.old.steps) (inner.seen node.new port.new supply.new notes.new.steps)) }
+    ensures halts { OnErr result (inner.TookOrStayed (inner.network P.received P.sent cast.entry.addresses.now) N.acts N.is_step actor
+        (inner.seen node.old port.old supply.old notes.old.steps) (inner.seen node.new port.new supply.new notes.new.steps)) }
+    ensures learns { telling.learnt notes.new.steps ≡ telling.learnt notes.old.steps }
     ensures fault { IfErr result ends.IsFault }
 {
     reserve(notes)?;
-    let was_busy = port.is_busy();
-    let turned = turn_of(alloc, supply, port, node)?;
-    let Turned {
-        received,
-        step,
-        fault,
-    } = turned;
+    let turned = turn_of(cast, supply, port, node)?;
+    let Turned { busy, step, fault } = turned;
     let Step { notes: done, .. } = step;
     notes.add(noted_as(actor, done));
-    unless_lost(fault, was_busy || received)
+    unless_lost(fault)?;
+    Ok(busy)
 }
 
 // A step of this actor, in which no holder lies.
@@ -396,28 +413,12 @@ fn noted_as(actor: Actor, notes: StepNotes) -> Noted
     }
 }
 
-// A turn of the node.
-fn turn_of<W: Watch + Drop, P: Port + Drop, N: Node<Suite>>(
-    alloc: Global,
-    supply: &mut ClockAndRandom<W>,
-    port: &mut PacedPort<P>,
-    node: &mut N,
-) -> Result<Turned, Ended>
-    ensures takes { IfOk result (λ turned. turning.TakesTurn N.acts N.is_step
-        (record { node = node.old; busy = port.old.pace.busy_since; supply = supply.old }) turned.step
-        (record { node = node.new; busy = port.new.pace.busy_since; supply = supply.new })) }
-    ensures err { OnErr result (node.new ≡ node.old) }
-    ensures fault { IfErr result ends.IsFault }
-{
-    take_turn(alloc, supply, &mut port.port, node, &mut port.pace)
-}
-
-// Whether a node was busy, unless one of its datagrams was lost.
-fn unless_lost(fault: Option<PortFault>, busy: bool) -> Result<bool, Ended>
+// One of the datagrams of a step was lost, or none was.
+fn unless_lost(fault: Option<PortFault>) -> Result<(), Ended>
     ensures { IfErr result ends.IsFault }
 {
     match fault {
-        None => Ok(busy),
+        None => Ok(()),
         Some(_) => Err(Ended::PortFailed),
     }
 }

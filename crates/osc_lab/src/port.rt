@@ -1,10 +1,12 @@
-//! Where the nodes of a lab listen.
-ghost use Rattle.std.specs.Prelude.{◌≡◌, ◌++◌, ◌∷◌, [], None, IfOk, OnOk};
+//! Which socket each node of a lab has.
+ghost use Rattle.std.specs.List.{find};
+ghost use Rattle.std.specs.Prelude.{◌≡◌, ◌++◌, ◌∷◌, [], OnOk, option_map};
+ghost use Rattle.osc_message.specs.{same_peer};
+ghost use Rattle.osc_lab.specs.Network as spec;
 
 use osc_model::Peer;
-use osc_programs::UdpPort;
-use osc_turn::{Port, PortFault};
 use std::alloc::{AllocError, Global};
+use std::marker::Model;
 
 /// The address of a node in its script, and that of its socket.
 #[derive(Clone, Copy, Debug, PartialEq, Eq)]
@@ -15,16 +17,25 @@ pub(crate) struct Known {
     pub socket: Peer,
 }
 
-/// Which socket each node of a lab has; a node and a socket have one address each.
+/// Which socket each node of a lab has; contracts see the list.
 #[derive(Drop)]
 pub(crate) struct AddressMap {
     entries: Vec<Known>,
 }
 
+impl Model for AddressMap {
+    ghost use Rattle.std.specs.Prelude.{List};
+    ghost use Rattle.osc_lab.specs.declared.port.Known.{Known as Entry};
+
+    ghost Value = { List Entry };
+
+    ghost view = { λ addresses. addresses.entries.items };
+}
+
 impl AddressMap {
     /// No nodes.
     pub fn new(alloc: Global) -> AddressMap
-        ensures { result.entries.items ≡ [] }
+        ensures { result ≡ [] }
     {
         AddressMap {
             entries: Vec::new(alloc),
@@ -33,69 +44,42 @@ impl AddressMap {
 
     /// Adds a node.
     pub fn add(&mut self, known: Known) -> Result<(), AllocError>
-        ensures { OnOk result (self.new.entries.items ≡ self.old.entries.items ++ known ∷ []) }
+        ensures { OnOk result (self.new ≡ self.old ++ known ∷ []) }
     {
         Ok(self.entries.push(known)?)
     }
 
-    /// The same once more.
-    pub fn copy(&self, alloc: Global) -> Result<AddressMap, AllocError>
-        ensures { IfOk result (λ addresses. addresses.entries.items ≡ self.now.entries.items) }
+    /// Where the node of this address in the script listens; elsewhere is itself.
+    pub fn socket(&self, script: Peer) -> Peer
+        ensures { result ≡ spec.socket_of self.now script }
     {
-        let mut entries = Vec::new(alloc);
-        entries.extend_from_slice(&self.entries)?;
-        Ok(AddressMap { entries })
-    }
-
-    // Where the node of this address in the script listens; elsewhere is itself.
-    fn socket(&self, script: Peer) -> Peer {
-        match self.entries.iter().find(|known| known.script == script) {
+        match known_as(&self.entries, script) {
             Some(known) => known.socket,
             None => script,
         }
     }
 
-    // Which address in the script the node of this socket has; elsewhere is itself.
-    fn script(&self, socket: Peer) -> Peer {
-        match self.entries.iter().find(|known| known.socket == socket) {
+    /// Which address in the script the node of this socket has; elsewhere is itself.
+    pub fn script(&self, socket: Peer) -> Peer
+        ensures { result ≡ spec.script_of self.now socket }
+    {
+        match known_at(&self.entries, socket) {
             Some(known) => known.script,
             None => socket,
         }
     }
 }
 
-/// A node's socket: what is sent to a node of the script goes to its socket, and what comes from there comes from the node.
-#[derive(Drop)]
-pub(crate) struct LabPort {
-    port: UdpPort,
-    addresses: AddressMap,
+// The node of this address in the script.
+fn known_as(all: &[Known], script: Peer) -> Option<&Known>
+    ensures { option_map (λ known. known.now) result ≡ find (λ known. same_peer known.script script) all.now }
+{
+    all.iter().find(|known| known.script == script)
 }
 
-impl LabPort {
-    /// Over this port.
-    pub fn new(port: UdpPort, addresses: AddressMap) -> LabPort
-        ensures port { result.port ≡ port }
-        ensures addresses { result.addresses ≡ addresses }
-    {
-        LabPort { port, addresses }
-    }
-}
-
-impl Port for LabPort {
-    ghost failures = { λ port. port.port.failures };
-
-    ghost received = { λ _. None };
-
-    ghost sent = { λ _. None };
-
-    fn receive(&mut self, buffer: &mut [u8; 1153]) -> Result<Option<(Peer, usize)>, PortFault> {
-        match self.port.receive(buffer)? {
-            Some((from, len)) => Ok(Some((self.addresses.script(from), len))),
-            None => Ok(None),
-        }
-    }
-
-    fn send(&mut self, to: Peer, bytes: &[u8]) -> Result<(), PortFault> {
-        self.port.send(self.addresses.socket(to), bytes)
-    }
+// The node of this socket.
+fn known_at(all: &[Known], socket: Peer) -> Option<&Known>
+    ensures { option_map (λ known. known.now) result ≡ find (λ known. same_peer known.socket socket) all.now }
+{
+    all.iter().find(|known| known.socket == socket)
 }

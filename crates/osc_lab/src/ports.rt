@@ -1,15 +1,16 @@
 //! The ports of a lab's nodes: their sockets, and the pace that each node keeps.
-ghost use Rattle.std.specs.Prelude.{◌≡◌, IfErr, is_some};
+ghost use Rattle.std.specs.Prelude.{◌≡◌, ◌++◌, ◌∷◌, [], IfErr, IfOk, OnOk, is_some, map};
+ghost use Rattle.osc_lab.specs.Inner.Telling as inner;
+ghost use Rattle.osc_lab.specs.Whole as spec;
 ghost use Rattle.osc_programs.specs.Ended as ends;
 
-use crate::port::{AddressMap, Known, LabPort};
+use crate::port::{AddressMap, Known};
 use osc_model::Peer;
-use osc_programs::{Ended, SocketPort, UdpPort, bound};
+use osc_programs::{Ended, SocketPort, Sockets, bound};
 use osc_script::Node;
-use osc_turn::{ClockAndRandom, Pace, Port, Watch};
+use osc_turn::{ClockAndRandom, Pace, Watch};
 use osc_world::{Parts, Placed};
 use std::alloc::Global;
-use std::net::Net;
 
 // An address of this machine, whose port the system picks.
 const ANY_PORT: Peer = Peer {
@@ -18,15 +19,20 @@ const ANY_PORT: Peer = Peer {
 };
 
 /// A node's port, and the pace that the node keeps at it.
-#[derive(Drop)]
-pub(crate) struct PacedPort<P: Port + Drop> {
+pub(crate) struct PacedPort<P> {
     /// The port.
     pub port: P,
     /// The pace.
     pub pace: Pace,
 }
 
-impl<P: Port + Drop> PacedPort<P> {
+impl<P: Drop> Drop for PacedPort<P> {
+    fn drop(self) {
+        let PacedPort { port: _, pace: _ } = self;
+    }
+}
+
+impl<P> PacedPort<P> {
     /// Whether the node took what came in its last turn. Then the next one may be a tick though something waits.
     pub fn is_busy(&self) -> bool
         ensures { result ≡ is_some self.now.pace.busy_since }
@@ -36,8 +42,7 @@ impl<P: Port + Drop> PacedPort<P> {
 }
 
 /// The ports of the server, of the proxies and of the clients.
-#[derive(Drop)]
-pub(crate) struct LabPorts<P: Port + Drop> {
+pub(crate) struct LabPorts<P> {
     /// The server's.
     pub server: PacedPort<P>,
     /// Those of the proxies, by their numbers.
@@ -46,11 +51,19 @@ pub(crate) struct LabPorts<P: Port + Drop> {
     pub clients: Vec<PacedPort<P>>,
 }
 
-/// What the nodes of a lab take their turns by: memory, what hands them moments and draws, and their ports.
+impl<P: Drop> Drop for LabPorts<P> {
+    fn drop(self) {
+        let LabPorts {
+            server: _,
+            proxies: _,
+            clients: _,
+        } = self;
+    }
+}
+
+/// What the nodes of a lab take their turns by: what hands them moments and draws, and their ports.
 #[derive(Drop)]
-pub(crate) struct Means<W: Watch + Drop, P: Port + Drop> {
-    /// The allocator.
-    pub alloc: Global,
+pub(crate) struct Means<W: Watch + Drop, P: Drop> {
     /// What hands them moments and draws.
     pub supply: ClockAndRandom<W>,
     /// Their ports.
@@ -58,28 +71,35 @@ pub(crate) struct Means<W: Watch + Drop, P: Port + Drop> {
 }
 
 /// A socket of this machine for each node.
-pub(crate) fn bind_all<R: Net>(
+pub(crate) fn bind_all<R: Sockets>(
     alloc: Global,
     runtime: &R,
     parts: &Parts,
-) -> Result<LabPorts<LabPort>, Ended>
-    ensures { IfErr result ends.IsFault }
+) -> Result<(LabPorts<R::Socket>, AddressMap), Ended>
+    ensures begins { IfOk result (λ bound. spec.BeginsAt (R.opened runtime.now) R.Socket.listens parts.now.nodes bound.1 (inner.ports_of bound.0)) }
+    ensures fault { IfErr result ends.IsFault }
 {
     let mut addresses = AddressMap::new(alloc);
     let server = bind_at(runtime, &mut addresses, Node::Server.address())?;
     let proxies = bind_each(alloc, runtime, &mut addresses, parts.nodes.proxies())?;
     let clients = bind_each(alloc, runtime, &mut addresses, parts.nodes.clients())?;
-    ports_of(alloc, server, proxies, clients, &addresses)
+    let ports = LabPorts {
+        server,
+        proxies,
+        clients,
+    };
+    Ok((ports, addresses))
 }
 
 // A socket for each of these nodes.
-fn bind_each<R: Net, N>(
+fn bind_each<R: Sockets, N>(
     alloc: Global,
     runtime: &R,
     addresses: &mut AddressMap,
     all: &[Placed<N>],
-) -> Result<Vec<UdpPort>, Ended>
-    ensures { IfErr result ends.IsFault }
+) -> Result<Vec<PacedPort<R::Socket>>, Ended>
+    ensures bound { IfOk result (λ ports. inner.AreBound (R.opened runtime.now) R.Socket.listens (map (λ placed. placed.at) all.now) addresses.old addresses.new ports.items) }
+    ensures fault { IfErr result ends.IsFault }
 {
     let mut ports = Vec::new(alloc);
     for placed in all {
@@ -88,77 +108,34 @@ fn bind_each<R: Net, N>(
     Ok(ports)
 }
 
-// These sockets, each with the addresses of all.
-fn ports_of(
-    alloc: Global,
-    server: UdpPort,
-    proxies: Vec<UdpPort>,
-    clients: Vec<UdpPort>,
-    addresses: &AddressMap,
-) -> Result<LabPorts<LabPort>, Ended>
-    ensures { IfErr result ends.IsFault }
-{
-    let proxies = with_addresses_each(alloc, proxies, addresses)?;
-    let clients = with_addresses_each(alloc, clients, addresses)?;
-    Ok(LabPorts {
-        server: with_addresses(alloc, server, addresses)?,
-        proxies,
-        clients,
-    })
-}
-
 // A socket of this machine, for the node of this address in the script.
-fn bind_at<R: Net>(runtime: &R, addresses: &mut AddressMap, script: Peer) -> Result<UdpPort, Ended>
-    ensures { IfErr result ends.IsFault }
+fn bind_at<R: Sockets>(
+    runtime: &R,
+    addresses: &mut AddressMap,
+    script: Peer,
+) -> Result<PacedPort<R::Socket>, Ended>
+    ensures bound { IfOk result (λ port. inner.IsBound (R.opened runtime.now) R.Socket.listens script addresses.old addresses.new port) }
+    ensures fault { IfErr result ends.IsFault }
 {
     let port = bound(runtime, ANY_PORT)?;
     let Some(socket) = port.address() else {
         return Err(Ended::PortFailed);
     };
     match addresses.add(Known { script, socket }) {
-        Ok(()) => Ok(port),
+        Ok(()) => Ok(PacedPort {
+            port,
+            pace: Pace::START,
+        }),
         Err(_) => Err(Ended::OutOfMemory),
     }
 }
 
-fn push(ports: &mut Vec<UdpPort>, port: UdpPort) -> Result<(), Ended>
-    ensures { IfErr result ends.IsFault }
+fn push<P: Drop>(ports: &mut Vec<PacedPort<P>>, port: PacedPort<P>) -> Result<(), Ended>
+    ensures pushed { OnOk result (ports.new.items ≡ ports.old.items ++ port ∷ []) }
+    ensures fault { IfErr result ends.IsFault }
 {
     match ports.push(port) {
         Ok(()) => Ok(()),
-        Err(_) => Err(Ended::OutOfMemory),
-    }
-}
-
-fn with_addresses_each(
-    alloc: Global,
-    ports: Vec<UdpPort>,
-    addresses: &AddressMap,
-) -> Result<Vec<PacedPort<LabPort>>, Ended>
-    ensures { IfErr result ends.IsFault }
-{
-    let mut all = Vec::new(alloc);
-    for port in ports {
-        let port = with_addresses(alloc, port, addresses)?;
-        if all.push(port).is_err() {
-            return Err(Ended::OutOfMemory);
-        }
-    }
-    Ok(all)
-}
-
-fn with_addresses(
-    alloc: Global,
-    port: UdpPort,
-    addresses: &AddressMap,
-) -> Result<PacedPort<LabPort>, Ended>
-    ensures { IfErr result ends.IsFault }
-{
-    match addresses.copy(alloc) {
-        Ok(addresses) => Ok(PacedPort {
-            port: LabPort::new(port, addresses),
-            pace: Pace::START,
-        }),
         Err(_) => Err(Ended::OutOfMemory),
     }
 }

@@ -3,11 +3,11 @@ ghost use Rattle.std.specs.Prelude.{◌≡◌, ◌++◌, Some, IfErr, IfOk, OnOk
 ghost use Rattle.std.specs.Io.KnownBytes.{Appends};
 ghost use Rattle.osc_simulation.specs.{learnt_text, line};
 ghost use Rattle.osc_lab.specs.Inner.Telling as inner;
-ghost use Rattle.osc_lab.specs.Lab as spec;
+ghost use Rattle.osc_lab.specs.Telling as spec;
 
+use crate::cast::Who;
 use osc_model::ClientResult;
 use osc_programs::{Ended, written};
-use osc_script::ClientName;
 use osc_simulation::{learnt_text, name_of_number};
 use std::alloc::{AllocError, Global};
 use std::io::Write;
@@ -23,31 +23,21 @@ pub(crate) fn tell<W: Write>(writer: &mut W, text: &[u8]) -> Result<(), Ended>
     }
 }
 
-/// A client of a lab: the names of all, by their numbers, and its own number.
-#[derive(Clone, Copy)]
-pub(crate) struct Who<'a> {
-    /// The names of all clients.
-    pub clients: &'a [ClientName],
-    /// Its number, from 0.
-    pub number: usize,
-}
-
 /// Tells what this client learnt, if it did: `CLIENT RESULT`.
 pub(crate) fn tell_result<W: Write>(
-    alloc: Global,
     who: Who<'_>,
     learnt: Option<&ClientResult>,
     writer: &mut W,
 ) -> Result<(), Ended>
     ensures told { OnOk result (Appends (W.contents writer.old) (W.contents writer.new)
-        (spec.all_told who.entry.clients.now (option_to_list (spec.learnt_by who.entry.number (option_map (λ it. it.now) learnt.entry))))) }
+        (spec.all_told who.entry.cast.clients.now (option_to_list (spec.learnt_by who.entry.number (option_map (λ it. it.now) learnt.entry))))) }
     ensures untold { IfErr result (λ ended. inner.IsUntold ended (W.contents writer.old) (W.contents writer.new)) }
 {
     match learnt {
         None => Ok(()),
         Some(learnt) => tell_line(
-            alloc,
-            name_of_number(who.clients, who.number),
+            who.cast.alloc,
+            name_of_number(who.cast.clients, who.number),
             learnt,
             writer,
         ),

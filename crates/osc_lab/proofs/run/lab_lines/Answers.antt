@@ -15,7 +15,7 @@ returns-in_err-parts-clause-early g c =
 
 pub returns-in_err-ports-clause-early : goal.returns-in_err-ports-clause-early
 returns-in_err-ports-clause-early g c =
-    at_exit c.from_residual-in_err-ports.result c.in_err-ports.field-0.0 _ c.from_residual-in_err-ports.ensures.1 (unbegun c.in_err-ports.ensures (appends_none _))
+    at_exit c.from_residual-in_err-ports.result c.in_err-ports.field-0.0 _ c.from_residual-in_err-ports.ensures.1 (unbegun c.in_err-ports.ensures.fault (appends_none _))
 
 pub returns-in_err-supply-clause-early : goal.returns-in_err-supply-clause-early
 returns-in_err-supply-clause-early g c =
@@ -31,9 +31,19 @@ returns-clause-done g c =
     (λ printed. (
       printed.0,
       record {
+        sockets = _;
         first = _;
         last = _;
-        is_first = record { start = parts.0; starts = parts.1; parts = c.in_ok-parts.parts; are = parts.2; is = c.new-nodes.ensures };
+        is_first = record {
+          start = parts.0;
+          starts = parts.1;
+          parts = c.in_ok-parts.parts;
+          are = parts.2;
+          lab = c.new-nodes.ensures;
+          ports = c.in_ok-ports.ensures.begins;
+          seeded = c.in_ok-supply.ensures.seeded;
+          seed = c.in_ok-supply.ensures.given;
+        };
         prints = printed.1;
       },
       printed.2,
@@ -44,5 +54,15 @@ pub returns-clause-early : goal.returns-clause-early
 returns-clause-early g c =
     let parts = c.in_ok-parts.ensures.parts in
     IfErr-weaker c.run.result _ _
-    (λ ended stops. in_lines _ _ (record { start = parts.0; starts = parts.1; parts = c.in_ok-parts.parts; are = parts.2; is = c.new-nodes.ensures }) stops)
+    (λ ended stops. in_lines _ _ _
+    (record {
+      start = parts.0;
+      starts = parts.1;
+      parts = c.in_ok-parts.parts;
+      are = parts.2;
+      lab = c.new-nodes.ensures;
+      ports = c.in_ok-ports.ensures.begins;
+      seeded = c.in_ok-supply.ensures.seeded;
+      seed = c.in_ok-supply.ensures.given;
+    }) stops)
     c.run.ensures.stops

@@ -1,0 +1,20 @@
+use Rattle.std.proofs.Common.{◌≡◌, ◌∙◌, ◌+◌, Some, ap, subst, sym}
+use Rattle.std.specs.List.{position}
+use Rattle.std.specs.Prelude.{not}
+use Rattle.osc_lab.specs.{IsFirstUnheeded, is_heeded}
+use Rattle.osc_lab.proofs.Heeded.{all_heeded, other_is_first, same_number}
+use Rattle.osc_lab.proofs.heeding.lab_script.Goals as goal
+
+pub returns-in-None-clause-puts : goal.returns-in-None-clause-puts
+returns-in-None-clause-puts c = c.a_script_fits.ensures c.args.bytes.now c.in-Ok.script c.in-Ok.ensures.read
+
+pub returns-in-None-clause-heeded : goal.returns-in-None-clause-heeded
+returns-in-None-clause-heeded c =
+    all_heeded c.in-Ok.script (ap (position (λ line. not (is_heeded line))) (sym c.lines.ensures) ∙ sym c.first_other.ensures ∙ c.in-None.is)
+
+pub returns-in-Some-clause-bad : goal.returns-in-Some-clause-bad
+returns-in-Some-clause-bad c =
+    let some : position (λ line. not (is_heeded line)) c.in-Ok.script ≡ Some c.in-Some.place =
+    ap (position (λ line. not (is_heeded line))) (sym c.lines.ensures) ∙ sym c.first_other.ensures ∙ c.in-Some.is in
+    λ n e. subst (IsFirstUnheeded c.args.bytes.now) (same_number (c.in-Some.place + 1) n e)
+    (other_is_first c.args.bytes.now c.in-Ok.script c.in-Some.place c.in-Ok.ensures.read some)
