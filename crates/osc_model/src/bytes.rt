@@ -57,11 +57,12 @@ impl Bytes {
         items
     }
 
-    /// The first bytes, then the second.
+    /// The first bytes, then the second; memory is taken once, for both.
     pub fn joined(alloc: Global, first: &[u8], second: &[u8]) -> Result<Self, AllocError>
         ensures { IfOk result (λ bytes. bytes ≡ first.now ++ second.now) }
     {
-        let mut items = Vec::from_slice(alloc, first)?;
+        let mut items = Vec::with_capacity(alloc, first.len() + second.len())?;
+        items.extend_from_slice(first)?;
         items.extend_from_slice(second)?;
         Ok(Bytes { items })
     }

@@ -3,6 +3,7 @@
 #![tactic(auto)]
 
 mod algorithm;
+mod associated_data;
 mod bytes;
 mod code;
 mod context;
@@ -20,6 +21,7 @@ mod step;
 mod step_notes;
 
 pub use algorithm::Algorithm;
+pub use associated_data::AssociatedData;
 pub use bytes::Bytes;
 pub use code::{Code, Method};
 pub use context::{ContextName, Side};

@@ -1,7 +1,10 @@
 //! What one event at a node did.
-ghost use Rattle.std.specs.Prelude.{◌≡◌, [], ◌++◌, ◌∷◌, OnErr, OnOk, length};
+ghost use Rattle.std.specs.Prelude.{◌≡◌, ◌+◌, ◌≤◌, [], ◌++◌, ◌∷◌, IfErr, IfOk, IfSome, OnErr, OnOk, length, vec_capacity, vec_len};
+ghost use Rattle.std.specs.Option.{option_to_list};
+ghost use Rattle.osc_model.specs.Datagrams.{listed};
 ghost use Rattle.osc_model.specs.Step.{refuses, sends};
 
+use crate::associated_data::AssociatedData;
 use crate::bytes::Bytes;
 use crate::code::Code;
 use crate::context::Side;
@@ -10,8 +13,8 @@ use crate::reply::Reply;
 use crate::shared_name::SharedName;
 use crate::step_notes::StepNotes;
 use std::alloc::{AllocError, Global};
-use std::fmt;
 use std::marker::Model;
+use std::{fmt, mem, slice};
 
 /// One use of a key: what was sealed or opened, and under which name.
 #[derive(Clone, PartialEq, Eq)]
@@ -25,7 +28,7 @@ pub struct Note {
     /// The nonce (RFC 8613 section 5.2).
     pub nonce: [u8; 13],
     /// The associated data (RFC 8613 section 5.4).
-    pub aad: Bytes,
+    pub aad: AssociatedData,
     /// The plaintext (RFC 8613 section 5.3).
     pub plaintext: Bytes,
 }
@@ -117,25 +120,38 @@ pub struct Datagram {
     pub bytes: Bytes,
 }
 
-/// Datagrams in the order in which they are sent; contracts see the list.
-#[derive(Debug)]
+/// Datagrams where they are kept: one alone takes no heap.
+#[derive(Drop)]
+enum Kept {
+    One(Global, Datagram),
+    Many(Vec<Datagram>),
+}
+
+/// Datagrams in the order in which they are sent; contracts see the list. One alone takes no heap.
 pub struct Datagrams {
-    items: Vec<Datagram>,
+    kept: Kept,
 }
 
 impl Drop for Datagrams {
     fn drop(self) {
-        let Datagrams { items: _ } = self;
+        let Datagrams { kept: _ } = self;
+    }
+}
+
+impl fmt::Debug for Datagrams {
+    fn fmt<W: fmt::Write>(&self, f: &mut fmt::Formatter<W>) -> fmt::Result {
+        self.as_slice().fmt(f)
     }
 }
 
 impl Model for Datagrams {
     ghost use Rattle.std.specs.Prelude.{List};
     ghost use Rattle.osc_model.specs.declared.step.Datagram.{Datagram as Sent};
+    ghost use Rattle.osc_model.specs.Datagrams.{listed};
 
     ghost Value = { List Sent };
 
-    ghost view = { λ d. d.items.items };
+    ghost view = { λ d. listed d.kept };
 }
 
 impl Datagrams {
@@ -144,7 +160,16 @@ impl Datagrams {
         ensures { result ≡ [] }
     {
         Datagrams {
-            items: Vec::new(alloc),
+            kept: Kept::Many(Vec::new(alloc)),
+        }
+    }
+
+    /// This datagram alone; takes no memory.
+    pub fn one(alloc: Global, datagram: Datagram) -> Datagrams
+        ensures { result ≡ datagram ∷ [] }
+    {
+        Datagrams {
+            kept: Kept::One(alloc, datagram),
         }
     }
 
@@ -152,31 +177,110 @@ impl Datagrams {
     pub fn from_vec(items: Vec<Datagram>) -> Datagrams
         ensures { result ≡ items.items }
     {
-        Datagrams { items }
+        Datagrams {
+            kept: Kept::Many(items),
+        }
     }
 
-    /// Adds one at the end; without memory all stays as it was.
+    /// Adds one at the end; without memory all stays as it was. The first takes none.
     pub fn push(&mut self, datagram: Datagram) -> Result<(), AllocError>
         ensures ok { OnOk result (self.new ≡ self.old ++ datagram ∷ []) }
         ensures err { OnErr result (self.new ≡ self.old) }
     {
-        Ok(self.items.push(datagram)?)
+        push(&mut self.kept, datagram)
     }
 
     /// The datagrams, lent.
     pub fn as_slice(&self) -> &[Datagram]
         ensures { result.now ≡ self.now }
     {
-        &self.items
+        match &self.kept {
+            Kept::One(_, datagram) => slice::from_ref(datagram),
+            Kept::Many(items) => items.as_slice(),
+        }
     }
 
-    /// The datagrams, which are not copied.
-    pub fn into_vec(self) -> Vec<Datagram>
-        ensures { result.items ≡ self }
+    /// The datagrams: one that is kept alone, and the others after it. They are not copied, and no memory is taken.
+    pub fn into_parts(self) -> (Option<Datagram>, Vec<Datagram>)
+        ensures { option_to_list result.0 ++ result.1.items ≡ self }
     {
-        let Datagrams { items } = self;
-        items
+        let Datagrams { kept } = self;
+        match kept {
+            Kept::One(alloc, datagram) => (Some(datagram), Vec::new(alloc)),
+            Kept::Many(items) => (None, items),
+        }
     }
+
+    /// The datagrams in a vector that has room for so many more; without memory they come back as they are.
+    pub fn into_vec(self, more: usize) -> Result<Vec<Datagram>, Datagrams>
+        ensures ok { IfOk result (λ items. (items.items ≡ self) × (vec_len items + more ≤ vec_capacity items)) }
+        ensures err { IfErr result (λ datagrams. datagrams ≡ self) }
+    {
+        let Datagrams { kept } = self;
+        match kept {
+            Kept::One(alloc, datagram) => match room_after_one(alloc, more) {
+                Some(mut items) => {
+                    items.push_reserved(datagram);
+                    Ok(items)
+                }
+                None => Err(Datagrams::one(alloc, datagram)),
+            },
+            Kept::Many(mut items) => match items.reserve(more) {
+                Ok(()) => Ok(items),
+                Err(_) => Err(Datagrams::from_vec(items)),
+            },
+        }
+    }
+}
+
+/// The allocator of the datagrams.
+fn alloc_of(kept: &Kept) -> Global {
+    match kept {
+        Kept::One(alloc, _) => *alloc,
+        Kept::Many(items) => *items.allocator(),
+    }
+}
+
+/// Adds one at the end; without memory all stays as it was.
+fn push(kept: &mut Kept, datagram: Datagram) -> Result<(), AllocError>
+    ensures ok { OnOk result (listed kept.new ≡ listed kept.old ++ datagram ∷ []) }
+    ensures err { OnErr result (listed kept.new ≡ listed kept.old) }
+{
+    let none = Kept::Many(Vec::new(alloc_of(kept)));
+    let (now, done) = with(mem::replace(kept, none), datagram);
+    *kept = now;
+    done
+}
+
+/// The same and one more at the end, or, without memory, the same.
+fn with(kept: Kept, datagram: Datagram) -> (Kept, Result<(), AllocError>)
+    ensures ok { OnOk result.1 (listed result.0 ≡ listed kept ++ datagram ∷ []) }
+    ensures err { OnErr result.1 (listed result.0 ≡ listed kept) }
+{
+    match kept {
+        Kept::One(alloc, first) => match room_after_one(alloc, 1) {
+            Some(mut items) => {
+                items.push_reserved(first);
+                items.push_reserved(datagram);
+                (Kept::Many(items), Ok(()))
+            }
+            None => (Kept::One(alloc, first), Err(AllocError)),
+        },
+        Kept::Many(items) if items.is_empty() => {
+            (Kept::One(*items.allocator(), datagram), Ok(()))
+        }
+        Kept::Many(mut items) => match items.push(datagram) {
+            Ok(()) => (Kept::Many(items), Ok(())),
+            Err(_) => (Kept::Many(items), Err(AllocError)),
+        },
+    }
+}
+
+/// Room for one and so many more.
+fn room_after_one(alloc: Global, more: usize) -> Option<Vec<Datagram>>
+    ensures { IfSome result (λ items. (items.items ≡ []) × (vec_len items ≡ 0) × (more + 1 ≤ vec_capacity items)) }
+{
+    Vec::with_capacity(alloc, more.checked_add(1)?).ok()
 }
 
 /// What one event at a node did, beside changing the node.

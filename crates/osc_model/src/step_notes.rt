@@ -52,6 +52,20 @@ impl StepNotes {
         }
     }
 
+    /// A request was opened and served, and its answer sealed; takes no memory.
+    pub fn of_request(sealed: Note, opened: Note, entry: Entry) -> StepNotes
+        ensures { result ≡ record quiet { seals = Some sealed; opens = Some opened; served = Some entry } }
+    {
+        StepNotes {
+            seals: Some(sealed),
+            opens: Some(opened),
+            served: Some(entry),
+            result: None,
+            drawn: None,
+            refused: None,
+        }
+    }
+
     /// The same, and this was sealed.
     pub fn with_seal(mut self, note: Note) -> StepNotes
         ensures { result ≡ record self { seals = Some note } }

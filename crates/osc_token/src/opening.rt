@@ -10,7 +10,7 @@ ghost use Rattle.osc_token.specs.Token.{IsToken, token_name, token_note, without
 use osc_cbor::ItemRef;
 use osc_ccm::Aead;
 use osc_cose::{Encrypt0, OpenError, ParseError, enc_structure, object_of, open0};
-use osc_model::{Algorithm, Bytes, ContextName, Note, SharedName, Side};
+use osc_model::{Algorithm, AssociatedData, Bytes, ContextName, Note, SharedName, Side};
 use std::alloc::{AllocError, Global};
 
 /// The tag of a CWT (RFC 8392 section 6).
@@ -167,7 +167,7 @@ fn note(
         side: Side::Server,
         number: 0,
         nonce: *iv,
-        aad: Bytes::from_vec(aad),
+        aad: AssociatedData::from_bytes(Bytes::from_vec(aad)),
         plaintext: text,
     })
 }
