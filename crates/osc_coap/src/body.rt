@@ -168,7 +168,7 @@ pub(crate) fn push_payload(
 }
 
 /// So many nought bytes.
-fn nought(size: usize) -> &'static [u8]
+pub(crate) fn nought(size: usize) -> &'static [u8]
     requires { size ≤ datagram_limit }
     ensures { result.now ≡ replicate size 0 }
 {

@@ -41,6 +41,25 @@ impl Model for MessageBuilder {
     ghost invariant = { spec.IsKept };
 }
 
+/// Writes the header and the token of a message, where nothing is written yet (RFC 7252 section 3).
+fn write_header(
+    bytes: &mut ArrayVec<u8, DATAGRAM_LIMIT>,
+    kind: Kind,
+    code: u8,
+    id: u16,
+    token: &[u8],
+)
+    requires first { bytes.old.items ≡ [] }
+    requires size { length token.now ≤ 8 }
+    ensures { bytes.new.items ≡ spelling (bare kind code id token.now) }
+{
+    bytes.push(64 + 16 * kind.bits() + token.len() as u8);
+    bytes.push(code);
+    bytes.push((id / 256) as u8);
+    bytes.push((id % 256) as u8);
+    append(bytes, token);
+}
+
 impl MessageBuilder {
     /// A message with neither options nor payload. One with code 0.00 is no more than its header.
     pub fn start(kind: Kind, code: u8, id: u16, token: &[u8]) -> MessageBuilder
@@ -49,14 +68,21 @@ impl MessageBuilder {
         ensures { result ≡ bare kind code id token.now }
     {
         let mut bytes = ArrayVec::new();
-        bytes.push(64 + 16 * kind.bits() + token.len() as u8);
-        bytes.push(code);
-        bytes.push((id / 256) as u8);
-        bytes.push((id % 256) as u8);
-        append(&mut bytes, token);
+        write_header(&mut bytes, kind, code, id, token);
         MessageBuilder {
             written: Writer { bytes, last: 0 },
         }
+    }
+
+    /// Begins a message with neither options nor payload in the place of the one that is here.
+    pub fn restart(&mut self, kind: Kind, code: u8, id: u16, token: &[u8])
+        requires size { length token.now ≤ 8 }
+        requires empty { code ≡ 0 → token.now ≡ [] }
+        ensures { self.new ≡ bare kind code id token.now }
+    {
+        self.written.bytes.clear();
+        write_header(&mut self.written.bytes, kind, code, id, token);
+        self.written.last = 0;
     }
 
     /// Adds an option after the others.

@@ -3,7 +3,7 @@
 
 ghost use Rattle.std.specs.Prelude.{◌≡◌, ◌<◌, ◌≤◌, ◌+◌, ◌^◌, ◌++◌, ℕ, List, [], Bool, Ok, Some, None, length, filter, sum_by};
 ghost use Rattle.osc_coap.specs.declared.kind.Kind.{Kind as AnyKind};
-ghost use Rattle.osc_coap.specs.Message.{NumberAndValue, Message, IsOptionBehind, AreOptions, HasSpelling, Spells, spelling};
+ghost use Rattle.osc_coap.specs.Message.{NumberAndValue, Message, IsOptionBehind, AreOptions, HasSpelling, Spells, option_spelling, payload_spelling, spelling};
 ghost use Rattle.osc_coap.specs.Plaintext.{Plaintext, HasPlaintextSpelling, SpellsPlaintext, plaintext_spelling};
 ghost use Rattle.osc_coap.specs.Header.{HasHeader};
 ghost use Rattle.osc_coap.specs.Reading.{AreBytes, message_at, plaintext_at};
@@ -67,6 +67,14 @@ pub fn growing()
         → last_number 0 (with_option m number value).options ≡ number }
     ensures payload { (m : Message) (bytes : List ℕ)
         → HasSpelling m → 0 < m.code → HasSpelling (with_payload m bytes) }
+{}
+
+/// What each step adds to the spelling: its bytes are the last.
+pub fn spelling_of_growing()
+    ensures option { (m : Message) (number : ℕ) (value : List ℕ) → m.payload ≡ None
+        → spelling (with_option m number value) ≡ spelling m ++ option_spelling (last_number 0 m.options) (number, value) }
+    ensures payload { (m : Message) (bytes : List ℕ) → m.payload ≡ None
+        → spelling (with_payload m bytes) ≡ spelling m ++ payload_spelling (payload_of bytes) }
 {}
 
 /// By how much each step makes the spelling longer, exactly, and at most.

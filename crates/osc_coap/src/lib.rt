@@ -13,6 +13,7 @@ mod message;
 mod options;
 mod payload;
 mod plaintext;
+mod written;
 
 pub use body::{DATAGRAM_LIMIT, option_length};
 pub use builder::MessageBuilder;
@@ -24,3 +25,4 @@ pub use message::MessageRef;
 pub use options::{Options, PAYLOAD_MARKER};
 pub use payload::PayloadWriter;
 pub use plaintext::{PlaintextBuilder, PlaintextRef};
+pub use written::{append_empty_option, append_payload, write_start};

@@ -139,6 +139,15 @@ impl PlaintextBuilder {
         }
     }
 
+    /// Begins a plaintext with neither options nor payload in the place of the one that is here.
+    pub fn restart(&mut self, code: u8)
+        ensures { self.new ≡ bare_plaintext code }
+    {
+        self.written.bytes.clear();
+        self.written.bytes.push(code);
+        self.written.last = 0;
+    }
+
     /// Adds an option after the others.
     pub fn option(&mut self, number: u16, value: &[u8]) -> Result<(), DatagramTooLong>
         requires rises { last_number 0 self.old.options ≤ number }
