@@ -1,6 +1,6 @@
 //! Messages as they go into OSCORE's protection, and as they come from it (RFC 8613 sections 4.1 and 5.3).
 ghost use Rattle.std.specs.Prelude.{◌≡◌, ◌<◌, ◌≤◌, ◌↔◌, None, length, IsOk, IfOk, OnOk};
-ghost use Rattle.osc_coap.specs.{spelling, plaintext_spelling, last_number, datagram_limit};
+ghost use Rattle.osc_coap.specs.{spelling, plaintext_spelling, last_number, with_payload, datagram_limit};
 ghost use Rattle.osc_options.specs.Split as spec;
 ghost use Rattle.osc_options.specs.Inner.Merging.{message_with, with_options, with_inner_options};
 ghost use Rattle.osc_options.specs.Split.{AreInOrder};
@@ -49,6 +49,24 @@ fn add_inner_options(
     Ok(())
 }
 
+/// Adds options and a payload to a message.
+fn fill(
+    message: &mut MessageBuilder,
+    options: Merged<'_>,
+    payload: &[u8],
+) -> Result<(), DatagramTooLong>
+    requires code { 0 < message.old.code }
+    requires first { message.old.payload ≡ None }
+    requires order { AreInOrder (last_number 0 message.old.options) options }
+    ensures ok { OnOk result (message.new ≡ with_payload (with_options message.old options.entry) payload.now) }
+    ensures fits { IsOk result
+        ↔ (length (spelling (with_payload (with_options message.old options.entry) payload.now)) ≤ datagram_limit) }
+{
+    length_of_spelling();
+    add_options(message, options)?;
+    message.payload(payload)
+}
+
 /// The message of these fields, options and payload.
 fn message_of(
     kind: Kind,
@@ -65,10 +83,8 @@ fn message_of(
     ensures fits { IsOk result
         ↔ (length (spelling (message_with kind code id token.now options.entry payload.now)) ≤ datagram_limit) }
 {
-    length_of_spelling();
     let mut message = MessageBuilder::start(kind, code, id, token);
-    add_options(&mut message, options)?;
-    message.payload(payload)?;
+    fill(&mut message, options, payload)?;
     Ok(message)
 }
 
@@ -86,30 +102,25 @@ pub fn plaintext_of(message: &MessageRef<'_>) -> Result<PlaintextBuilder, Datagr
     Ok(plaintext)
 }
 
-/// The message that is sent in place of one: of its kind, message ID and token, with this code, its options of class U
+/// Writes the message that is sent in place of one: of its kind, message ID and token, with this code, its options of class U
 /// and OSCORE's own option of this value, and what was encrypted as its payload. Refused only where it is longer than a
-/// datagram may be.
-pub fn protected_message(
+/// datagram may be; `out` is then any message.
+pub fn write_protected(
+    out: &mut MessageBuilder,
     message: &MessageRef<'_>,
     code: u8,
     value: &[u8],
     payload: &[u8],
-) -> Result<MessageBuilder, DatagramTooLong>
+) -> Result<(), DatagramTooLong>
     requires { 0 < code }
-    ensures ok { IfOk result (λ m. m ≡ spec.protected message.now code value.now payload.now) }
+    ensures ok { OnOk result (out.new ≡ spec.protected message.now code value.now payload.now) }
     ensures fits { IsOk result
         ↔ (length (spelling (spec.protected message.now code value.now payload.now)) ≤ datagram_limit) }
 {
     fewer_options();
     let options = with_oscore(outer_options(message.options()), value);
-    message_of(
-        message.kind(),
-        code,
-        message.id(),
-        message.token(),
-        options,
-        payload,
-    )
+    out.restart(message.kind(), code, message.id(), message.token());
+    fill(out, options, payload)
 }
 
 /// The message that results from a protected one and the plaintext in it: kind, message ID, token and options of class U of

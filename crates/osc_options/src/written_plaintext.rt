@@ -1,5 +1,5 @@
 //! What is encrypted of a request, written from the request (RFC 7252 section 5.10, RFC 8613 section 5.3).
-ghost use Rattle.std.specs.Prelude.{◌≡◌, ◌≤◌, ◌↔◌, None, length, IsOk, IfOk, OnOk};
+ghost use Rattle.std.specs.Prelude.{◌≡◌, ◌≤◌, ◌↔◌, None, length, IsOk, OnOk};
 ghost use Rattle.osc_coap.specs.{plaintext_spelling, datagram_limit, last_number};
 ghost use Rattle.osc_options.specs.Inner.Merging.{with_inner_options};
 ghost use Rattle.osc_options.specs.Requests.{each, segments_of, none_match_options, path_options, uint_options, request_options};
@@ -114,16 +114,18 @@ fn add_options(plaintext: &mut PlaintextBuilder, request: &Request) -> Result<()
     add_uint(plaintext, ACCEPT, request.accept)
 }
 
-/// The plaintext of a request (RFC 8613 section 5.3): its code, its options If-Match, If-None-Match, Uri-Path, Content-Format and Accept
-/// and its payload, as `plaintext_of` makes it of the message that carries the request; refused only where it is longer than a datagram
-/// may be.
-pub fn request_plaintext(request: &Request) -> Result<PlaintextBuilder, DatagramTooLong>
-    ensures ok { IfOk result (λ plaintext. plaintext ≡ plaintext_of_request request.now) }
+/// Writes the plaintext of a request (RFC 8613 section 5.3): its code, its options If-Match, If-None-Match, Uri-Path, Content-Format and
+/// Accept and its payload, as `plaintext_of` makes it of the message that carries the request. Refused only where it is longer than a
+/// datagram may be; `plaintext` is then any plaintext.
+pub fn write_request(
+    plaintext: &mut PlaintextBuilder,
+    request: &Request,
+) -> Result<(), DatagramTooLong>
+    ensures ok { OnOk result (plaintext.new ≡ plaintext_of_request request.now) }
     ensures fits { IsOk result ↔ (length (plaintext_spelling (plaintext_of_request request.now)) ≤ datagram_limit) }
 {
     length_of_plaintext();
-    let mut plaintext = PlaintextBuilder::start(request.code.0);
-    add_options(&mut plaintext, request)?;
-    plaintext.payload(request.payload.as_slice())?;
-    Ok(plaintext)
+    plaintext.restart(request.code.0);
+    add_options(plaintext, request)?;
+    plaintext.payload(request.payload.as_slice())
 }

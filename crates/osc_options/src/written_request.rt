@@ -5,9 +5,9 @@ ghost use Rattle.osc_options.specs.Requests.{with_request};
 
 use crate::laws::a_written_request;
 use crate::protection::unprotected_message;
-use crate::written_plaintext::request_plaintext;
+use crate::written_plaintext::write_request;
 use osc_coap::laws::{length_of_plaintext, length_of_spelling};
-use osc_coap::{DatagramTooLong, Kind, MessageBuilder, PlaintextRef};
+use osc_coap::{DatagramTooLong, Kind, MessageBuilder, PlaintextBuilder, PlaintextRef};
 use osc_model::Request;
 
 /// A message of this kind, message ID and token that is the request (RFC 7252 section 5.10), by its options If-Match,
@@ -28,7 +28,8 @@ pub fn request_message(
     length_of_plaintext();
     length_of_spelling();
     let outside = MessageBuilder::start(kind, request.code.0, id, token);
-    let plaintext = request_plaintext(request)?;
+    let mut plaintext = PlaintextBuilder::start(request.code.0);
+    write_request(&mut plaintext, request)?;
     unprotected_message(
         &outside.message(),
         &PlaintextRef::parse(plaintext.bytes()).unwrap(),

@@ -9,9 +9,9 @@ use Rattle.osc_options.proofs.written_request.request_message.Goals as goal
 pub returns : goal.returns
 returns c =
     let r = c.args.request.now in
-    let read : c.unwrap.result ≡ c.in_ok-plaintext.plaintext = same_Some _ _ (sym c.unwrap.ensures ∙ c.parse.ensures.only _ c.bytes.ensures.spelled) in
+    let read : c.unwrap.result ≡ c.write_request.new.plaintext = same_Some _ _ (sym c.unwrap.ensures ∙ c.parse.ensures.only _ c.bytes.ensures.spelled) in
     let put : unprotected c.message.result c.unwrap.result ≡ with_request (bare c.args.kind r.code.0 c.args.id c.args.token.now) r =
-    ap₂ unprotected (c.message.ensures ∙ c.start-outside.ensures) (read ∙ c.in_ok-plaintext.ensures.ok)
+    ap₂ unprotected (c.message.ensures ∙ c.start-outside.ensures) (read ∙ c.in_ok-write_request.ensures.ok)
     ∙ c.a_written_request.ensures.alone c.args.kind r.code.0 c.args.id c.args.token.now r in
     record {
       ok = subst (λ (m : Message). IfOk c.unprotected_message.result (λ message. message ≡ m)) put c.unprotected_message.ensures.ok;
