@@ -61,7 +61,7 @@ fn again(alloc: Global, from: Peer, reply: Option<&Bytes>) -> Result<Datagrams, 
     ensures needs_memory { IsErr result → IsSome reply.entry }
 {
     match reply {
-        Some(bytes) => one_datagram(alloc, from, bytes.clone()?),
+        Some(bytes) => Ok(one_datagram(alloc, from, bytes.clone()?)),
         None => Ok(Datagrams::new(alloc)),
     }
 }

@@ -1,5 +1,5 @@
 //! Room for what a step sends and notes, taken before the step's first change: what is put there takes no memory.
-ghost use Rattle.std.specs.Prelude.{◌≡◌, ◌≤◌, ◌<◌, ◌-◌, [], ◌∷◌, ◌++◌, length, IfOk};
+ghost use Rattle.std.specs.Prelude.{◌≡◌, ◌≤◌, ◌<◌, ◌-◌, [], ◌∷◌, ◌++◌, length, vec_capacity, vec_len, IfOk};
 ghost use Rattle.osc_message.specs.Sending.{AreSendable, FitsDatagram};
 
 use osc_model::{Bytes, Datagram, Datagrams, Peer};
@@ -14,13 +14,13 @@ pub struct Buffer {
 }
 
 impl Model for Buffer {
-    ghost use Rattle.std.specs.Prelude.{ℕ, ◌≡◌, ◌≤◌, [], vec_capacity};
+    ghost use Rattle.std.specs.Prelude.{ℕ, ◌≡◌, ◌≤◌, [], vec_capacity, vec_len};
 
     ghost Value = { ℕ };
 
     ghost view = { λ b. b.size };
 
-    ghost invariant = { λ b. (b.bytes.items ≡ []) × (b.size ≤ vec_capacity b.bytes) };
+    ghost invariant = { λ b. (b.bytes.items ≡ []) × (vec_len b.bytes ≡ 0) × (b.size ≤ vec_capacity b.bytes) };
 }
 
 impl Buffer {
@@ -45,6 +45,15 @@ impl Buffer {
         } = self;
         room.extend_from_slice(bytes).unwrap();
         Bytes::from_vec(room)
+    }
+
+    /// The room as an empty vector; takes no memory.
+    pub fn into_vec(self) -> Vec<u8>
+        ensures empty { (result.items ≡ []) × (vec_len result ≡ 0) }
+        ensures room { self ≤ vec_capacity result }
+    {
+        let Buffer { bytes, .. } = self;
+        bytes
     }
 }
 
@@ -95,23 +104,21 @@ impl Outbox {
     }
 }
 
-/// Room for a reply: a place, and its bytes twice, to be sent and to be noted for a repeat. Contracts see how many bytes it is
-/// for.
+/// Room for a reply: its bytes twice, to be sent and to be noted for a repeat. Contracts see how many bytes it is for.
 #[derive(Drop)]
 pub struct ReplyRoom {
-    outbox: Outbox,
     sent: Buffer,
-    noted: Buffer,
+    noted: CopyRoom,
 }
 
 impl Model for ReplyRoom {
-    ghost use Rattle.std.specs.Prelude.{ℕ, ◌≡◌, []};
+    ghost use Rattle.std.specs.Prelude.{ℕ, ◌≡◌};
 
     ghost Value = { ℕ };
 
     ghost view = { λ r. r.sent };
 
-    ghost invariant = { λ r. (r.outbox ≡ record { sent = []; places = 1 }) × (r.noted ≡ r.sent) };
+    ghost invariant = { λ r. r.noted ≡ r.sent };
 }
 
 impl ReplyRoom {
@@ -120,26 +127,67 @@ impl ReplyRoom {
         ensures { IfOk result (λ room. room ≡ size) }
     {
         Ok(ReplyRoom {
-            outbox: Outbox::new(alloc, 1)?,
             sent: Buffer::new(alloc, size)?,
-            noted: Buffer::new(alloc, size)?,
+            noted: CopyRoom::new(alloc, size)?,
         })
     }
 
     /// The reply's datagram, and its bytes to be noted; takes no memory.
-    #[tactic(auto, using(crate::proofs::Notes::one_fits))]
     pub fn fill(self, to: Peer, bytes: &[u8]) -> (Datagrams, Bytes)
         requires { length bytes.now ≤ self }
         ensures sent { result.0 ≡ (record { to = to; bytes = bytes.now }) ∷ [] }
         ensures noted { result.1 ≡ bytes.now }
         ensures fits { FitsDatagram bytes.now → AreSendable result.0 }
     {
-        let ReplyRoom {
-            mut outbox,
-            sent,
-            noted,
-        } = self;
-        outbox.send(to, sent.fill(bytes));
-        (outbox.into_datagrams(), noted.fill(bytes))
+        let (sent, noted) = self.open();
+        noted.fill(to, sent.fill(bytes))
+    }
+
+    /// Room for the bytes that are sent, and room for their copy; takes no memory.
+    pub fn open(self) -> (Buffer, CopyRoom)
+        ensures { (result.0 ≡ self) × (result.1 ≡ self) }
+    {
+        let ReplyRoom { sent, noted } = self;
+        (sent, noted)
+    }
+}
+
+/// Room for a reply's copy, which is noted for a repeat. Contracts see how many bytes it is for.
+#[derive(Drop)]
+pub struct CopyRoom {
+    copy: Buffer,
+    alloc: Global,
+}
+
+impl Model for CopyRoom {
+    ghost use Rattle.std.specs.Prelude.{ℕ};
+
+    ghost Value = { ℕ };
+
+    ghost view = { λ r. r.copy };
+}
+
+impl CopyRoom {
+    /// Room for a copy of so many bytes.
+    fn new(alloc: Global, size: usize) -> Result<CopyRoom, AllocError>
+        ensures { IfOk result (λ room. room ≡ size) }
+    {
+        Ok(CopyRoom {
+            copy: Buffer::new(alloc, size)?,
+            alloc,
+        })
+    }
+
+    /// The datagram of these bytes, which are not copied, and their copy to be noted; takes no memory.
+    #[tactic(auto, using(crate::proofs::Notes::one_fits))]
+    pub fn fill(self, to: Peer, bytes: Bytes) -> (Datagrams, Bytes)
+        requires { length bytes ≤ self }
+        ensures sent { result.0 ≡ (record { to = to; bytes = bytes }) ∷ [] }
+        ensures noted { result.1 ≡ bytes }
+        ensures fits { FitsDatagram bytes → AreSendable result.0 }
+    {
+        let CopyRoom { copy, alloc } = self;
+        let noted = copy.fill(bytes.as_slice());
+        (Datagrams::one(alloc, Datagram { to, bytes }), noted)
     }
 }

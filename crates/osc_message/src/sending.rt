@@ -64,16 +64,14 @@ pub fn reply_kind(kind: Kind) -> Kind
     }
 }
 
-/// These bytes, as the one datagram to the peer.
+/// These bytes, as the one datagram to the peer; takes no memory.
 #[tactic(auto, using(crate::proofs::Notes::one_fits))]
-pub(crate) fn one_datagram(alloc: Global, to: Peer, bytes: Bytes) -> Result<Datagrams, AllocError>
+pub(crate) fn one_datagram(alloc: Global, to: Peer, bytes: Bytes) -> Datagrams
     requires { FitsDatagram bytes }
-    ensures sent { IfOk result (λ out. out ≡ (record { to = to; bytes = bytes }) ∷ []) }
-    ensures fits { IfOk result AreSendable }
+    ensures sent { result ≡ (record { to = to; bytes = bytes }) ∷ [] }
+    ensures fits { AreSendable result }
 {
-    let mut out = Datagrams::new(alloc);
-    out.push(Datagram { to, bytes })?;
-    Ok(out)
+    Datagrams::one(alloc, Datagram { to, bytes })
 }
 
 /// This message, as the one datagram to the peer.
@@ -86,7 +84,7 @@ pub fn one_message(
     ensures lawful { IfOk result (λ _. HasSpelling message.now) }
     ensures fits { IfOk result AreSendable }
 {
-    one_datagram(alloc, to, Bytes::from_slice(alloc, message.bytes())?)
+    Ok(one_datagram(alloc, to, Bytes::from_slice(alloc, message.bytes())?))
 }
 
 /// The Reset that rejects the message of this ID, as the one datagram to the peer.
