@@ -1,11 +1,11 @@
 //! What a request does.
-ghost use Rattle.std.specs.Prelude.{◌≡◌, ◌≤◌, ◌<◌, false, length, Some, if◌then◌else◌, IsTrue, IsSome, IfOk, OnOk, OnErr, option_copied};
+ghost use Rattle.std.specs.Prelude.{◌≡◌, ◌≤◌, ◌<◌, false, length, Some, if◌then◌else◌, IsTrue, IsSome, IfOk, IfSome, OnOk, OnErr, option_copied};
 ghost use Rattle.std.specs.FinMap as map;
-ghost use Rattle.osc_model.specs.{code, method_of, most_resources, longest_payload, bare, takes_memory, written as new_resource, apply as outcome, read as reading};
+ghost use Rattle.osc_model.specs.{code, etag_of, method_of, most_resources, longest_payload, bare, takes_memory, written as new_resource, apply as outcome, read as reading};
 ghost use Rattle.osc_model.specs.Tree.{Tree as AnyTree};
 
 use crate::checks::accepted;
-use crate::tags::etag;
+use crate::tagged::Tagged;
 use crate::tree::Tree;
 use osc_model::{Bytes, Code, Method, Path, Reply, Request, Resource};
 use osc_scope::Scope;
@@ -15,8 +15,8 @@ impl Tree {
     /// Does what the request asks under this scope, and answers it: the reply, and the tree after it, are those of the
     /// definition `apply`, with 4.03, 4.05, 4.12, 4.04, 4.06, 4.13 and 5.03 for the checks that fail, the first of them
     /// alone. Without memory for the reply or the resource an `AllocError`, and the tree stays as it was; a refusal and
-    /// a DELETE take no memory. The path is looked up once, and once more to write or to remove, in logarithmic time; it is
-    /// copied only where it is new.
+    /// a DELETE take no memory. The path is looked up once, and once more to write or to remove, or to keep the ETag of the
+    /// first GET after a write, in logarithmic time; it is copied only where it is new.
     #[tactic(auto, unfolding(osc_model::specs::Apply::apply))]
     pub fn apply(
         &mut self,
@@ -35,7 +35,14 @@ impl Tree {
         match accepted(self, scope, path, request) {
             Err(code) => Ok(Reply::bare(alloc, code)),
             Ok(found) => match Method::from_code(request.code) {
-                Some(Method::Get) => read(alloc, found),
+                Some(Method::Get) => {
+                    let is_kept = is_kept(found);
+                    let reply = read(alloc, found)?;
+                    if !is_kept {
+                        self.keep_tag(path, reply.etag);
+                    }
+                    Ok(reply)
+                }
                 Some(Method::Delete) => {
                     self.remove(path);
                     Ok(Reply::bare(alloc, Code::DELETED))
@@ -76,18 +83,27 @@ impl Tree {
     }
 }
 
+// Whether nothing is there, or what is there has its ETag kept.
+fn is_kept(found: Option<&Tagged>) -> bool {
+    match found {
+        None => true,
+        Some(found) => found.is_kept(),
+    }
+}
+
 // Answers what the path has.
-fn read(alloc: Global, found: Option<&Resource>) -> Result<Reply, AllocError>
+fn read(alloc: Global, found: Option<&Tagged>) -> Result<Reply, AllocError>
+    ensures etag { IfOk result (λ reply. IfSome (option_copied found.entry) (λ resource. reply.etag ≡ Some (etag_of resource))) }
     ensures reply { (tree : AnyTree) → IfOk result (λ reply. reply ≡ (reading tree (option_copied found.entry)).reply) }
     ensures needs_memory { OnErr result (IsSome (option_copied found.entry)) }
 {
     match found {
         None => Ok(Reply::bare(alloc, Code::NOT_FOUND)),
-        Some(resource) => Ok(Reply {
+        Some(found) => Ok(Reply {
             code: Code::CONTENT,
-            etag: Some(etag(resource)),
-            format: resource.format,
-            payload: resource.payload.clone()?,
+            etag: Some(found.tag()),
+            format: found.resource().format,
+            payload: found.resource().payload.clone()?,
         }),
     }
 }
@@ -96,17 +112,20 @@ fn read(alloc: Global, found: Option<&Resource>) -> Result<Reply, AllocError>
 fn written(
     alloc: Global,
     method: Option<Method>,
-    found: Option<&Resource>,
+    found: Option<&Tagged>,
     request: &Request,
 ) -> Result<Option<Resource>, AllocError>
     ensures value { IfOk result (λ new. new ≡ new_resource method (option_copied found.entry) request.now) }
     ensures needs_memory { OnErr result (IsSome (new_resource method (option_copied found.entry) request.now)) }
 {
     match (method, found) {
-        (Some(Method::Post), Some(old)) => Ok(Some(Resource {
-            format: old.format,
-            payload: Bytes::joined(alloc, old.payload.as_slice(), request.payload.as_slice())?,
-        })),
+        (Some(Method::Post), Some(found)) => {
+            let old = found.resource();
+            Ok(Some(Resource {
+                format: old.format,
+                payload: Bytes::joined(alloc, old.payload.as_slice(), request.payload.as_slice())?,
+            }))
+        }
         (Some(Method::Put | Method::Post), _) => Ok(Some(Resource {
             format: request.format,
             payload: request.payload.clone()?,

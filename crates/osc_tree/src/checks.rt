@@ -4,9 +4,9 @@ ghost use Rattle.std.specs.FinMap as map;
 ghost use Rattle.std.specs.List.{list_any};
 ghost use Rattle.osc_model.specs.{code, method_of, longest_payload, payload_length as length_of, AllowsWrite, refusal as refuses, method_checks, first_failing, is_matched as matches, is_acceptable as accepts};
 
-use crate::tags::etag;
+use crate::tagged::Tagged;
 use crate::tree::{LONGEST_PAYLOAD, Tree};
-use osc_model::{Code, ETag, Method, Path, Request, Resource};
+use osc_model::{Code, ETag, Method, Path, Request};
 use osc_scope::{Scope, Verdict};
 
 /// What the path has, where no check fails, and else the code of the first that does; what passes can be written. Looks the
@@ -16,7 +16,7 @@ pub fn accepted<'a>(
     scope: &Scope,
     path: &Path,
     request: &Request,
-) -> Result<Option<&'a Resource>, Code>
+) -> Result<Option<&'a Tagged>, Code>
     ensures found { IfOk result (λ found. option_copied found ≡ map.get tree.now path.now) }
     ensures passes { OnOk result (refuses tree.now scope.now path.now request.now ≡ None) }
     ensures writes { OnOk result (AllowsWrite tree.now path.now request.now) }
@@ -33,7 +33,7 @@ fn checked<'a>(
     scope: &Scope,
     path: &Path,
     request: &Request,
-) -> Result<Option<&'a Resource>, Code>
+) -> Result<Option<&'a Tagged>, Code>
     ensures found { IfOk result (λ found. option_copied found ≡ map.get tree.now path.now) }
     ensures passes { OnOk result (refuses tree.now scope.now path.now request.now ≡ None) }
     ensures fails { IfErr result (λ code. refuses tree.now scope.now path.now request.now ≡ Some code) }
@@ -44,7 +44,7 @@ fn checked<'a>(
         Verdict::NoMethod => return Err(Code::METHOD_NOT_ALLOWED),
         Verdict::Granted => {}
     }
-    let found = tree.get(path);
+    let found = tree.find(path);
     match refusal(found, tree.is_full(), request) {
         Some(code) => Err(code),
         None => Ok(found),
@@ -52,7 +52,7 @@ fn checked<'a>(
 }
 
 // The checks of what is there: the conditions of the request, and then those of its method.
-fn refusal(found: Option<&Resource>, is_full: bool, request: &Request) -> Option<Code>
+fn refusal(found: Option<&Tagged>, is_full: bool, request: &Request) -> Option<Code>
     ensures { result ≡ first_failing ((matches (option_copied found.entry) request.now.if_match, code 4 12)
         ∷ (not (request.now.if_none_match && is_some (option_copied found.entry)), code 4 12)
         ∷ method_checks (method_of request.now.code) (option_copied found.entry) is_full request.now) }
@@ -69,7 +69,7 @@ fn refusal(found: Option<&Resource>, is_full: bool, request: &Request) -> Option
 // The checks of one method: what a GET reads is there and acceptable, what a PUT or a POST writes has room.
 fn method_refusal(
     method: Option<Method>,
-    found: Option<&Resource>,
+    found: Option<&Tagged>,
     is_full: bool,
     request: &Request,
 ) -> Option<Code>
@@ -78,8 +78,8 @@ fn method_refusal(
     match method {
         Some(Method::Get) => match found {
             None => Some(Code::NOT_FOUND),
-            Some(resource) => {
-                if is_acceptable(request.accept, resource.format) {
+            Some(found) => {
+                if is_acceptable(request.accept, found.resource().format) {
                     None
                 } else {
                     Some(Code::NOT_ACCEPTABLE)
@@ -109,19 +109,19 @@ fn write_refusal(length: usize, is_over: bool) -> Option<Code>
 }
 
 // The length of what is there; nothing counts as no bytes.
-fn payload_length(found: Option<&Resource>) -> usize
+fn payload_length(found: Option<&Tagged>) -> usize
     ensures length { result ≡ length_of (option_copied found.entry) }
     ensures small { result < 2 ^ 63 }
 {
     match found {
         None => 0,
-        Some(resource) => resource.payload.len(),
+        Some(found) => found.resource().payload.len(),
     }
 }
 
 // If-Match (RFC 7252 section 5.10.8.1): whether there is no value, or one of them is the ETag of what is there, or
 // is empty and something is there.
-fn is_matched(found: Option<&Resource>, tags: &[ETag]) -> bool
+fn is_matched(found: Option<&Tagged>, tags: &[ETag]) -> bool
     ensures { result ≡ matches (option_copied found.entry) tags.now }
 {
     if tags.is_empty() {
@@ -129,7 +129,7 @@ fn is_matched(found: Option<&Resource>, tags: &[ETag]) -> bool
     }
     match found {
         None => false,
-        Some(resource) => has_match(tags, &etag(resource)),
+        Some(found) => has_match(tags, &found.tag()),
     }
 }
 

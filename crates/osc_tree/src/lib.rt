@@ -3,8 +3,11 @@
 
 mod apply;
 mod checks;
+mod resources;
+mod tagged;
 mod tags;
 mod tree;
 
+pub use resources::Resources;
 pub use tags::etag;
 pub use tree::{LONGEST_PAYLOAD, MOST_RESOURCES, Tree};

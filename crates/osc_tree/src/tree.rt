@@ -1,13 +1,14 @@
 //! The tree.
-ghost use Rattle.std.specs.Prelude.{◌≡◌, ◌≤◌, ◌<◌, ◌==◌, false, length, nat_le, option_copied, IfOk, OnOk, OnErr, IsSome, Some};
-ghost use Rattle.std.specs.BTreeMap.{Updates, get_by};
+ghost use Rattle.std.specs.Prelude.{◌≡◌, ◌≤◌, ◌<◌, ◌==◌, false, length, nat_le, option_copied, IfOk, IfSome, OnOk, OnErr, IsSome, Some};
+ghost use Rattle.std.specs.BTreeMap.{IsUnchanged, Updates, get_by};
 ghost use Rattle.std.specs.FinMap as map;
-ghost use Rattle.osc_model.specs.{path_cmp, IsWithinLimits, most_resources, longest_payload};
+ghost use Rattle.osc_model.specs.{path_cmp, etag_of, IsWithinLimits, most_resources, longest_payload};
 
+use crate::resources::Resources;
+use crate::tagged::Tagged;
 use osc_model::{Path, Resource, laws};
 use std::alloc::{AllocError, Global};
 use std::collections::BTreeMap;
-use std::collections::btree_map::Iter;
 use std::marker::Model;
 
 /// How many resources a tree has at most.
@@ -17,10 +18,10 @@ pub const MOST_RESOURCES: usize = 1024;
 pub const LONGEST_PAYLOAD: usize = 512;
 
 /// A finite map from paths to resources: at most 1024, each of at most 512 bytes. To look a path up takes logarithmic
-/// time and no memory.
+/// time and no memory. An ETag that was answered is kept beside its resource until that is written.
 #[derive(Debug)]
 pub struct Tree {
-    resources: BTreeMap<Path, Resource>,
+    resources: BTreeMap<Path, Tagged>,
 }
 
 impl Drop for Tree {
@@ -59,8 +60,28 @@ impl Tree {
         ensures found { option_copied result ≡ map.get self.now path.now }
         ensures limits { IsWithinLimits self.now }
     {
+        match self.find(path) {
+            Some(found) => Some(found.resource()),
+            None => None,
+        }
+    }
+
+    /// The same, with its ETag where that is kept.
+    pub(crate) fn find(&self, path: &Path) -> Option<&Tagged>
+        ensures found { option_copied result ≡ map.get self.now path.now }
+        ensures limits { IsWithinLimits self.now }
+    {
         laws::paths_are_ordered();
         self.resources.get(path)
+    }
+
+    /// Keeps the ETag of what the path has; takes no memory.
+    pub(crate) fn keep_tag(&mut self, path: &Path, tag: Option<[u8; 8]>)
+        requires { IfSome (map.get self.old path.now) (λ resource. tag ≡ Some (etag_of resource)) }
+        ensures { self.new ≡ self.old }
+    {
+        laws::paths_are_ordered();
+        keep_in(&mut self.resources, path, tag);
     }
 
     /// How many resources there are.
@@ -96,7 +117,7 @@ impl Tree {
     {
         laws::paths_are_ordered();
         laws::trees_stay_within_limits();
-        self.resources.insert(path, resource)?;
+        self.resources.insert(path, Tagged::new(resource))?;
         Ok(())
     }
 
@@ -121,11 +142,13 @@ impl Tree {
     }
 
     /// The paths with their resources, in the byte order of the paths' texts; takes no memory.
-    pub fn iter(&self) -> Iter<'_, Path, Resource>
+    pub fn iter(&self) -> Resources<'_>
         ensures { result ≡ map.entries self.now }
     {
         laws::paths_are_ordered();
-        self.resources.iter()
+        Resources {
+            entries: self.resources.iter(),
+        }
     }
 
     /// Another tree of the same resources. Without memory an `AllocError`.
@@ -139,11 +162,21 @@ impl Tree {
 }
 
 // Writes over what the path has.
-fn replace_in(resources: &mut BTreeMap<Path, Resource>, path: &Path, resource: Resource)
+fn replace_in(resources: &mut BTreeMap<Path, Tagged>, path: &Path, resource: Resource)
     requires { IsSome (get_by (path_cmp path.now) resources.old) }
     ensures { Updates path_cmp resources.old resources.new path.now (Some resource) }
 {
     if let Some(found) = resources.get_mut(path) {
-        *found = resource;
+        found.set(resource);
+    }
+}
+
+// Keeps the ETag of what the path has.
+fn keep_in(resources: &mut BTreeMap<Path, Tagged>, path: &Path, tag: Option<[u8; 8]>)
+    requires { IfSome (get_by (path_cmp path.now) resources.old) (λ resource. tag ≡ Some (etag_of resource)) }
+    ensures { IsUnchanged resources.old resources.new }
+{
+    if let Some(found) = resources.get_mut(path) {
+        found.keep(tag);
     }
 }
