@@ -6,4 +6,5 @@ pub mod LawAad
 pub mod LawMessages
 mod AadLemmas
 mod LengthLemmas
+mod OuterLaws
 pub mod SealLaws

@@ -1,21 +1,17 @@
 -- What is sealed from a request or a reply is what is sealed of the message that carries it.
-use Rattle.std.proofs.Common.{◌≡◌, ℕ, ◌+◌, List, [], ◌∷◌, length, replicate, Result, Ok, Err, None, refl, sym, ap, subst, ◌∙◌}
-use Rattle.std.specs.Result.{IfOk}
+use Rattle.std.proofs.Common.{◌≡◌, ℕ, ◌+◌, ◌<◌, ◌≤◌, List, [], ◌∷◌, ◌++◌, length, arith, replicate, None, refl, sym, ap, subst, ◌∙◌}
 use Rattle.osc_model.specs.declared.context.ContextName.{ContextName}
 use Rattle.osc_model.specs.declared.reply.Reply.{Reply}
 use Rattle.osc_model.specs.declared.request.Request.{Request}
-use Rattle.osc_coap.specs.{bare, NumberAndValue, AreOptions, spelling, plaintext_spelling}
+use Rattle.osc_coap.specs.{bare, with_payload, payload_of, payload_spelling, NumberAndValue, AreOptions, HasSpelling, Spells, spelling, plaintext_spelling}
 use Rattle.osc_coap.specs.Message.{Message}
 use Rattle.osc_options.specs.{reply_plaintext, request_plaintext, with_reply, AreInOrder, plaintext_of, protected, unprotected, reply_text}
 use Rattle.osc_context.specs.{algorithm_of}
 use Rattle.osc_ccm.specs.{Sealings, Tags}
 use Rattle.osc_protect.specs.Inner.Outside.{IsSealedOutside, outer_response}
-use Rattle.osc_protect.specs.{IsProtectedRequest, IsProtectedResponse, IsRequestOf, length_of_request, plain_bytes, reply_with_header, request_length, request_value, response_length, response_with}
+use Rattle.osc_protect.specs.{IsDraft, IsProtectedResponse, length_of_request, longest_message, plain_bytes, reply_with_header, request_length, request_value, request_with, response_length, response_with}
 use Rattle.osc_protect.specs.declared.header.Header.{Header}
-
-pub if_ok : {T E : Type 0} (r : Result T E) (P Q : T → Type 0) → ((x : T) → P x → Q x) → IfOk r P → IfOk r Q
-if_ok (Ok x) P Q f p = f x p
-if_ok (Err e) P Q f p = tt
+use Rattle.osc_protect.specs.declared.request.Draft.{Draft}
 
 order : (before : ℕ) (options : List NumberAndValue) → AreOptions before options → AreInOrder before options
 order before [] p = tt
@@ -42,15 +38,14 @@ module _ (inside_law : (outside : Message) (request : Request) → AreInOrder 0 
       ∙ sym (ap (λ (m : Message). length (spelling m))
       (outside_law outside request 2 (request_value name number) (replicate (length (plain_bytes (whole outside request)) + tag (algorithm_of name)) 0) (order 0 outside.options p)))
 
-  pub request_sealed : (is_sealing : Sealings) (name : ContextName) (number : ℕ) (outside : Message) (request : Request) (p : Message) → AreOptions 0 outside.options
-      → IsRequestOf is_sealing (text_of request) name number outside p → IsProtectedRequest is_sealing name number (whole outside request) p
-  request_sealed is_sealing name number outside request p lawful made =
-      subst (λ (text : List ℕ). IsRequestOf is_sealing text name number (whole outside request) p) (request_text outside request lawful)
-      (record {
-        sealed = made.sealed;
-        is_sealed = made.is_sealed;
-        whole = made.whole ∙ sym (outside_law outside request 2 (request_value name number) made.sealed (order 0 outside.options lawful));
-      })
+  pub drafted : (tag : Tags) (name : ContextName) (number : ℕ) (outside : Message) (request : Request) (draft : Draft) → AreOptions 0 outside.options
+      → draft.message ≡ request_with name number outside [] → plaintext_spelling draft.plaintext ≡ text_of request → request_length tag name number (whole outside request) ≤ longest_message
+      → IsDraft tag name number (whole outside request) draft
+  drafted tag name number outside request draft p out text fits = record {
+    outside = out ∙ sym (outside_law outside request 2 (request_value name number) [] (order 0 outside.options p));
+    inside = text ∙ request_text outside request p;
+    fits = fits;
+  }
 
 -- ---- a reply
 
@@ -69,13 +64,19 @@ module _ (plaintext_law : (message : Message) (reply : Reply) → plaintext_of (
       ap (λ (text : List ℕ). length (spelling (outer_response header (replicate (length text + tag) 0)))) (reply_text_is header reply)
       ∙ ap (λ (m : Message). length (spelling m)) (outer_is header reply (replicate (length (plain_bytes (reply_with_header header reply)) + tag) 0))
 
-  pub reply_sealed : (is_sealing : Sealings) (name : ContextName) (number : ℕ) (header : Header) (reply : Reply) (p : Message)
-      → IsSealedOutside is_sealing name number (reply_text reply) header p → IsProtectedResponse is_sealing name number None (reply_with_header header reply) p
-  reply_sealed is_sealing name number header reply p made =
-      let at_text : IsSealedOutside is_sealing name number (plain_bytes (reply_with_header header reply)) header p =
-      subst (λ (text : List ℕ). IsSealedOutside is_sealing name number text header p) (reply_text_is header reply) made in
-      record {
-        sealed = at_text.sealed;
-        is_sealed = at_text.is_sealed;
-        whole = at_text.whole ∙ outer_is header reply at_text.sealed;
-      }
+  pub reply_sealed : (growing : (m : Message) (bytes : List ℕ) → HasSpelling m → 0 < m.code → HasSpelling (with_payload m bytes))
+      → (spelled : (m : Message) (bytes : List ℕ) → m.payload ≡ None → spelling (with_payload m bytes) ≡ spelling m ++ payload_spelling (payload_of bytes))
+      → (is_sealing : Sealings) (name : ContextName) (number : ℕ) (header : Header) (reply : Reply) (bytes : List ℕ)
+      → IsSealedOutside is_sealing name number (reply_text reply) header bytes
+      → (answer : Message) × IsProtectedResponse is_sealing name number None (reply_with_header header reply) answer × Spells bytes answer
+  reply_sealed growing spelled is_sealing name number header reply bytes made =
+      let at_text : IsSealedOutside is_sealing name number (plain_bytes (reply_with_header header reply)) header bytes =
+      subst (λ (text : List ℕ). IsSealedOutside is_sealing name number text header bytes) (reply_text_is header reply) made in
+      let start : Message = outer_response header [] in (
+        outer_response header at_text.sealed,
+        record { sealed = at_text.sealed; is_sealed = at_text.is_sealed; whole = outer_is header reply at_text.sealed },
+        record {
+          lawful = growing start at_text.sealed at_text.begins.lawful (omega arith);
+          whole = at_text.whole ∙ ap (λ (t : List ℕ). t ++ payload_spelling (payload_of at_text.sealed)) at_text.begins.whole ∙ sym (spelled start at_text.sealed refl);
+        },
+      )

@@ -1,5 +1,5 @@
 -- Protected requests and responses (RFC 8613 sections 4, 5 and 8).
-use Rattle.std.specs.Prelude.{◌≡◌, ℕ, ◌+◌, ◌≤◌, List, length, replicate, Option, Some, None, IfSome}
+use Rattle.std.specs.Prelude.{◌≡◌, ℕ, ◌+◌, ◌≤◌, List, [], length, replicate, Option, Some, None, IfSome}
 use Rattle.std.specs.Option.{ForSome}
 use Rattle.osc_model.specs.declared.context.ContextName.{ContextName}
 use Rattle.osc_model.specs.declared.context.Side.{Side}
@@ -13,6 +13,7 @@ use Rattle.osc_context.specs.{algorithm_of, key_of, nonce_of}
 use Rattle.osc_protect.specs.Value.{value_spelling, SpellsValue}
 use Rattle.osc_protect.specs.Aad.{aad_of}
 use Rattle.osc_protect.specs.declared.header.Header.{Header}
+use Rattle.osc_protect.specs.declared.request.Draft.{Draft}
 use Rattle.osc_ccm.specs.{Sealing, Sealings, Tags}
 
 -- an id context is short enough for the option's value
@@ -94,6 +95,14 @@ request_length tag name number m = length_of_request (length (plain_bytes m) + t
 
 abbrev pub response_length : ℕ → Option ℕ → Message → ℕ
 response_length tag own m = length (spelling (response_with own m (replicate (length (plain_bytes m) + tag) 0)))
+
+-- ---- drafts
+
+-- m before it is protected as a request at this number: the message that is sent, still without its payload, and what is sealed of it
+pub record IsDraft (tag : Tags) (name : ContextName) (number : ℕ) (m : Message) (draft : Draft) : Type 0 where
+  pub outside : draft.message ≡ request_with name number m []
+  pub inside : plaintext_spelling draft.plaintext ≡ plain_bytes m
+  pub fits : request_length tag name number m ≤ longest_message
 
 -- ---- room
 

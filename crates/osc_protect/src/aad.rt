@@ -10,11 +10,11 @@ ghost use Rattle.osc_protect.specs.Aad.{external_aad as external, aad_of};
 use arrayvec::ArrayVec;
 use osc_cbor::{Major, head};
 use osc_context::{algorithm_of, partial_iv_of};
-use osc_model::ContextName;
+use osc_model::{AssociatedData, ContextName};
 
 /// The most bytes of the associated data: 11 are before the external one, which has a head of one byte, and at most 20: 5
 /// for the version and the algorithm, 8 for the ID, 6 for the Partial IV, and one for no options.
-pub(crate) const AAD_LENGTH: usize = 32;
+const AAD_LENGTH: usize = 32;
 
 /// The head of an array of five items, version 1, and the head of an array of one algorithm.
 const BEGINNING: [u8; 3] = [0x85, 1, 0x81];
@@ -45,7 +45,7 @@ fn append_algorithm(name: &ContextName, out: &mut ArrayVec<u8, AAD_LENGTH>)
 }
 
 /// The external associated data.
-pub(crate) fn external_aad(name: &ContextName, number: u64) -> ArrayVec<u8, AAD_LENGTH>
+fn external_aad(name: &ContextName, number: u64) -> ArrayVec<u8, AAD_LENGTH>
     requires id { length name.now.client_id ≤ longest_id }
     requires number { number ≤ greatest_number }
     ensures value { result.items ≡ external name.now number }
@@ -60,8 +60,8 @@ pub(crate) fn external_aad(name: &ContextName, number: u64) -> ArrayVec<u8, AAD_
     out
 }
 
-/// The cipher's associated data.
-pub(crate) fn associated_data(name: &ContextName, number: u64) -> ArrayVec<u8, AAD_LENGTH>
+/// The bytes of the cipher's associated data.
+fn enc_structure(name: &ContextName, number: u64) -> ArrayVec<u8, AAD_LENGTH>
     requires id { length name.now.client_id ≤ longest_id }
     requires number { number ≤ greatest_number }
     ensures value { result.items ≡ aad_of name.now number }
@@ -72,4 +72,14 @@ pub(crate) fn associated_data(name: &ContextName, number: u64) -> ArrayVec<u8, A
     out.try_extend_from_slice(&STRUCTURE).unwrap();
     append_string(external.as_slice(), &mut out);
     out
+}
+
+/// The cipher's associated data; takes no memory.
+pub(crate) fn associated_data(name: &ContextName, number: u64) -> AssociatedData
+    requires id { length name.now.client_id ≤ longest_id }
+    requires number { number ≤ greatest_number }
+    ensures { result ≡ aad_of name.now number }
+{
+    let bytes = enc_structure(name, number);
+    AssociatedData::from_slice(bytes.as_slice())
 }

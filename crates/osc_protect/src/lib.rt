@@ -24,10 +24,12 @@ pub use error::{
 };
 pub use header::Header;
 pub use request::{
-    ProtectedRequest, RequestSize, UncountedRequest, open_request, protect_request,
-    protect_uncounted, request_size, seal_request, sealed_request_size,
+    Draft, ProtectedRequest, RequestSize, UncountedRequest, draft_request, open_request,
+    protect_request, protect_uncounted, request_size, seal_request,
 };
-pub use response::{ProtectedResponse, open_response, protect_reply, protect_response, seal_reply};
+pub use response::{
+    ProtectedResponse, SealedReply, open_response, protect_reply, protect_response, seal_reply,
+};
 pub use room::Room;
 pub use sealed::{SealedRequestRef, SealedResponseRef, read_request, read_response};
 pub use token_cipher::TokenCipher;

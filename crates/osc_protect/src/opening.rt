@@ -129,7 +129,7 @@ pub(crate) fn open<A: Ciphers>(
             side: used.side,
             number: used.number,
             nonce: used.nonce,
-            aad: Bytes::from_slice(alloc, aad.as_slice())?,
+            aad,
             plaintext,
         })),
         None => Ok(None),

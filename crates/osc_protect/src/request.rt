@@ -1,26 +1,28 @@
 //! Protected requests (RFC 8613 sections 8.1 and 8.2).
 
-ghost use Rattle.std.specs.Prelude.{◌≡◌, ◌≤◌, ◌<◌, ◌⊎◌, ◌↔◌, ◌+◌, ℕ, List, [], length, replicate, IsOk, IsErr, IsSome, IfOk, IfErr, IfSome};
-ghost use Rattle.osc_coap.specs.{spelling};
+ghost use Rattle.std.specs.Prelude.{◌≡◌, ◌≤◌, ◌<◌, ◌⊎◌, ◌↔◌, ◌+◌, ℕ, List, [], None, length, replicate, IsOk, IsErr, IsSome, IfOk, IfErr, IfSome};
+ghost use Rattle.osc_coap.specs.{bare, bare_plaintext, spelling, plaintext_spelling, with_payload};
+ghost use Rattle.osc_coap.specs.declared.kind.Kind.TheVariants.{Confirmable};
+ghost use Rattle.osc_coap.specs.Message.{Message};
 ghost use Rattle.osc_options.specs.{request_plaintext as request_plaintext_of, protected, unprotected};
 ghost use Rattle.osc_model.specs.declared.context.Side.TheVariants.{Client, Server};
 ghost use Rattle.osc_context.specs.{algorithm_of, key_of, taken_of, sender_of, recipient_of, longest_id, greatest_number};
 ghost use Rattle.osc_protect.specs.Aad.{aad_of};
-ghost use Rattle.osc_protect.specs.Protection.{HasShortContext, HasRoomFor, longest_message, plain_bytes, request_nonce, note_of, IsRequestOf, IsProtectedRequest, IsGenuine, length_of_request, request_length, IsFor};
+ghost use Rattle.osc_protect.specs.Protection.{HasShortContext, HasRoomFor, longest_message, plain_bytes, request_nonce, note_of, request_with, IsDraft, IsRequestOf, IsProtectedRequest, IsGenuine, length_of_request, request_length, IsFor};
 
 use crate::error::{MessageTooLong, RequestNotGenuine, TextTooLong};
 use crate::opening::{KeyUse, open};
 use crate::room::Room;
 use crate::sealed::SealedRequestRef;
-use crate::sealing::{outer_message, seal, size_with, split};
+use crate::sealing::{seal, size_with, split, write_outer};
 use crate::value::request_option;
 use osc_ccm::Ciphers;
 use osc_coap::laws::length_of_growing;
-use osc_coap::{DATAGRAM_LIMIT, MessageBuilder, MessageRef};
+use osc_coap::{DATAGRAM_LIMIT, Kind, MessageBuilder, MessageRef, PlaintextBuilder};
 use osc_context::{RecipientContext, SendNumber, SenderContext, nonce_for};
 use osc_model::{Algorithm, ContextName, Note, Request, SharedName, Side};
 use osc_options::laws::a_written_request;
-use osc_options::request_plaintext;
+use osc_options::write_request;
 use std::alloc::{AllocError, Global};
 
 /// The code of a protected request, POST (RFC 8613 section 4.2).
@@ -107,17 +109,41 @@ pub fn protect_request<A: Ciphers>(
     Ok(ProtectedRequest { message, note })
 }
 
-/// How many bytes the request has, protected with this number beside what stays outside of it: `None` exactly where they are more than a
-/// datagram may have. Takes no memory.
-pub fn sealed_request_size<A: Ciphers>(
+/// A request before it is sealed. It is written where it stays, and sealed there: a message and a plaintext have 1152 bytes each.
+#[derive(Debug, Drop)]
+pub struct Draft {
+    /// The message to send, still without its payload.
+    pub message: MessageBuilder,
+    /// What is sealed in it.
+    pub plaintext: PlaintextBuilder,
+}
+
+impl Draft {
+    /// A draft of an empty message; takes no memory of the heap.
+    pub fn new() -> Draft
+        ensures { result ≡ record { message = bare Confirmable 0 0 []; plaintext = bare_plaintext 0 } }
+    {
+        Draft {
+            message: MessageBuilder::start(Kind::Confirmable, 0, 0, &[]),
+            plaintext: PlaintextBuilder::start(0),
+        }
+    }
+}
+
+/// Writes the request, as it is sealed with this number beside what stays outside of it, and answers how many bytes it has: `None` exactly
+/// where they are more than a datagram may have; the draft is then any. Kind, message ID, token and class U options are those of
+/// `outside`, whose code, class E options and payload are left out. Takes no memory.
+pub fn draft_request<A: Ciphers>(
     name: &ContextName,
     number: u64,
     outside: &MessageRef<'_>,
     request: &Request,
+    draft: &mut Draft,
 ) -> Option<RequestSize>
     requires number { number ≤ greatest_number }
     requires short { HasShortContext name.now }
     requires id { length name.now.client_id ≤ longest_id }
+    ensures drafted { IsSome result → IsDraft A.TAG name.now number (unprotected outside.now (request_plaintext_of request.now)) draft.new }
     ensures size { IfSome result (λ size. size ≡ record {
       plaintext = length (plain_bytes (unprotected outside.now (request_plaintext_of request.now)));
       message = request_length A.TAG name.now number (unprotected outside.now (request_plaintext_of request.now));
@@ -128,103 +154,88 @@ pub fn sealed_request_size<A: Ciphers>(
     length_of_growing();
     // For the proof alone: the call tells that the options are in order.
     let _token = outside.token();
-    match request_plaintext(request) {
-        Ok(plaintext) => text_size::<A>(name, number, outside, plaintext.bytes().len()),
+    match write_request(&mut draft.plaintext, request) {
+        Ok(()) => draft_outer::<A>(name, number, outside, draft),
         Err(_) => None,
     }
 }
 
-/// How many bytes a request has in which a text of so many is sealed at this number, and the text: `None` exactly where they are more than a
+/// Writes what goes outside of a draft's plaintext, and answers how many bytes both have: `None` exactly where they are more than a
 /// datagram may have.
-fn text_size<A: Ciphers>(
+fn draft_outer<A: Ciphers>(
     name: &ContextName,
     number: u64,
     outside: &MessageRef<'_>,
-    plaintext: usize,
+    draft: &mut Draft,
 ) -> Option<RequestSize>
     requires number { number ≤ greatest_number }
     requires short { HasShortContext name.now }
     requires id { length name.now.client_id ≤ longest_id }
-    ensures size { IfSome result (λ size. size
-        ≡ record { plaintext = plaintext; message = length_of_request (plaintext + A.TAG (algorithm_of name.now)) name.now number outside.now }) }
-    ensures fits { IsSome result ↔ (length_of_request (plaintext + A.TAG (algorithm_of name.now)) name.now number outside.now ≤ longest_message) }
+    ensures outer { IsSome result → draft.new.message ≡ request_with name.now number outside.now [] }
+    ensures text { draft.new.plaintext ≡ draft.old.plaintext }
+    ensures size { IfSome result (λ size. size ≡ record {
+      plaintext = length (plaintext_spelling draft.old.plaintext);
+      message = length_of_request (length (plaintext_spelling draft.old.plaintext) + A.TAG (algorithm_of name.now)) name.now number outside.now;
+    }) }
+    ensures fits { IsSome result
+        ↔ (length_of_request (length (plaintext_spelling draft.old.plaintext) + A.TAG (algorithm_of name.now)) name.now number outside.now ≤ longest_message) }
 {
     let value = request_option(name, number);
     let algorithm = osc_context::algorithm_of(name);
-    let outer = outer_of_text::<A>(algorithm, outside, value.as_slice(), plaintext)?;
-    Some(RequestSize {
-        plaintext,
-        message: size_with(&outer, plaintext + A::tag(algorithm)),
-    })
-}
-
-/// Protects a request of the client as `protect_request` protects the message that results from what stays outside of it and of its plaintext;
-/// that message itself is never built. Kind, message ID, token and class U options are those of `outside`, whose code, class E options and
-/// payload are left out. Takes no memory.
-///
-/// # Errors
-///
-/// Exactly where the protected message is longer than a datagram may be; room and number are handed back.
-pub fn seal_request<A: Ciphers>(
-    room: Room,
-    number: SendNumber,
-    outside: &MessageRef<'_>,
-    request: &Request,
-) -> Result<ProtectedRequest, MessageTooLong>
-    requires number { number ≡ taken_of room.name Client number.number }
-    requires about { room.number ≡ number.number }
-    requires short { HasShortContext room.name }
-    requires room { HasRoomFor (plain_bytes (unprotected outside.now (request_plaintext_of request.now))) room.most }
-    ensures protected { IfOk result (λ made.
-        IsProtectedRequest A.is_sealing room.name number.number (unprotected outside.now (request_plaintext_of request.now)) made.message) }
-    ensures noted { IfOk result (λ made. made.note
-        ≡ note_of room.name Client number.number (request_nonce room.name number.number) (plain_bytes (unprotected outside.now (request_plaintext_of request.now)))) }
-    ensures size { IfOk result (λ made. length (spelling made.message)
-        ≡ request_length A.TAG room.name number.number (unprotected outside.now (request_plaintext_of request.now))) }
-    ensures fits { IsOk result
-        ↔ (request_length A.TAG room.name number.number (unprotected outside.now (request_plaintext_of request.now)) ≤ longest_message) }
-    ensures err { IfErr result (λ refused. (refused.room ≡ room) × (refused.number ≡ number)) }
-{
-    a_written_request();
-    length_of_growing();
-    // For the proof alone: the call tells that the options are in order.
-    let _token = outside.token();
-    match request_plaintext(request) {
-        Ok(plaintext) => seal_text::<A>(room, number, outside, plaintext.bytes()),
-        Err(_) => Err(MessageTooLong { room, number }),
+    let plaintext = draft.plaintext.bytes().len();
+    let size = plaintext + A::tag(algorithm);
+    match write_outer(
+        &mut draft.message,
+        outside,
+        OUTER_CODE,
+        value.as_slice(),
+        size,
+    ) {
+        Ok(()) => Some(RequestSize {
+            plaintext,
+            message: size_with(&draft.message, size),
+        }),
+        Err(_) => None,
     }
 }
 
-/// Seals a text as a request of the client, beside what stays outside of it.
-fn seal_text<A: Ciphers>(
-    room: Room,
-    number: SendNumber,
-    outside: &MessageRef<'_>,
-    text: &[u8],
-) -> Result<ProtectedRequest, MessageTooLong>
+/// Seals a draft as `protect_request` protects the message that it is of; that message itself is never built. The number, which is the
+/// room's and of its context, is spent. Takes no memory.
+pub fn seal_request<A: Ciphers>(room: Room, number: SendNumber, draft: &mut Draft) -> Note
     requires number { number ≡ taken_of room.name Client number.number }
     requires about { room.number ≡ number.number }
-    requires short { HasShortContext room.name }
-    requires room { HasRoomFor text.now room.most }
-    ensures protected { IfOk result (λ made. IsRequestOf A.is_sealing text.now room.name number.number outside.now made.message) }
-    ensures noted { IfOk result (λ made. made.note
-        ≡ note_of room.name Client number.number (request_nonce room.name number.number) text.now) }
-    ensures size { IfOk result (λ made. length (spelling made.message)
-        ≡ length_of_request (length text.now + A.TAG (algorithm_of room.name)) room.name number.number outside.now) }
-    ensures fits { IsOk result ↔ (length_of_request (length text.now + A.TAG (algorithm_of room.name)) room.name number.number outside.now ≤ longest_message) }
-    ensures err { IfErr result (λ refused. (refused.room ≡ room) × (refused.number ≡ number)) }
+    requires drafted { (m : Message) × IsDraft A.TAG room.name number.number m draft.old × (length (plain_bytes m) ≤ room.most) }
+    ensures protected { (m : Message) → IsDraft A.TAG room.name number.number m draft.old
+        → IsProtectedRequest A.is_sealing room.name number.number m draft.new.message }
+    ensures noted { (m : Message) → IsDraft A.TAG room.name number.number m draft.old
+        → result ≡ note_of room.name Client number.number (request_nonce room.name number.number) (plain_bytes m) }
+    ensures size { (m : Message) → IsDraft A.TAG room.name number.number m draft.old
+        → length (spelling draft.new.message) ≡ request_length A.TAG room.name number.number m }
+{
+    seal_text::<A>(room, number, draft)
+}
+
+/// Seals the plaintext of a draft as the payload of its message.
+fn seal_text<A: Ciphers>(room: Room, number: SendNumber, draft: &mut Draft) -> Note
+    requires number { number ≡ taken_of room.name Client number.number }
+    requires about { room.number ≡ number.number }
+    requires code { 0 < draft.old.message.code }
+    requires payload { draft.old.message.payload ≡ None }
+    requires room { length (plaintext_spelling draft.old.plaintext) ≤ room.most }
+    requires fits { length (spelling (with_payload draft.old.message
+        (replicate (length (plaintext_spelling draft.old.plaintext) + A.TAG (algorithm_of room.name)) 0))) ≤ longest_message }
+    ensures sealed { (sealed : List ℕ)
+        × A.is_sealing (algorithm_of room.name) (key_of room.name Client) (request_nonce room.name number.number) (aad_of room.name number.number) (plaintext_spelling draft.old.plaintext) sealed
+        × (draft.new.message ≡ with_payload draft.old.message sealed) }
+    ensures noted { result ≡ note_of room.name Client number.number (request_nonce room.name number.number) (plaintext_spelling draft.old.plaintext) }
+    ensures size { length (spelling draft.new.message) ≡ length (spelling (with_payload draft.old.message
+        (replicate (length (plaintext_spelling draft.old.plaintext) + A.TAG (algorithm_of room.name)) 0))) }
 {
     let nonce = nonce_for(number.common_iv(), number.id(), number.get());
-    let value = request_option(room.name(), number.get());
-    let Some(outer) = outer_of_text::<A>(room.algorithm(), outside, value.as_slice(), text.len())
-    else {
-        return Err(MessageTooLong { room, number });
-    };
-    let note = room.note(Side::Client, nonce, text);
-    let mut message = outer;
-    seal::<A>(&mut message, number.key(), &note);
+    let note = room.note(Side::Client, nonce, draft.plaintext.bytes());
+    seal::<A>(&mut draft.message, number.key(), &note);
     number.spend();
-    Ok(ProtectedRequest { message, note })
+    note
 }
 
 /// A request under a number that nobody took for it: it spends none, so its nonce may be another request's as well.
@@ -263,14 +274,20 @@ pub fn protect_uncounted<A: Ciphers>(
 {
     let nonce = nonce_for(sender.common_iv(), sender.id(), number);
     let value = request_option(room.name(), number);
-    let Some(outer) = outer_of_text::<A>(room.algorithm(), message, value.as_slice(), text.len())
-    else {
+    let Some(mut outer) = outer_of_text::<A>(
+        room.algorithm(),
+        message,
+        value.as_slice(),
+        text.len(),
+    ) else {
         return Err(TextTooLong { room });
     };
     let note = room.note(Side::Client, nonce, text);
-    let mut message = outer;
-    seal::<A>(&mut message, sender.key(), &note);
-    Ok(UncountedRequest { message, note })
+    seal::<A>(&mut outer, sender.key(), &note);
+    Ok(UncountedRequest {
+        message: outer,
+        note,
+    })
 }
 
 /// The message of a request with this option value, still without its payload; `None` exactly where it is longer than a
@@ -290,7 +307,17 @@ fn outer_of_text<A: Ciphers>(
     if size > DATAGRAM_LIMIT {
         return None;
     }
-    outer_message(message, OUTER_CODE, value, size + A::tag(algorithm))
+    let mut outer = MessageBuilder::start(message.kind(), 0, 0, &[]);
+    match write_outer(
+        &mut outer,
+        message,
+        OUTER_CODE,
+        value,
+        size + A::tag(algorithm),
+    ) {
+        Ok(()) => Some(outer),
+        Err(_) => None,
+    }
 }
 
 /// Opens a protected request at the server, under the context of this name, and answers the note of the opening, whose plaintext

@@ -1,7 +1,9 @@
 //! Protected responses (RFC 8613 sections 8.3 and 8.4).
 
-ghost use Rattle.std.specs.Prelude.{◌≡◌, ◌≤◌, ◌<◌, ◌⊎◌, ◌↔◌, ◌+◌, ℕ, List, Some, None, length, replicate, IfSome, IsOk, IsErr, IfOk, IfErr};
-ghost use Rattle.osc_coap.specs.{spelling};
+ghost use Rattle.std.specs.Prelude.{◌≡◌, ◌≤◌, ◌<◌, ◌⊎◌, ◌↔◌, ◌+◌, ℕ, List, [], Some, None, length, replicate, IfSome, IsOk, IsErr, IfOk, IfErr};
+ghost use Rattle.std.specs.Vec.{vec_len, vec_capacity};
+ghost use Rattle.osc_coap.specs.{spelling, Spells};
+ghost use Rattle.osc_coap.specs.Message.{Message};
 ghost use Rattle.osc_model.specs.declared.context.Side.TheVariants.{Client, Server};
 ghost use Rattle.osc_context.specs.{algorithm_of, key_of, accepted_of, taken_of, sender_of, recipient_of, longest_id, greatest_number};
 ghost use Rattle.osc_options.specs.{reply_text};
@@ -10,18 +12,18 @@ ghost use Rattle.osc_protect.specs.Inner.Outside.{IsSealedOutside, outer_respons
 ghost use Rattle.osc_protect.specs.Protection.{HasRoomFor, longest_message, plain_bytes, request_nonce, response_nonce, note_of, IsGenuine, IsProtectedResponse, reply_with_header, response_length};
 
 use crate::error::{MessageTooLong, ReplyTooLong, ResponseNotGenuine};
-use crate::header::{Header, OUTER_CODE, outer_of_reply};
+use crate::header::{Header, OUTER_CODE, write_response_start};
 use crate::opening::{KeyUse, open};
 use crate::room::Room;
 use crate::sealed::SealedResponseRef;
-use crate::sealing::{seal, split};
+use crate::sealing::{seal, seal_into, split};
 use crate::value::response_option;
 use osc_ccm::Ciphers;
+use osc_coap::laws::{growing, length_of_growing, spelling_of_growing};
 use osc_coap::{MessageBuilder, MessageRef};
 use osc_context::{AcceptedNumber, RecipientContext, SendNumber, SenderContext, nonce_for};
-use osc_model::{ContextName, Note, Reply, SharedName, Side};
+use osc_model::{Bytes, ContextName, Note, Reply, SharedName, Side};
 use osc_options::laws::a_written_reply;
-use osc_options::reply_text_size;
 use std::alloc::{AllocError, Global};
 
 /// A protected response, and the note of its seal.
@@ -72,34 +74,44 @@ pub fn protect_reply<A: Ciphers>(
     Ok(ProtectedResponse { message, note })
 }
 
-/// Protects the server's reply as `protect_reply` protects the message with this header that carries it: the plaintext is written where the
-/// note keeps it, and that message itself is never built. Takes no memory.
-///
-/// # Errors
-///
-/// Exactly where the protected message is longer than a datagram may be; room and number are handed back.
+/// A protected reply, and the note of its seal.
+#[derive(Debug, Drop)]
+pub struct SealedReply {
+    /// The bytes to send.
+    pub datagram: Bytes,
+    /// What was sealed, and under which name, request number and nonce.
+    pub note: Note,
+}
+
+/// Protects the server's reply as `protect_reply` protects the message with this header that carries it; that message itself is never built:
+/// the plaintext is written where the note keeps it, and the datagram into `out`, which is empty and has room for it. The number is spent.
+/// Takes no memory.
 pub fn seal_reply<A: Ciphers>(
     room: Room,
     number: AcceptedNumber,
     sender: &SenderContext,
     header: Header<'_>,
     reply: &Reply,
-) -> Result<ProtectedResponse, ReplyTooLong>
+    out: Vec<u8>,
+) -> SealedReply
     requires number { number ≡ accepted_of room.name Server number.number }
     requires about { room.number ≡ number.number }
     requires sender { sender.now ≡ sender_of room.name Server sender.now.next }
     requires token { length header.token.now ≤ 8 }
     requires room { HasRoomFor (reply_text reply.now) room.most }
-    ensures protected { IfOk result (λ made.
-        IsProtectedResponse A.is_sealing room.name number.number None (reply_with_header header.entry reply.now) made.message) }
-    ensures noted { IfOk result (λ made. made.note
-        ≡ note_of room.name Server number.number (request_nonce room.name number.number) (plain_bytes (reply_with_header header.entry reply.now))) }
-    ensures fits { IsOk result
-        ↔ (response_length (A.TAG (algorithm_of room.name)) None (reply_with_header header.entry reply.now) ≤ longest_message) }
-    ensures err { IfErr result (λ refused. (refused.room ≡ room) × (refused.number ≡ number)) }
+    requires empty { (out.items ≡ []) × (vec_len out ≡ 0) }
+    requires fits { response_length (A.TAG (algorithm_of room.name)) None (reply_with_header header reply.now) ≤ longest_message }
+    requires out { response_length (A.TAG (algorithm_of room.name)) None (reply_with_header header reply.now) ≤ vec_capacity out }
+    ensures protected { (answer : Message)
+        × IsProtectedResponse A.is_sealing room.name number.number None (reply_with_header header.entry reply.now) answer
+        × Spells result.datagram answer }
+    ensures noted { result.note
+        ≡ note_of room.name Server number.number (request_nonce room.name number.number) (plain_bytes (reply_with_header header.entry reply.now)) }
 {
     a_written_reply();
-    seal_text_of::<A>(room, number, sender, header, reply)
+    growing();
+    spelling_of_growing();
+    seal_text_of::<A>(room, number, sender, header, reply, out)
 }
 
 /// The same, said of the reply's plaintext and of what goes outside.
@@ -109,29 +121,31 @@ fn seal_text_of<A: Ciphers>(
     sender: &SenderContext,
     header: Header<'_>,
     reply: &Reply,
-) -> Result<ProtectedResponse, ReplyTooLong>
+    out: Vec<u8>,
+) -> SealedReply
     requires number { number ≡ accepted_of room.name Server number.number }
     requires about { room.number ≡ number.number }
     requires sender { sender.now ≡ sender_of room.name Server sender.now.next }
     requires token { length header.token.now ≤ 8 }
     requires room { HasRoomFor (reply_text reply.now) room.most }
-    ensures protected { IfOk result (λ made. IsSealedOutside A.is_sealing room.name number.number (reply_text reply.now) header.entry made.message) }
-    ensures noted { IfOk result (λ made. made.note
-        ≡ note_of room.name Server number.number (request_nonce room.name number.number) (reply_text reply.now)) }
-    ensures fits { IsOk result
-        ↔ (length (spelling (outer_response header.entry (replicate (length (reply_text reply.now) + A.TAG (algorithm_of room.name)) 0))) ≤ longest_message) }
-    ensures err { IfErr result (λ refused. (refused.room ≡ room) × (refused.number ≡ number)) }
+    requires empty { (out.items ≡ []) × (vec_len out ≡ 0) }
+    requires fits { length (spelling (outer_response header (replicate (length (reply_text reply.now) + A.TAG (algorithm_of room.name)) 0))) ≤ longest_message }
+    requires out { length (spelling (outer_response header (replicate (length (reply_text reply.now) + A.TAG (algorithm_of room.name)) 0))) ≤ vec_capacity out }
+    ensures protected { IsSealedOutside A.is_sealing room.name number.number (reply_text reply.now) header.entry result.datagram }
+    ensures noted { result.note
+        ≡ note_of room.name Server number.number (request_nonce room.name number.number) (reply_text reply.now) }
 {
-    let size = reply_text_size(reply);
-    let Some(outer) = outer_of_reply::<A>(room.algorithm(), header, size) else {
-        return Err(ReplyTooLong { room, number });
-    };
+    length_of_growing();
     let nonce = nonce_for(number.common_iv(), number.id(), number.get());
     let note = room.note_of_reply(Side::Server, nonce, reply);
-    let mut message = outer;
-    seal::<A>(&mut message, sender.key(), &note);
+    let mut datagram = out;
+    write_response_start(&mut datagram, header);
+    seal_into::<A>(&mut datagram, sender.key(), &note);
     number.spend();
-    Ok(ProtectedResponse { message, note })
+    SealedReply {
+        datagram: Bytes::from_vec(datagram),
+        note,
+    }
 }
 
 /// Protects a response of the server to the request of this number, for which the room is, under a nonce of its own: the number that

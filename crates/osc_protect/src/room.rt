@@ -7,7 +7,7 @@ ghost use Rattle.osc_protect.specs.Aad.{aad_of};
 ghost use Rattle.osc_protect.specs.Protection.{note_of};
 
 use crate::aad::associated_data;
-use osc_model::{Algorithm, Bytes, ContextName, Note, Reply, SharedName, Side};
+use osc_model::{Algorithm, AssociatedData, Bytes, ContextName, Note, Reply, SharedName, Side};
 use osc_options::write_reply;
 use std::alloc::{AllocError, Global};
 use std::fmt;
@@ -22,7 +22,7 @@ pub struct Room {
     number: u64,
     most: usize,
     /// That of the request.
-    aad: Bytes,
+    aad: AssociatedData,
     /// Empty, with room for the text.
     text: Vec<u8>,
 }
@@ -78,7 +78,7 @@ impl Room {
             name: name.clone()?,
             number,
             most,
-            aad: Bytes::from_slice(alloc, aad.as_slice())?,
+            aad,
             text: Vec::with_capacity(alloc, most)?,
         })
     }

@@ -1,7 +1,8 @@
 //! What requests and responses share: the message that is sent in place of one, and its seal.
 
-ghost use Rattle.std.specs.Prelude.{◌≡◌, ◌↔◌, ◌+◌, ◌≤◌, ◌<◌, ℕ, List, [], None, length, replicate, IsSome, IfSome};
-ghost use Rattle.osc_coap.specs.{spelling, payload_of, with_payload, payload_length};
+ghost use Rattle.std.specs.Prelude.{◌≡◌, ◌↔◌, ◌+◌, ◌≤◌, ◌<◌, ◌++◌, ℕ, List, [], None, length, replicate, IsOk, IsSome, IfSome, OnOk};
+ghost use Rattle.std.specs.Vec.{vec_len, vec_capacity};
+ghost use Rattle.osc_coap.specs.{spelling, payload_of, payload_spelling, with_payload, payload_length};
 ghost use Rattle.osc_options.specs.{protected, plaintext_of as plaintext_in};
 ghost use Rattle.osc_context.specs.{algorithm_of, longest_id};
 ghost use Rattle.osc_protect.specs.Aad.{aad_of};
@@ -9,9 +10,12 @@ ghost use Rattle.osc_protect.specs.Protection.{plain_bytes, longest_message};
 
 use osc_ccm::Ciphers;
 use osc_coap::laws::length_of_growing;
-use osc_coap::{DATAGRAM_LIMIT, MessageBuilder, MessageRef, PayloadWriter, PlaintextBuilder};
+use osc_coap::{
+    DATAGRAM_LIMIT, DatagramTooLong, MessageBuilder, MessageRef, PayloadWriter, PlaintextBuilder,
+    append_payload,
+};
 use osc_model::{Algorithm, Note};
-use osc_options::{plaintext_of, protected_message};
+use osc_options::{plaintext_of, write_protected};
 use std::marker::PhantomData;
 
 /// How many bytes a payload of this size takes, with its marker.
@@ -32,28 +36,29 @@ pub(crate) fn size_with(message: &MessageBuilder, size: usize) -> usize
     message.bytes().len() + payload_size(size)
 }
 
-/// The message with this code and option value, still without its payload; `None` exactly where it is longer than a datagram
+/// Writes the message with this code and option value, still without its payload; refused exactly where it is longer than a datagram
 /// may be with so many bytes of payload.
-pub(crate) fn outer_message(
+pub(crate) fn write_outer(
+    out: &mut MessageBuilder,
     message: &MessageRef<'_>,
     code: u8,
     value: &[u8],
     size: usize,
-) -> Option<MessageBuilder>
+) -> Result<(), DatagramTooLong>
     requires code { 0 < code }
     requires size { size ≤ 1168 }
-    ensures outer { IfSome result (λ outer. outer ≡ protected message.now code value.now []) }
-    ensures fits { IsSome result
+    ensures outer { OnOk result (out.new ≡ protected message.now code value.now []) }
+    ensures fits { IsOk result
         ↔ (length (spelling (protected message.now code value.now (replicate size 0))) ≤ longest_message) }
 {
     length_of_growing();
-    let Ok(outer) = protected_message(message, code, value, &[]) else {
-        return None;
+    let Ok(()) = write_protected(out, message, code, value, &[]) else {
+        return Err(DatagramTooLong);
     };
-    if size_with(&outer, size) > DATAGRAM_LIMIT {
-        return None;
+    if size_with(out, size) > DATAGRAM_LIMIT {
+        return Err(DatagramTooLong);
     }
-    Some(outer)
+    Ok(())
 }
 
 /// The message with this code and option value, still without its payload, and what is sealed of it; `None` exactly where the
@@ -78,8 +83,11 @@ pub(crate) fn split<A: Ciphers>(
         return None;
     };
     let size = plaintext.bytes().len() + A::tag(algorithm);
-    let outer = outer_message(message, code, value, size)?;
-    Some((outer, plaintext))
+    let mut outer = MessageBuilder::start(message.kind(), 0, 0, &[]);
+    match write_outer(&mut outer, message, code, value, size) {
+        Ok(()) => Some((outer, plaintext)),
+        Err(_) => None,
+    }
 }
 
 /// The sealing of a text, which is written as a payload where it is sent from.
@@ -160,6 +168,53 @@ pub(crate) fn seal<A: Ciphers>(message: &mut MessageBuilder, key: &[u8; 16], not
     length_of_growing();
     seal_payload::<A>(
         message,
+        osc_context::algorithm_of(&note.context),
+        key,
+        &note.nonce,
+        note.aad.as_slice(),
+        note.plaintext.as_slice(),
+    );
+}
+
+/// Writes the sealing of a text after a message that has no payload yet, as its payload; there is room for it.
+fn append_sealed<A: Ciphers>(
+    out: &mut Vec<u8>,
+    algorithm: Algorithm,
+    key: &[u8; 16],
+    nonce: &[u8; 13],
+    aad: &[u8],
+    text: &[u8],
+)
+    requires size { length text.now + A.TAG algorithm ≤ longest_message }
+    requires room { vec_len out.old + payload_length (payload_of (replicate (length text.now + A.TAG algorithm) 0)) ≤ vec_capacity out.old }
+    requires aad { length aad.now ≤ 32 }
+    ensures { (sealed : List ℕ)
+        × A.is_sealing algorithm key.now nonce.now aad.now text.now sealed
+        × (out.new.items ≡ out.old.items ++ payload_spelling (payload_of sealed)) }
+{
+    let sealing = Sealing::<A> {
+        algorithm,
+        key,
+        nonce,
+        aad,
+        text,
+        of: PhantomData,
+    };
+    append_payload(out, text.len() + A::tag(algorithm), &sealing);
+}
+
+/// Seals what is noted after a message that has no payload yet, as its payload; there is room for it. Takes no memory.
+pub(crate) fn seal_into<A: Ciphers>(out: &mut Vec<u8>, key: &[u8; 16], note: &Note)
+    requires size { length note.now.plaintext + A.TAG (algorithm_of note.now.context) ≤ longest_message }
+    requires room { vec_len out.old + payload_length (payload_of (replicate (length note.now.plaintext + A.TAG (algorithm_of note.now.context)) 0)) ≤ vec_capacity out.old }
+    requires id { length note.now.context.client_id ≤ longest_id }
+    requires aad { note.now.aad ≡ aad_of note.now.context note.now.number }
+    ensures { (sealed : List ℕ)
+        × A.is_sealing (algorithm_of note.now.context) key.now note.now.nonce note.now.aad note.now.plaintext sealed
+        × (out.new.items ≡ out.old.items ++ payload_spelling (payload_of sealed)) }
+{
+    append_sealed::<A>(
+        out,
         osc_context::algorithm_of(&note.context),
         key,
         &note.nonce,

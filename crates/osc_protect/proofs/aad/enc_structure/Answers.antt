@@ -1,6 +1,6 @@
 use Rattle.std.proofs.Common.{refl}
 use Rattle.osc_protect.proofs.AadLemmas.{aad_of_is}
-use Rattle.osc_protect.proofs.aad.associated_data.Goals as goal
+use Rattle.osc_protect.proofs.aad.enc_structure.Goals as goal
 
 pub returns-clause-value : goal.returns-clause-value
 returns-clause-value c =

@@ -1,6 +1,6 @@
 use Rattle.std.proofs.Common.{arith, replicate}
 use Rattle.osc_protect.proofs.LengthLemmas.{protected_length}
-use Rattle.osc_protect.proofs.sealing.outer_message.Goals as goal
+use Rattle.osc_protect.proofs.sealing.write_outer.Goals as goal
 
 pub returns-in_default-clause-fits : goal.returns-in_default-clause-fits
 returns-in_default-clause-fits c =
