@@ -7,7 +7,7 @@ use Rattle.std.proofs.lemmas.List.Elements.{All-nil, All-head, All-tail, All-pus
 use Rattle.std.proofs.lemmas.Option.{same_Some}
 use Rattle.osc_coap.specs.declared.kind.Kind.{Kind}
 use Rattle.osc_coap.specs.declared.kind.Kind.TheVariants.{Confirmable, NonConfirmable, Acknowledgement, Reset}
-use Rattle.osc_coap.specs.{HasSpelling, spelling}
+use Rattle.osc_coap.specs.{HasSpelling, Spells, spelling}
 use Rattle.osc_coap.specs.Message.{Message}
 use Rattle.osc_dedup.specs.declared.table.Noted.{Noted}
 use Rattle.osc_dedup.specs.{most_entries, Entry, is_alive, is_of, staying, with_note, alive}
@@ -21,7 +21,7 @@ use Rattle.osc_message.specs.declared.handling.Handling.TheVariants.{Dropped, An
 use Rattle.osc_message.specs.declared.heard.Heard.TheVariants as heard
 use Rattle.osc_message.specs.{Open, EndpointState, id_taken, noted, settled, acknowledged_by, after_tick, acts, tick_sends, AnswersAlone, IsAlone, IsSendableHeard, ignores, noted_reply, rejects, repeats, AreSendable, FitsDatagram, GoesOut, again, datagram, is_confirmable, rejection, replied, reset}
 use Rattle.osc_message.specs.declared.heard.Heard.{Heard}
-use Rattle.osc_server.specs.Inner.Parts.{HeardSendsTo, IsMessage, IsQuiet, KeepsMessages, SendsTo, noted_by}
+use Rattle.osc_server.specs.Inner.Parts.{HeardSendsTo, IsMessage, IsQuiet, IsSentAs, KeepsMessages, SendsTo, noted_by}
 
 abbrev IsKept : Entry → Type 0
 IsKept entry = ForSome entry.noted.reply IsMessage
@@ -136,6 +136,17 @@ sent_again peer bytes message fits = record {
   messages = All-push (λ sent. IsMessage sent.bytes) [] (record { to = peer; bytes = bytes }) (All-nil (λ sent. IsMessage sent.bytes)) message;
   fits = All-push (λ sent. FitsDatagram sent.bytes) [] (record { to = peer; bytes = bytes }) (All-nil (λ sent. FitsDatagram sent.bytes)) fits;
   addressed = All-push (λ sent. sent.to ≡ peer) [] (record { to = peer; bytes = bytes }) (All-nil (λ sent. sent.to ≡ peer)) refl;
+}
+
+-- a message goes to its sender in these bytes, which are kept
+pub sent_once : (peer : Peer) (message : Message) (bytes reply : Bytes) (out : List Datagram) → Spells bytes message → FitsDatagram bytes
+    → out ≡ (record { to = peer; bytes = bytes }) ∷ [] → reply ≡ bytes → IsSentAs peer message out reply
+sent_once peer message bytes reply out spells fits sent kept = record {
+  spelled = record { lawful = spells.lawful; whole = refl };
+  sent = subst (λ (b : Bytes). out ≡ (record { to = peer; bytes = b }) ∷ []) spells.whole sent;
+  kept = kept ∙ spells.whole;
+  fits = subst FitsDatagram (sym kept) fits;
+  sendable = subst (SendsTo peer) (sym sent) (sent_again peer bytes (message, spells) fits);
 }
 
 -- what answered a message before goes to its sender again

@@ -20,7 +20,7 @@ use Rattle.osc_coap.specs.Message.{Message}
 use Rattle.osc_coap.specs.Plaintext.{Plaintext}
 use Rattle.osc_options.specs.{etag_option, format_option, reply_options, uint_bytes, reply_plaintext, merge, outer_options, reply_text}
 use Rattle.osc_message.specs.{EndpointState}
-use Rattle.osc_protect.specs.{longest_message, plain_bytes, response_length, response_value, response_with, value_spelling}
+use Rattle.osc_protect.specs.{plain_bytes, response_length, response_value, response_with, value_spelling}
 use Rattle.osc_authz.specs.{code_of}
 use Rattle.osc_authz.specs.declared.error.PostError.{PostError}
 use Rattle.osc_authz.specs.declared.error.PostError.TheVariants.{Fields, Token, Revoked, Full, Replayed}
@@ -182,11 +182,11 @@ pub text_short : ((p : Plaintext) → length (plaintext_spelling p) ≡ plaintex
 unfolding reply_text
 text_short law most reply short = rw (law (reply_plaintext reply)) (plain_short most reply short)
 
-pub reply_fits : ((m : Message) → length (spelling m) ≡ spelled_length m) → (endpoint : EndpointState) (came : Arrival Message) (reply : Reply) (tag : ℕ) → length came.what.token ≤ 8 → tag ≤ 16 → length (plain_bytes (reply_to endpoint came reply)) ≤ 526 → response_length tag None (reply_to endpoint came reply) ≤ longest_message
-reply_fits law endpoint came reply tag token few text =
+pub reply_length_most : ((m : Message) → length (spelling m) ≡ spelled_length m) → (endpoint : EndpointState) (came : Arrival Message) (reply : Reply) (tag : ℕ) → length came.what.token ≤ 8 → response_length tag None (reply_to endpoint came reply) ≤ 14 + length (plain_bytes (reply_to endpoint came reply)) + tag
+reply_length_most law endpoint came reply tag token =
     let size = length (plain_bytes (reply_to endpoint came reply)) + tag in
     rw (law (response_with None (reply_to endpoint came reply) (replicate size 0)))
-    (omega (arith, few, text, sealed_short endpoint came reply (replicate size 0) token, length-replicate {A = ℕ} size 0))
+    (omega (arith, sealed_short endpoint came reply (replicate size 0) token, length-replicate {A = ℕ} size 0))
 
 pub sealed_reply_short : ((m : Message) → length (spelling m) ≡ spelled_length m) → (endpoint : EndpointState) (came : Arrival Message) (reply : Reply) (sealed : List ℕ) (answer : Message) → length came.what.token ≤ 8 → answer ≡ response_with None (reply_to endpoint came reply) sealed → length (spelling answer) ≤ 14 + length sealed
 sealed_reply_short law endpoint came reply sealed answer token whole =

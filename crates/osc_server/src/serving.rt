@@ -1,7 +1,6 @@
 //! Protected requests (RFC 8613 sections 8.2 and 8.3): a request is opened without memory until it is known to be genuine, then all
 //! memory is taken before the number is accepted, and nothing fails from there but what is answered by 5.00.
 ghost use Rattle.std.specs.Prelude.{◌≡◌, ◌<◌, ◌≤◌, ◌+◌, ℕ, List, length, Some, None, IfOk, IfErr, IfSome, IfNone, OnErr, OnOk};
-ghost use Rattle.osc_coap.specs.{spelling};
 ghost use Rattle.osc_coap.specs.Message.{Message as AnyMessage};
 ghost use Rattle.osc_authz.specs.SecurityContext.{SecurityContext};
 ghost use Rattle.osc_authz.specs.{accepted};
@@ -17,7 +16,7 @@ ghost use Rattle.osc_server.specs.Table.{context_for, IsMeant, IsOpened, IsRefus
 ghost use Rattle.osc_window.specs.{IsFresh};
 
 use crate::Endpoint;
-use crate::answer::{header_to, sent_as};
+use crate::answer::header_to;
 use crate::case::GET;
 use crate::refusal::Refusal;
 use osc_authz::laws::meant_contexts;
@@ -30,14 +29,13 @@ use osc_model::{
     Bytes, Code, Datagrams, Entry, Note, Path, Peer, Reply, Request, SharedName, StepNotes,
 };
 use osc_options::request_in;
-use osc_protect::{ProtectedResponse, Room, SealedRequestRef, open_request, seal_reply};
+use osc_protect::{Room, SealedReply, SealedRequestRef, open_request, seal_reply};
 use osc_run::kinds;
 use osc_scope::Scope;
 use osc_tree::Tree;
 use std::alloc::{AllocError, Global};
 
-/// What a protected request came to: the protected reply, and what is noted. The message itself isn't handed on, since it is a
-/// buffer of 1,152 bytes.
+/// What a protected request came to: the protected reply, and what is noted.
 #[derive(Drop)]
 pub struct Served {
     /// The datagram of the protected reply.
@@ -163,36 +161,8 @@ struct Taken {
     room: AnswerRoom,
 }
 
-/// The reply to a request that was opened, protected under its nonce: it fits, since no reply has more than 512 bytes. Takes no
-/// memory.
-fn protected<A: Ciphers>(
-    room: Room,
-    number: AcceptedNumber,
-    context: &ServerContext,
-    endpoint: &Endpoint,
-    came: &Arrival<'_>,
-    reply: &Reply,
-) -> ProtectedResponse
-    requires number { number ≡ accepted_of context.now.name Server number.number }
-    requires name { room.name ≡ context.now.name }
-    requires about { room.number ≡ number.number }
-    requires short { FitsAResource reply.now }
-    requires room { text_beside_payload + length reply.now.payload ≤ room.most }
-    ensures protected { IsProtectedResponse A.is_sealing context.now.name number.number None
-        (reply_to_of endpoint.now came.now reply.now) result.message }
-    ensures noted { result.note ≡ reply_note context.now.name number.number reply.now }
-    ensures short { length (spelling result.message)
-        ≤ message_beside_sealed + text_beside_payload + length reply.now.payload + A.TAG (algorithm_of context.now.name) }
-{
-    kinds::what_is_sealed();
-    length_of_spelling();
-    length_of_plaintext();
-    let header = header_to(endpoint, came);
-    seal_reply::<A>(room, number, context.sender(), header, reply).unwrap()
-}
-
-/// The protected reply, as it goes to the peer and as its bytes are kept for a repeat, and the note of its seal; takes no memory.
-#[inline(never)]
+/// The reply to a request that was opened, protected under its nonce, as it goes to the peer and as its bytes are kept for a repeat, and the
+/// note of its seal: it fits, since no reply has more than 512 bytes. Takes no memory.
 fn sent<A: Ciphers>(
     room: AnswerRoom,
     number: AcceptedNumber,
@@ -212,11 +182,22 @@ fn sent<A: Ciphers>(
         × IsSentAs came.now.from answer result.0.0 result.0.1 }
     ensures noted { result.1 ≡ reply_note context.now.name number.number reply.now }
 {
+    kinds::what_is_sealed();
+    length_of_spelling();
+    length_of_plaintext();
     let AnswerRoom { seal, datagram } = room;
-    let ProtectedResponse { message, note } = protected::<A>(
-        seal, number, context, endpoint, came, reply,
+    let (datagram, copy) = datagram.open();
+    let header = header_to(endpoint, came);
+    let sealed = seal_reply::<A>(
+        seal,
+        number,
+        context.sender(),
+        header,
+        reply,
+        datagram.into_vec(),
     );
-    (sent_as(datagram, came.from, &message), note)
+    let SealedReply { datagram, note } = sealed;
+    (copy.fill(came.from, datagram), note)
 }
 
 impl Taken {
@@ -281,10 +262,7 @@ impl Taken {
         Served {
             out,
             reply: bytes,
-            notes: StepNotes::quiet()
-                .with_seal(sealed)
-                .with_open(note)
-                .with_entry(entry),
+            notes: StepNotes::of_request(sealed, note, entry),
         }
     }
 }
