@@ -1,9 +1,11 @@
 -- Which kind of step each is.
-use Rattle.std.proofs.Common.{◌≡◌, ◌≤◌, ap, ℕ, Bool, true, false, List, Some, None, Option, Ok, refl, subst}
+use Rattle.std.proofs.Common.{◌≡◌, ◌≤◌, ◌+◌, ap, ℕ, Bool, true, false, List, Some, None, Option, Ok, refl, subst}
 use Rattle.osc_model.specs.{read_as, sends, quiet}
 use Rattle.osc_model.specs.Arrival.{Arrival}
+use Rattle.osc_model.specs.StepNotes.{StepNotes}
 use Rattle.osc_model.specs.declared.code.Code.{Code}
 use Rattle.osc_model.specs.declared.node.Draw.{Draw}
+use Rattle.osc_model.specs.declared.node.Moment.{Moment}
 use Rattle.osc_model.specs.declared.step.ClientResult.TheVariants as result
 use Rattle.osc_model.specs.declared.step.ClientResult.TheVariants.{Refused}
 use Rattle.osc_model.specs.declared.step.Datagram.{Datagram}
@@ -14,14 +16,15 @@ use Rattle.osc_message.specs.declared.heard.Heard.{Heard}
 use Rattle.osc_message.specs.declared.heard.Heard.TheVariants as heard
 use Rattle.osc_authz.specs.{ClientContextState, Finishes}
 use Rattle.osc_authz.specs.Begun.{Begun}
-use Rattle.osc_run.specs.{ClientStep, ClientIdle, Ended, IsMade, Lied, ClientState, Nothing, Exchange as OpenExchange}
+use Rattle.osc_run.specs.{Asked, ClientStep, ClientIdle, Ended, IsMade, Lied, ClientState, Nothing, Exchange as OpenExchange, request_note}
 use Rattle.osc_client.specs.Inner.Bounds.{HasContext}
-use Rattle.osc_client.specs.{case_of, is_ended, is_reset, Lie, Lies, lies, core, outstanding, Answers, AnswersNew, Settles}
+use Rattle.osc_client.specs.{case_of, is_ended, is_reset, Lie, Lies, lies, core, opened, outstanding, Answers, AnswersNew, Settles}
 use Rattle.osc_context.specs.{greatest_number}
 use Rattle.osc_ccm.specs.{Sealings, Tags}
 use Rattle.osc_client.specs.State.{State}
 use Rattle.osc_client.specs.declared.case.Case.{Case}
 use Rattle.osc_client.specs.declared.case.Case.TheVariants.{Refused as RefusedCase, Unused, Counted}
+use Rattle.osc_client.specs.declared.waiting.Awaited.TheVariants.{Ask}
 use Rattle.osc_client.specs.declared.waiting.Waiting.{Waiting}
 use Rattle.osc_client.proofs.Outcomes.{kind_after, something}
 use Rattle.osc_client.proofs.Own.{and_right}
@@ -29,6 +32,23 @@ use Rattle.osc_client.proofs.Own.{and_right}
 -- what is refused before it begins changes nothing
 pub refusals : (lied : Bool) (state : ClientState) (number : ℕ) → ClientStep lied state (record quiet { result = Some (Refused number) }) state
 refusals lied state number = ClientIdle (record { opened = None; refusal = Some number; noted = refl; is = refl })
+
+-- a request is asked
+pub asked : (old : State) (context : ClientContextState) (plaintext : List ℕ) (notes : StepNotes) (new : State) (at : Moment) (draw : Draw) (message : Message)
+    → (old.waiting ≡ None) × (old.context ≡ Some context) × (context.next ≤ greatest_number)
+    → notes ≡ record quiet { seals = Some (request_note context.name context.next plaintext) }
+    → new ≡ opened (record old { context = Some (record context { next = context.next + 1 }) }) at draw message (Ask (record { number = context.next; plaintext = plaintext }))
+    → ClientStep false (core old) notes (core new)
+asked old context plaintext notes new at draw message free noted is =
+    Asked refl (record {
+      context = context;
+      lawful = free.2;
+      plaintext = plaintext;
+      noted = noted;
+      held = free.1;
+      before = ap (outstanding old.context) free.0;
+      is = ap core is;
+    })
 
 -- what only sends is idle
 quietly : (old new : State) (step : Step) (out : List Datagram) → step ≡ sends out → core new ≡ core old → ClientStep false (core old) step.notes (core new)

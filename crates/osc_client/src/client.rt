@@ -17,7 +17,7 @@ ghost use Rattle.osc_client.specs.Case.{case_of as case_in, counts as counts_of,
 ghost use Rattle.osc_client.specs.Table.{Answers, AnswersNew, Counts, NewTakesMemory, SendsOne, Settles, TakesMemory, refusal as refusal_of};
 ghost use Rattle.osc_run.specs.{ClientStep, IsSkipped};
 ghost use Rattle.osc_client.specs.State.{core, skipped_to};
-ghost use Rattle.osc_options.specs.{request_plaintext, unprotected};
+ghost use Rattle.osc_protect.specs.{IsDraft};
 ghost use Rattle.osc_client.specs.Sending.{IsFree, IsHindered, PostFits, PostIsTooLong, acts_at, is_over_by, opened, plain_of, restarted};
 ghost use Rattle.osc_client.specs.Inner.Bounds.{AsksFor, IsLawful, NeedsContext, room_for};
 ghost use Rattle.osc_client.specs.Lawful.{IsLawfulClient};
@@ -25,7 +25,7 @@ ghost use Rattle.osc_client.specs.Route.{IsLawfulOrigin};
 
 use crate::Endpoint;
 use crate::answering::{Learnt, learn, outcome_of};
-use crate::asking::{AskRoom, Asked, fitting, protected};
+use crate::asking::{AskRoom, Asked, fitting, sealed};
 use crate::case::{Case, case_of, is_ended};
 use crate::exchanging::{each_post_fits, post_message};
 use crate::lying::{lie_under, outside};
@@ -42,6 +42,7 @@ use osc_message::{Handling, Heard, ReplyRoom, Ticked, noted};
 use osc_model::{
     ClientResult, Code, Datagrams, Draw, Moment, Peer, Request, Step, StepNotes, refusals,
 };
+use osc_protect::Draft;
 use osc_run::kinds;
 use std::alloc::{AllocError, Global};
 use std::marker::Model;
@@ -239,18 +240,18 @@ impl Client {
         // What hinders a request is told without memory.
         ensures needs_memory { OnErr result ((context : ClientContextState) × IsFree A.is_sealing A.TAG self.old request.now draw.now context) }
     {
-        let (outside, room) = match self.prepared::<A>(alloc, request, draw)? {
-            Ok(prepared) => prepared,
+        let mut draft = Draft::new();
+        let room = match self.prepared::<A>(alloc, request, draw, &mut draft)? {
+            Ok(room) => room,
             Err(number) => return Ok(refused(alloc, number)),
         };
         let context = self.context.as_mut().unwrap();
         let Asked {
-            message,
             note,
             ask,
             datagram,
-        } = protected::<A>(context, room, &outside, request);
-        let out = self.open(datagram, now, draw, &message, Awaited::Ask(ask));
+        } = sealed::<A>(context, room, &mut draft);
+        let out = self.open(datagram, now, draw, &draft.message, Awaited::Ask(ask));
         Ok(Step {
             out,
             notes: StepNotes::quiet().with_seal(note),
@@ -281,19 +282,20 @@ impl Client {
         }
     }
 
-    /// What stays outside of the request, and room for it; or the number of what hinders it.
+    /// Writes the request, and takes the memory for it; or answers the number of what hinders it.
     #[inline(never)]
     fn prepared<A: Ciphers>(
         &self,
         alloc: Global,
         request: &Request,
         draw: &Draw,
-    ) -> Result<Result<(MessageBuilder, AskRoom), u8>, AllocError>
+        draft: &mut Draft,
+    ) -> Result<Result<AskRoom, u8>, AllocError>
         requires { 0 < request.now.code.0 }
-        ensures free { IfOk result (λ prepared. IfOk prepared (λ parts. (context : ClientContextState)
+        ensures free { IfOk result (λ prepared. IfOk prepared (λ room. (context : ClientContextState)
             × IsFree A.is_sealing A.TAG self.now request.now draw.now context
-            × (unprotected parts.0 (request_plaintext request.now) ≡ plain_of self.now draw.now request.now)
-            × (parts.1 ≡ room_for A.TAG context.name context.next (plain_of self.now draw.now request.now)))) }
+            × IsDraft A.TAG context.name context.next (plain_of self.now draw.now request.now) draft.new
+            × (room ≡ room_for A.TAG context.name context.next (plain_of self.now draw.now request.now)))) }
         ensures hindered { IfOk result (λ prepared. IfErr prepared (λ number. IsHindered A.is_sealing A.TAG self.now request.now draw.now number)) }
         ensures needs_memory { IsErr result → (context : ClientContextState) × IsFree A.is_sealing A.TAG self.now request.now draw.now context }
     {
@@ -307,8 +309,8 @@ impl Client {
             return Ok(Err(refusals::EXHAUSTED));
         }
         let id = self.endpoint.own_id(draw);
-        match fitting::<A>(context, &self.origin, id, &draw.token(), request) {
-            Some((outside, size)) => Ok(Ok((outside, AskRoom::new(alloc, context, size)?))),
+        match fitting::<A>(context, &self.origin, id, &draw.token(), request, draft) {
+            Some(size) => Ok(Ok(AskRoom::new(alloc, context, size)?)),
             None => Ok(Err(refusals::DATAGRAM_TOO_LONG)),
         }
     }
