@@ -1,9 +1,9 @@
 //! What comes due at a proxy.
-ghost use Rattle.std.specs.Prelude.{◌≡◌, ◌≤◌, ◌<◌, ◌+◌, ◌++◌, [], true, List, length, if◌then◌else◌, vec_len, vec_capacity};
+ghost use Rattle.std.specs.Prelude.{◌≡◌, ◌≤◌, ◌<◌, ◌+◌, ◌++◌, [], true, IfErr, IfOk, List, if◌then◌else◌, vec_len, vec_capacity};
 ghost use Rattle.std.specs.Option.{option_to_list};
 ghost use Rattle.osc_model.specs.declared.step.Datagram.{Datagram as AnyDatagram};
 ghost use Rattle.osc_coap.specs.{HasSpelling, spelling};
-ghost use Rattle.osc_message.specs.{AreSendable, FitsDatagram};
+ghost use Rattle.osc_message.specs.{AreSendable, FitsDatagram, GoesOut};
 ghost use Rattle.osc_proxy.specs.Inner.Bounds.{IsOpen};
 ghost use Rattle.osc_proxy.specs.Exchanges.{count};
 ghost use Rattle.osc_proxy.specs.Table.{Closes, back_kept, back_sends};
@@ -85,17 +85,46 @@ fn all_end(
     }
 }
 
-/// Whether room was had for the answer of each exchange; memory is taken where one is over.
-fn make_room(
+/// The datagrams with room after them for the answer of each exchange; as they are where none is over, which takes no memory, or
+/// where there is no memory for that room.
+fn with_room(
     exchanges: &Exchanges,
-    out: &mut Vec<Datagram>,
+    out: Datagrams,
     now: Moment,
     given_up: &[MessageName],
-) -> bool
-    ensures items { out.new.items ≡ out.old.items }
-    ensures room { result ≡ true → vec_len out.new + count exchanges.now ≤ vec_capacity out.new }
+) -> Result<Vec<Datagram>, Datagrams>
+    ensures ok { IfOk result (λ room. (room.items ≡ out) × (vec_len room + count exchanges.now ≤ vec_capacity room)) }
+    ensures err { IfErr result (λ same. same ≡ out) }
 {
-    exchanges.find_over(now, given_up).is_some() && out.reserve(exchanges.count()).is_ok()
+    match exchanges.find_over(now, given_up) {
+        Some(_) => out.into_vec(exchanges.count()),
+        None => Err(out),
+    }
+}
+
+/// Ends each exchange that is over by 5.04. The datagrams go after the others, or, without memory for them, are lost.
+fn answer_all(
+    exchanges: &mut Exchanges,
+    endpoint: &mut Endpoint,
+    alloc: Global,
+    out: Datagrams,
+    tick: AtTick<'_>,
+) -> Datagrams
+    ensures { (answers : List AnyDatagram) × (told : List AnyDatagram) × (result ≡ out ++ told) × GoesOut answers told
+        × ((targets : List AnyTarget) → AllEnd tick.entry.at tick.entry.draw.now tick.entry.given_up.now (record { targets = targets; exchanges = exchanges.old; endpoint = endpoint.old }) answers
+        (record { targets = targets; exchanges = exchanges.new; endpoint = endpoint.new })) × AreSendable answers }
+{
+    match with_room(exchanges, out, tick.at, tick.given_up) {
+        Ok(mut room) => {
+            all_end(exchanges, endpoint, &mut room, true, tick);
+            Datagrams::from_vec(room)
+        }
+        Err(same) => {
+            let mut lost = Vec::new(alloc);
+            all_end(exchanges, endpoint, &mut lost, false, tick);
+            same
+        }
+    }
 }
 
 /// What comes due at this moment.
@@ -111,13 +140,11 @@ pub(crate) fn tick(
 {
     exchanges.withdraw_over(endpoint, now);
     let Ticked { out, given_up } = endpoint.on_tick(alloc, now);
-    let mut out = out.into_vec();
-    let room = make_room(exchanges, &mut out, now, given_up.as_slice());
     let tick = AtTick {
         at: now,
         draw,
         given_up: given_up.as_slice(),
     };
-    all_end(exchanges, endpoint, &mut out, room, tick);
-    Step::sending(Datagrams::from_vec(out))
+    let out = answer_all(exchanges, endpoint, alloc, out, tick);
+    Step::sending(out)
 }

@@ -1,10 +1,11 @@
 //! What is kept of a world's events.
-ghost use Rattle.std.specs.Prelude.{◌≡◌, ◌≤◌, ◌-◌, ◌++◌, [], IfOk, OnOk, length, map, position, vec_capacity, vec_len};
+ghost use Rattle.std.specs.Prelude.{◌≡◌, ◌≤◌, ◌+◌, ◌-◌, ◌++◌, [], IfOk, OnOk, length, map, position, vec_capacity, vec_len};
+ghost use Rattle.std.specs.Option.{option_to_list};
 ghost use Rattle.osc_world.specs.Log.{HasRoom, IsKept, delivered, first_waiting, number_of, sent_by, sent_from, settled, steps_with, waiting};
 
 use crate::event::What;
 use crate::nodes::Taken;
-use osc_model::{Bytes, Datagram, Peer};
+use osc_model::{Bytes, Datagram, Datagrams, Peer};
 use osc_run::Notes;
 use std::alloc::{AllocError, Global};
 use std::marker::Model;
@@ -197,7 +198,7 @@ impl Log {
         let Taken { at, noted, out } = taken?;
         let number = self.notes.steps().len();
         self.notes.add(noted);
-        send(&mut self.sent, at, out.into_vec());
+        send(&mut self.sent, at, out);
         Some(number)
     }
 }
@@ -226,7 +227,34 @@ fn first_from(sent: &[SentDatagram], number: usize) -> usize
 }
 
 /// Adds what was sent from there, for which there is room; takes no memory.
-fn send(sent: &mut Vec<SentDatagram>, at: Peer, out: Vec<Datagram>)
+fn send(sent: &mut Vec<SentDatagram>, at: Peer, out: Datagrams)
+    requires { length out ≤ vec_capacity sent.old - vec_len sent.old }
+    ensures { sent.new.items ≡ sent.old.items ++ map (sent_from at) out }
+{
+    let (first, more) = out.into_parts();
+    send_first(sent, at, first);
+    send_all(sent, at, more);
+}
+
+/// Adds a datagram, if there is one.
+fn send_first(sent: &mut Vec<SentDatagram>, at: Peer, first: Option<Datagram>)
+    requires { length (option_to_list first) ≤ vec_capacity sent.old - vec_len sent.old }
+    ensures items { sent.new.items ≡ sent.old.items ++ map (sent_from at) (option_to_list first) }
+    ensures len { vec_len sent.new ≡ vec_len sent.old + length (option_to_list first) }
+    ensures capacity { vec_capacity sent.new ≡ vec_capacity sent.old }
+{
+    if let Some(Datagram { to, bytes }) = first {
+        sent.push_reserved(SentDatagram {
+            from: at,
+            to,
+            bytes,
+            waits: true,
+        });
+    }
+}
+
+/// Adds these datagrams.
+fn send_all(sent: &mut Vec<SentDatagram>, at: Peer, out: Vec<Datagram>)
     requires { length out.items ≤ vec_capacity sent.old - vec_len sent.old }
     ensures { sent.new.items ≡ sent.old.items ++ map (sent_from at) out.items }
 {

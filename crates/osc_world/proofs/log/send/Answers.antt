@@ -1,31 +1,30 @@
-use Rattle.std.proofs.Common.{◌≡◌, ◌++◌, map, ap, sym, ◌∙◌, length, [], append-nil, refl, arith, rules}
+use Rattle.std.proofs.Common.{◌++◌, length, map, ap, sym, ◌∙◌, append_assoc, arith}
+use Rattle.std.specs.Option.{option_to_list}
+use Rattle.std.proofs.lemmas.List.{map-append, length-append}
 use Rattle.osc_world.specs.{sent_from}
-use Rattle.osc_world.proofs.Sending.{no_items, sent_more}
 use Rattle.osc_world.proofs.log.send.Goals as goal
 
-pub loop-to-init : goal.loop-to-init
-loop-to-init c =
-    let all : c.into_iter-to-iterator.result.rest.items ≡ c.args.out.items = search rules in
-    record {
-      moves = ap (λ xs. c.args.sent.now.items ++ map (sent_from c.args.at) xs) all;
-      room = omega (arith, ap length all, c.requires);
-    }
+pub send_first-requires : goal.send_first-requires
+send_first-requires c =
+    omega (arith, c.requires, ap length c.into_parts-first.ensures, length-append (option_to_list c.into_parts-first.result.0) c.into_parts-first.result.1.items)
 
-pub push_reserved-requires : goal.push_reserved-requires
-push_reserved-requires c = omega (arith, ap length c.in-Some.ensures.steps.0, c.loop-to.invariant.room)
-
-pub loop-to-preserved : goal.loop-to-preserved
-loop-to-preserved c =
-    let split = c.in-Some.ensures.steps.0 in
-    let before = c.loop-to.invariant in
-    record {
-      moves = sent_more c.args.at c.loop-to.sent.items c.push_reserved.new.self.items _ c.in-Some.field-0 c.loop-to.to-iterator.rest.items c.next.new.self.rest.items
-          c.push_reserved.ensures.items split
-          refl ∙ before.moves;
-      room = omega (arith, ap length split, before.room, c.push_reserved.ensures.len, c.push_reserved.ensures.capacity);
-    }
+pub send_all-requires : goal.send_all-requires
+send_all-requires c =
+    omega (
+      arith,
+      c.requires,
+      ap length c.into_parts-first.ensures,
+      length-append (option_to_list c.into_parts-first.result.0) c.into_parts-first.result.1.items,
+      c.send_first.ensures.len,
+      c.send_first.ensures.capacity,
+    )
 
 pub returns : goal.returns
 returns c =
-    let none : c.loop-to.to-iterator.rest.items ≡ [] = no_items c.loop-to.to-iterator.rest.items (omega (arith, c.in-None.ensures.steps.0, c.loop-to.to-iterator.rest.ok.0)) in
-    sym (append-nil c.loop-to.sent.items) ∙ ap (λ xs. c.loop-to.sent.items ++ map (sent_from c.args.at) xs) (sym none) ∙ c.loop-to.invariant.moves
+    let kept = map (sent_from c.args.at) in
+    let first = option_to_list c.into_parts-first.result.0 in
+    let more = c.into_parts-first.result.1.items in
+    c.send_all.ensures
+    ∙ ap (λ xs. xs ++ kept more) c.send_first.ensures.items
+    ∙ append_assoc c.args.sent.now.items (kept first) (kept more)
+    ∙ ap (λ xs. c.args.sent.now.items ++ xs) (sym (map-append (sent_from c.args.at) first more) ∙ ap kept c.into_parts-first.ensures)

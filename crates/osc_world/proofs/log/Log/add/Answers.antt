@@ -5,4 +5,4 @@ use Rattle.osc_world.proofs.log.Log.add.Goals as goal
 
 pub invariant_of-self : goal.invariant_of-self
 invariant_of-self c =
-    c.self.invariant ∙ sym (first_stays c.in_ok-at.field-0.at c.self.inside.sent.items c.into_vec.result.items) ∙ ap first_waiting (sym c.send.ensures)
+    c.self.invariant ∙ sym (first_stays c.in_ok-at.field-0.at c.self.inside.sent.items c.in_ok-at.field-0.out) ∙ ap first_waiting (sym c.send.ensures)
