@@ -4,7 +4,7 @@ ghost use Rattle.osc_message.specs.{FitsDatagram, IsSendableHandling};
 
 use osc_coap::{Kind, MessageBuilder, MessageRef};
 use osc_message::*;
-use osc_model::{Bytes, Datagrams, Draw, Moment, Peer};
+use osc_model::{Bytes, Datagram, Datagrams, Draw, Moment, Peer};
 use std::alloc::{AllocError, Global};
 
 /// A message layer with places for as many confirmable messages as are ever open.
@@ -533,6 +533,47 @@ fn what_is_sent_has_its_room(rt: HostRuntime) {
         Bytes::from_slice(rt.alloc(), b"second").expect(&rt, "memory"),
     );
     assert!(rt; outbox.into_datagrams().as_slice().len() == 2);
+}
+
+#[test]
+fn a_reply_goes_out_from_where_it_is_written(rt: HostRuntime) {
+    let room = ReplyRoom::new(rt.alloc(), 8).expect(&rt, "memory");
+    let (bytes, copy) = room.open();
+    let (out, noted) = copy.fill(PEER, bytes.fill(b"reply"));
+    assert!(rt; out.as_slice().len() == 1);
+    assert!(rt; noted.as_slice() == b"reply".as_slice());
+    let empty = Buffer::new(rt.alloc(), 8).expect(&rt, "memory");
+    assert!(rt; empty.into_vec().is_empty());
+}
+
+/// A datagram of these bytes.
+fn datagram(alloc: Global, bytes: &[u8]) -> Result<Datagram, AllocError> {
+    Ok(Datagram {
+        to: PEER,
+        bytes: Bytes::from_slice(alloc, bytes)?,
+    })
+}
+
+/// One datagram alone, and two.
+fn some(alloc: Global) -> Result<(Datagrams, Datagrams), AllocError> {
+    let one = Datagrams::one(alloc, datagram(alloc, b"first")?);
+    let mut two = Datagrams::new(alloc);
+    two.push(datagram(alloc, b"first")?)?;
+    two.push(datagram(alloc, b"second")?)?;
+    Ok((one, two))
+}
+
+#[test]
+fn datagrams_go_in_their_order(rt: HostRuntime) {
+    let (one, two) = some(rt.alloc()).expect(&rt, "memory");
+    assert!(rt; one.as_slice().len() == 1);
+    assert!(rt; two.as_slice().len() == 2);
+    let (first, more) = one.into_parts();
+    assert!(rt; first.is_some() && more.is_empty());
+    let all = two.into_vec(3).ok().expect(&rt, "memory");
+    assert!(rt; all.len() == 2);
+    let last = all.last().expect(&rt, "a datagram");
+    assert!(rt; last.bytes.as_slice() == b"second".as_slice());
 }
 
 #[test]

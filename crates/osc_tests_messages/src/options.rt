@@ -258,8 +258,11 @@ fn a_protected_request(rt: HostRuntime) {
     let request = parsed(&rt, &REQUEST);
     let plaintext = plaintext_of(&request).ok().expect(&rt, "room");
     assert!(rt; plaintext.bytes() == PLAINTEXT);
-    let outer = protected_message(&request, 2, b"\x09\x14", &PROTECTED[22..]);
-    assert!(rt; outer.ok().expect(&rt, "room").bytes() == PROTECTED.as_slice());
+    let mut outer = MessageBuilder::start(Kind::Confirmable, 0, 0, &[]);
+    write_protected(&mut outer, &request, 2, b"\x09\x14", &PROTECTED[22..])
+        .ok()
+        .expect(&rt, "room");
+    assert!(rt; outer.bytes() == PROTECTED.as_slice());
 }
 
 /// A protected message and its plaintext make the message again.

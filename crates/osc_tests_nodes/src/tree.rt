@@ -12,6 +12,9 @@ use std::test::Fail;
 // The ETag of the empty resource without a format.
 const TAG: [u8; 8] = [0x6e, 0x34, 0x0b, 0x9c, 0xff, 0xb3, 0x7a, 0x98];
 
+// The ETag of the resource `a` without a format.
+const TAG_OF_A: [u8; 8] = [0x02, 0x2a, 0x69, 0x79, 0xe6, 0xda, 0xb7, 0xaa];
+
 // A request's conditions and formats.
 #[derive(Clone, Copy)]
 enum With {
@@ -197,6 +200,44 @@ fn a_get_answers_the_tag(rt: HostRuntime) -> Result<(), Fail> {
     let tag = etag(&empty);
     assert_eq!(rt; tag, TAG);
     assert_eq!(rt; tag_answered(rt.alloc())?, Some(TAG));
+    Ok(())
+}
+
+// Requests on `/e` in a row, each with the code and the ETag that are answered.
+const TAGS_IN_A_ROW: [(Asked, Code, Option<[u8; 8]>); 9] = [
+    ((GET, b'e', 0, With::Nothing), Code::CONTENT, Some(TAG)),
+    ((GET, b'e', 0, With::Nothing), Code::CONTENT, Some(TAG)),
+    ((POST, b'e', 1, With::IfMatch(&TAG)), Code::CHANGED, None),
+    (
+        (POST, b'e', 1, With::IfMatch(&TAG)),
+        Code::PRECONDITION_FAILED,
+        None,
+    ),
+    ((GET, b'e', 0, With::Nothing), Code::CONTENT, Some(TAG_OF_A)),
+    ((GET, b'e', 0, With::Nothing), Code::CONTENT, Some(TAG_OF_A)),
+    (
+        (PUT, b'e', 0, With::IfMatch(&TAG_OF_A)),
+        Code::CHANGED,
+        None,
+    ),
+    ((GET, b'e', 0, With::Nothing), Code::CONTENT, Some(TAG)),
+    (
+        (GET, b'e', 0, With::IfMatch(&TAG)),
+        Code::CONTENT,
+        Some(TAG),
+    ),
+];
+
+#[test]
+fn a_tag_follows_its_resource(rt: HostRuntime) -> Result<(), Fail> {
+    let alloc = rt.alloc();
+    let scope = scope_of(alloc, EVERY_METHOD)?;
+    let mut tree = small_tree(alloc, &scope)?;
+    for &(asked, code, tag) in &TAGS_IN_A_ROW {
+        let reply = tree.apply(alloc, &scope, &request(alloc, asked)?)?;
+        assert!(rt; reply.code == code);
+        assert_eq!(rt; reply.etag, tag);
+    }
     Ok(())
 }
 

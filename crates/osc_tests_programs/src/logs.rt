@@ -4,8 +4,8 @@ ghost use Rattle.osc_log.specs.declared.held.Held.TheVariants as AnyHeld;
 use crate::broken::{BrokenWriter, FullPipe};
 use osc_log::{AtOnce, Form, Held, Holds, Lines, Log, Silent, Turn};
 use osc_model::{
-    Algorithm, Bytes, Code, ContextName, Datagram, Datagrams, Entry, Moment, Note, Peer,
-    RefusedRequest, Reply, SharedName, Side, Step, StepNotes,
+    Algorithm, AssociatedData, Bytes, Code, ContextName, Datagram, Datagrams, Entry, Moment, Note,
+    Peer, RefusedRequest, Reply, SharedName, Side, Step, StepNotes,
 };
 use std::alloc::{AllocError, Global};
 use std::io::{ErrorKind, Write};
@@ -457,7 +457,7 @@ fn posting(alloc: Global, nonce: [u8; 8]) -> Result<Step, AllocError> {
         side: Side::Client,
         number: 0,
         nonce: [0; 13],
-        aad: Bytes::new(alloc),
+        aad: AssociatedData::from_slice(&[]),
         plaintext: Bytes::from_slice(
             alloc,
             b"\xa2\x03\x61s\x08\xa1\x04\xa2\x00\x41\xab\x02\x41\xff",

@@ -1,7 +1,7 @@
 //! Runs as rows: what each step did, in small numbers.
 use osc_model::{
-    Algorithm, Bytes, ClientResult, Code, ContextName, Entry, Moment, Note, Reply, SharedName,
-    Side, StepNotes,
+    Algorithm, AssociatedData, Bytes, ClientResult, Code, ContextName, Entry, Moment, Note, Reply,
+    SharedName, Side, StepNotes,
 };
 use osc_run::{Grant, Minted, Noted, Notes};
 use osc_scope::Scope;
@@ -107,7 +107,7 @@ fn note(rt: &impl Abort, alloc: Global, side: Side, used: Use) -> Note {
         side,
         number: used.number,
         nonce: [used.nonce; 13],
-        aad: Bytes::from_slice(alloc, &[used.aad]).expect(rt, "memory"),
+        aad: AssociatedData::from_slice(&[used.aad]),
         plaintext: Bytes::from_slice(alloc, &[used.text]).expect(rt, "memory"),
     }
 }

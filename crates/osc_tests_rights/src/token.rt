@@ -1,7 +1,7 @@
 //! Tokens, byte by byte. What is sealed was computed by another implementation of AES-CCM.
 use osc_ccm::Ccm;
 use osc_cose::{seal0, write0};
-use osc_model::{Algorithm, Bytes, ContextName, Note, SharedName, Side};
+use osc_model::{Algorithm, AssociatedData, Bytes, ContextName, Note, SharedName, Side};
 use osc_token::{Audience, Claims, InputMaterial, MintError, mint, open_token};
 use std::alloc::{AllocError, Global};
 use std::process::Abort;
@@ -65,7 +65,7 @@ fn note(rt: &impl Abort, alloc: Global) -> Note {
         side: Side::Server,
         number: 0,
         nonce: IV,
-        aad: Bytes::from_slice(alloc, b"\x83\x68Encrypt0\x43\xa1\x01\x0a\x40").expect(rt, "memory"),
+        aad: AssociatedData::from_slice(b"\x83\x68Encrypt0\x43\xa1\x01\x0a\x40"),
         plaintext: Bytes::from_slice(alloc, TEXT).expect(rt, "memory"),
     }
 }
