@@ -18,7 +18,7 @@ void __real_free(void *block);
 void *__wrap_malloc(size_t size);
 void __wrap_free(void *block);
 
-/* No call may take more than so many times the median of an open GET. */
+/* No call may take more than so many times the median of an open GET, the first one of its resource. */
 enum { TIMES = 30 };
 
 /* The most bytes of a datagram; the size of the block that marks; the most rounds of one measurement. */
@@ -126,6 +126,16 @@ static count counted(uint32_t rounds) {
 
 /* A confirmable GET of the server's open resource, as libcoap would write it. */
 static const uint8_t OPEN_GET[] = {0x44, 0x01, 0x00, 0x01, 1, 2, 3, 4, 0xb4, 'r', '0', '0', '0'};
+
+/* Measures it as `measure` does: each is the first GET of its server's resource, for which an ETag is computed. */
+static void measure_get(uint32_t rounds, int runs) {
+    static uint32_t taken[MOST_ROUNDS];
+    for (uint32_t i = 0; i < rounds; i++) {
+        measure(SERVER, OPEN_GET, sizeof OPEN_GET, 1, runs);
+        taken[i] = least[0];
+    }
+    memcpy(least, taken, sizeof taken[0] * rounds);
+}
 
 enum { CODE_TEXT = 16 };
 

@@ -249,12 +249,12 @@ int main(int words, char **word) {
     setvbuf(stdout, NULL, _IOLBF, 0);
     find_overhead();
     make_shapes();
-    measure(SERVER, OPEN_GET, sizeof OPEN_GET, MOST_ROUNDS, RUNS);
+    measure_get(MOST_ROUNDS, RUNS);
     uint32_t get_ns = counted(MOST_ROUNDS).median, get_counted = get_ns;
     if (counts_instructions()) {
         count_now = instructions;
         find_overhead();
-        measure(SERVER, OPEN_GET, sizeof OPEN_GET, MOST_ROUNDS, RUNS);
+        measure_get(MOST_ROUNDS, RUNS);
         get_counted = counted(MOST_ROUNDS).median;
         printf("An open GET takes %u ns and %u instructions; %g seconds a node, seed %llu\n", get_ns, get_counted, seconds, (unsigned long long)seed);
     } else {
