@@ -1,5 +1,5 @@
 -- One more entry at the end of a history.
-use Rattle.std.proofs.Common.{◌≡◌, ℕ, List, [], ◌∷◌, ◌++◌, Result, refl}
+use Rattle.std.proofs.Common.{◌≡◌, ℕ, List, [], ◌∷◌, ◌++◌, Option, Result, refl}
 use Rattle.std.specs.List.{AllByRecursion}
 use Rattle.osc_model.specs.Tree.{Tree}
 use Rattle.osc_model.specs.{MayReply, IsSameRequest, HasOwnNumbers, outcome_of, tree_after, effect, AreAnswered, IsInTime, IsLegal, MayFollow}
@@ -19,19 +19,19 @@ numbers_push [] entry earlier last = (tt, tt)
 numbers_push (e ∷ entries) entry earlier last =
     (all_push (λ other. ¬ IsSameRequest e other) entries entry earlier.0 last.0, numbers_push entries entry earlier.1 last.1)
 
-module _ (read : List ℕ → Result Request Code) (grants : List Grant) where
-  pub effect_push : (tree : Tree) (entries : List Entry) (entry : Entry) → effect read grants tree (entries ++ entry ∷ []) ≡ tree_after read grants (effect read grants tree entries) entry
+module _ (read : List ℕ → Result Request Code) (root : Option (List ℕ)) (grants : List Grant) where
+  pub effect_push : (tree : Tree) (entries : List Entry) (entry : Entry) → effect read root grants tree (entries ++ entry ∷ []) ≡ tree_after read root grants (effect read root grants tree entries) entry
   effect_push tree [] entry = refl
-  effect_push tree (e ∷ entries) entry = effect_push (tree_after read grants tree e) entries entry
+  effect_push tree (e ∷ entries) entry = effect_push (tree_after read root grants tree e) entries entry
 
   -- answered on the tree that the others leave
-  answered_push : (tree : Tree) (entries : List Entry) (entry : Entry) → AreAnswered read grants tree entries → MayReply (outcome_of read grants (effect read grants tree entries) entry) entry.reply → AreAnswered read grants tree (entries ++ entry ∷ [])
+  answered_push : (tree : Tree) (entries : List Entry) (entry : Entry) → AreAnswered read root grants tree entries → MayReply (outcome_of read root grants (effect read root grants tree entries) entry) entry.reply → AreAnswered read root grants tree (entries ++ entry ∷ [])
   answered_push tree [] entry earlier last = (last, tt)
-  answered_push tree (e ∷ entries) entry earlier last = (earlier.0, answered_push (tree_after read grants tree e) entries entry earlier.1 last)
+  answered_push tree (e ∷ entries) entry earlier last = (earlier.0, answered_push (tree_after read root grants tree e) entries entry earlier.1 last)
 
-  pub legal_push : (first : Tree) (history : List Entry) (entry : Entry) → IsLegal read grants first history → MayFollow read grants first history entry → IsLegal read grants first (history ++ entry ∷ [])
+  pub legal_push : (first : Tree) (history : List Entry) (entry : Entry) → IsLegal read root grants first history → MayFollow read root grants first history entry → IsLegal read root grants first (history ++ entry ∷ [])
   legal_push first history entry legal more = record {
     once = numbers_push history entry legal.once more.once;
-    timely = all_push (IsInTime read grants) history entry legal.timely more.timely;
+    timely = all_push (IsInTime read root grants) history entry legal.timely more.timely;
     answered = answered_push first history entry legal.answered more.answered;
   }

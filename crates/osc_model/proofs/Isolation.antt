@@ -108,7 +108,7 @@ either false tree outcome path e = e
 
 -- ---- a history
 
-module _ (read : List ℕ → Result Request Code) (grants : List Grant) (client : ℕ) (secrets : HaveOwnSecrets grants) (paths : HaveOwnPaths grants) where
+module _ (read : List ℕ → Result Request Code) (root : Option (List ℕ)) (grants : List Grant) (client : ℕ) (secrets : HaveOwnSecrets grants) (paths : HaveOwnPaths grants) where
   abbrev mine : Grant → Bool
   mine grant = grant.holder == client
 
@@ -119,8 +119,8 @@ module _ (read : List ℕ → Result Request Code) (grants : List Grant) (client
   abbrev Near : Tree → Tree → Type 0
   Near here there = (name : ContextName) (grant : Grant) → grant_of held name ≡ Some grant → (path : List ℕ) → names grant.scope path ≡ true → fin.get here path ≡ fin.get there path
 
-  pub isolated : (here there : Tree) (entries : List Entry) → Near here there → AllByRecursion (IsInTime read grants) entries → AreAnswered read grants here entries
-      → AgreeUpToWant (answers (entries_under held entries)) (machine_answers read held there (entries_under held entries))
+  pub isolated : (here there : Tree) (entries : List Entry) → Near here there → AllByRecursion (IsInTime read root grants) entries → AreAnswered read root grants here entries
+      → AgreeUpToWant (answers (entries_under held entries)) (machine_answers read root held there (entries_under held entries))
   isolated here there [] near timely answered = tt
   isolated here there (entry ∷ entries) near timely answered =
       by (grant_of held entry.context) (grant_of grants entry.context) refl refl timely.0
@@ -128,48 +128,48 @@ module _ (read : List ℕ → Result Request Code) (grants : List Grant) (client
     where
       -- an entry of the client's own, whose grant is that of its context among all
       of_own : (grant : Grant) → grant_of held entry.context ≡ Some grant
-          → ((here' there' : Tree) → Near here' there' → AreAnswered read grants here' entries → AgreeUpToWant (answers (entries_under held entries)) (machine_answers read held there' (entries_under held entries)))
-          → AgreeUpToWant (answers (entry ∷ entries_under held entries)) (machine_answers read held there (entry ∷ entries_under held entries))
+          → ((here' there' : Tree) → Near here' there' → AreAnswered read root grants here' entries → AgreeUpToWant (answers (entries_under held entries)) (machine_answers read root held there' (entries_under held entries)))
+          → AgreeUpToWant (answers (entry ∷ entries_under held entries)) (machine_answers read root held there (entry ∷ entries_under held entries))
       of_own grant is later =
           let asked : Result Request Code = read entry.plaintext in
           let among_all : Some grant ≡ grant_of grants entry.context = sym (one_of_all mine entry.context grants grant secrets is) in
-          let same : Alike here there (apply_read here grant.scope asked) (apply_read there grant.scope asked) =
-          alike here there grant.scope asked (λ q named. near entry.context grant is q named) in
-          let same : Alike here there (outcome_of read grants here entry) (apply_read there grant.scope asked) =
-          subst (λ g. Alike here there (apply_read here (scope_of g) asked) (apply_read there grant.scope asked)) among_all same in
-          let same : Alike here there (outcome_of read grants here entry) (outcome_of read held there entry) =
-          subst (λ g. Alike here there (outcome_of read grants here entry) (apply_read there (scope_of g) asked)) (sym is) same in
-          own_entry here there entry.number entry.reply (outcome_of read grants here entry) (outcome_of read held there entry)
-          (answers (entries_under held entries)) (machine_answers read held (outcome_of read held there entry).tree (entries_under held entries))
+          let same : Alike here there (apply_read root here grant.scope asked) (apply_read root there grant.scope asked) =
+          alike root here there grant.scope asked (λ q named. near entry.context grant is q named) in
+          let same : Alike here there (outcome_of read root grants here entry) (apply_read root there grant.scope asked) =
+          subst (λ g. Alike here there (apply_read root here (scope_of g) asked) (apply_read root there grant.scope asked)) among_all same in
+          let same : Alike here there (outcome_of read root grants here entry) (outcome_of read root held there entry) =
+          subst (λ g. Alike here there (outcome_of read root grants here entry) (apply_read root there (scope_of g) asked)) (sym is) same in
+          own_entry here there entry.number entry.reply (outcome_of read root grants here entry) (outcome_of read root held there entry)
+          (answers (entries_under held entries)) (machine_answers read root held (outcome_of read root held there entry).tree (entries_under held entries))
           same answered.0
-          (λ kept. later (tree_after read grants here entry) (outcome_of read held there entry).tree (λ name g found q named. kept q (near name g found q named)) answered.1)
+          (λ kept. later (tree_after read root grants here entry) (outcome_of read root held there entry).tree (λ name g found q named. kept q (near name g found q named)) answered.1)
 
       -- an entry of another, which leaves what the client's grants name
-      of_other : (other : Grant) → grant_of held entry.context ≡ None → grant_of grants entry.context ≡ Some other → Near (tree_after read grants here entry) there
+      of_other : (other : Grant) → grant_of held entry.context ≡ None → grant_of grants entry.context ≡ Some other → Near (tree_after read root grants here entry) there
       of_other other none is name grant own q named =
           let far : AreApart grant.scope other.scope =
           apart_from_others mine (λ g. bytes_eq g.secret name.secret) (λ g. bytes_eq g.secret entry.context.secret) grants grant other paths own is
           (not_mine mine (λ g. bytes_eq g.secret entry.context.secret) grants other is none) in
           let unnamed : names (scope_of (grant_of grants entry.context)) q ≡ false = ap (λ g. names (scope_of g) q) is ∙ far q named in
-          either (entry.reply.code.0 == 160) here (outcome_of read grants here entry) q (keeps_unnamed here (scope_of (grant_of grants entry.context)) (read entry.plaintext) q unnamed)
+          either (entry.reply.code.0 == 160) here (outcome_of read root grants here entry) q (keeps_unnamed root here (scope_of (grant_of grants entry.context)) (read entry.plaintext) q unnamed)
           ∙ near name grant own q named
 
       by : (own its : Option Grant) → grant_of held entry.context ≡ own → grant_of grants entry.context ≡ its → IsSomeAnd its (λ grant. IsTimely grant entry.moment)
-          → ((here' there' : Tree) → Near here' there' → AreAnswered read grants here' entries → AgreeUpToWant (answers (entries_under held entries)) (machine_answers read held there' (entries_under held entries)))
+          → ((here' there' : Tree) → Near here' there' → AreAnswered read root grants here' entries → AgreeUpToWant (answers (entries_under held entries)) (machine_answers read root held there' (entries_under held entries)))
           → AgreeUpToWant (answers (cond (is_some own) (entry ∷ entries_under held entries) (entries_under held entries)))
-          (machine_answers read held there (cond (is_some own) (entry ∷ entries_under held entries) (entries_under held entries)))
+          (machine_answers read root held there (cond (is_some own) (entry ∷ entries_under held entries) (entries_under held entries)))
       by (Some grant) its is_own is_its timed later = of_own grant is_own later
-      by None (Some other) is_own is_its timed later = later (tree_after read grants here entry) there (of_other other is_own is_its) answered.1
+      by None (Some other) is_own is_its timed later = later (tree_after read root grants here entry) there (of_other other is_own is_its) answered.1
       by None None is_own is_its timed later = absurd timed
 
 -- one answer to each entry, under its number
-one_each : (read : List ℕ → Result Request Code) (grants : List Grant) (tree : Tree) (entries : List Entry) → numbers (answers entries) ≡ numbers (machine_answers read grants tree entries)
-one_each read grants tree [] = refl
-one_each read grants tree (entry ∷ entries) = ap (λ ns. entry.number ∷ ns) (one_each read grants (outcome_of read grants tree entry).tree entries)
+one_each : (read : List ℕ → Result Request Code) (root : Option (List ℕ)) (grants : List Grant) (tree : Tree) (entries : List Entry) → numbers (answers entries) ≡ numbers (machine_answers read root grants tree entries)
+one_each read root grants tree [] = refl
+one_each read root grants tree (entry ∷ entries) = ap (λ ns. entry.number ∷ ns) (one_each read root grants (outcome_of read root grants tree entry).tree entries)
 
 -- whoever the client is
-pub each_isolated : (read : List ℕ → Result Request Code) (grants : List Grant) (first : Tree) (history : List Entry) → HaveOwnSecrets grants → HaveOwnPaths grants → IsLegal read grants first history → IsIsolated read grants first history
-each_isolated read grants first history secrets paths legal client = record {
-  requests = one_each read (held_by client grants) first (entries_under (held_by client grants) history);
-  replies = isolated read grants client secrets paths first first history (λ name grant own path named. refl) legal.timely legal.answered;
+pub each_isolated : (read : List ℕ → Result Request Code) (root : Option (List ℕ)) (grants : List Grant) (first : Tree) (history : List Entry) → HaveOwnSecrets grants → HaveOwnPaths grants → IsLegal read root grants first history → IsIsolated read root grants first history
+each_isolated read root grants first history secrets paths legal client = record {
+  requests = one_each read root (held_by client grants) first (entries_under (held_by client grants) history);
+  replies = isolated read root grants client secrets paths first first history (λ name grant own path named. refl) legal.timely legal.answered;
 }

@@ -42,28 +42,28 @@ perform_answers tree path (Some Post) request = write_answers tree path (written
 perform_answers tree path (Some Put) request = write_answers tree path (written (Some Put) (map.get tree path) request)
 perform_answers tree path (Some Delete) request = refl
 
-at_answers : (tree : Tree) (scope : Scope) (path : Option (List ℕ)) (request : Request) → Answers (apply_at tree scope path request)
+at_answers : (root : Option (List ℕ)) (tree : Tree) (scope : Scope) (path : Option (List ℕ)) (request : Request) → Answers (apply_at root tree scope path request)
 unfolding refusal
-at_answers tree scope None request = refl
-at_answers tree scope (Some path) request =
-    refused tree (checks tree scope path request) _
+at_answers root tree scope None request = refl
+at_answers root tree scope (Some path) request =
+    refused tree (checks root tree scope path request) _
     (refl, (refl, (refl, (refl, (refl, (refl, (refl, (refl, tt))))))))
     (perform_answers tree path (method_of request.code) request)
 
-answers : (tree : Tree) (scope : Scope) (request : Request) → Answers (apply tree scope request)
+answers : (root : Option (List ℕ)) (tree : Tree) (scope : Scope) (request : Request) → Answers (apply root tree scope request)
 unfolding apply
-answers tree scope request = at_answers tree scope request.path request
+answers root tree scope request = at_answers root tree scope request.path request
 
 not_true : (b : Bool) → not b ≡ true → b ≡ false
 not_true true e = cc
 not_true false e = refl
 
-module _ (tree : Tree) (scope : Scope) (request : Request) where
-  pub at_least : 64 ≤ (apply tree scope request).reply.code.0
-  at_least = leb-true 64 _ (and_parts _ _ (and_parts _ _ (answers tree scope request)).0).0
+module _ (root : Option (List ℕ)) (tree : Tree) (scope : Scope) (request : Request) where
+  pub at_least : 64 ≤ (apply root tree scope request).reply.code.0
+  at_least = leb-true 64 _ (and_parts _ _ (and_parts _ _ (answers root tree scope request)).0).0
 
-  pub at_most : (apply tree scope request).reply.code.0 < 192
-  at_most = ltb-true _ 192 (and_parts _ _ (and_parts _ _ (answers tree scope request)).0).1
+  pub at_most : (apply root tree scope request).reply.code.0 < 192
+  at_most = ltb-true _ 192 (and_parts _ _ (and_parts _ _ (answers root tree scope request)).0).1
 
-  pub never_out_of_memory : ((apply tree scope request).reply.code.0 == 160) ≡ false
-  never_out_of_memory = not_true _ (and_parts _ _ (answers tree scope request)).1
+  pub never_out_of_memory : ((apply root tree scope request).reply.code.0 == 160) ≡ false
+  never_out_of_memory = not_true _ (and_parts _ _ (answers root tree scope request)).1

@@ -43,20 +43,21 @@ abbrev pub refused_or : Tree → Option Code → Outcome → Outcome
 refused_or tree (Some c) outcome = unchanged tree c
 refused_or tree None outcome = outcome
 
+-- `root` is the server's revocation path, if it has one.
 -- Uri-Path options that make no path name nothing that a scope has: 4.03 Forbidden
-abbrev pub apply_at : Tree → Scope → Option (List ℕ) → Request → Outcome
-apply_at tree scope None request = unchanged tree (code 4 3)
-apply_at tree scope (Some path) request = refused_or tree (refusal tree scope path request) (perform tree path (method_of request.code) request)
+abbrev pub apply_at : Option (List ℕ) → Tree → Scope → Option (List ℕ) → Request → Outcome
+apply_at root tree scope None request = unchanged tree (code 4 3)
+apply_at root tree scope (Some path) request = refused_or tree (refusal root tree scope path request) (perform tree path (method_of request.code) request)
 
 -- the reply to a request, and the tree after it
-unfoldable pub apply : Tree → Scope → Request → Outcome
-apply tree scope request = apply_at tree scope request.path request
+unfoldable pub apply : Option (List ℕ) → Tree → Scope → Request → Outcome
+apply root tree scope request = apply_at root tree scope request.path request
 
 -- The first two checks are of a plaintext's bytes (RFC 8613 section 5.3): reading them gives the request, or the code
 -- that answers, 4.00 where they are no code, options and payload, or 4.02 for an option that can't be heeded.
-abbrev pub apply_read : Tree → Scope → Result Request Code → Outcome
-apply_read tree scope (Ok request) = apply tree scope request
-apply_read tree scope (Err c) = unchanged tree c
+abbrev pub apply_read : Option (List ℕ) → Tree → Scope → Result Request Code → Outcome
+apply_read root tree scope (Ok request) = apply root tree scope request
+apply_read root tree scope (Err c) = unchanged tree c
 
 -- the reply is the machine's, or 5.00 in place of one that takes memory
 abbrev pub MayReply : Outcome → Reply → Type 0

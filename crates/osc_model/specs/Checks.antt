@@ -3,7 +3,8 @@ use Rattle.std.specs.Prelude.{◌≡◌, ℕ, ◌≤◌, ◌<◌, Bool, true, fa
 use Rattle.std.specs.List.{list_any}
 use Rattle.std.specs.FinMap as map
 use Rattle.osc_model.specs.Code.{code, method_of}
-use Rattle.osc_model.specs.Tree.{Tree, format_of, payload_length, most_resources, longest_payload}
+use Rattle.osc_model.specs.Tree.{Tree, format_of, payload_length, most_resources, most_elsewhere, longest_payload}
+use Rattle.osc_model.specs.Path.{segments_of, begins_with}
 use Rattle.osc_model.specs.Scope.{Scope, allows, names}
 use Rattle.osc_model.specs.Reply.{etag_of}
 use Rattle.osc_model.specs.declared.code.Code.{Code}
@@ -45,24 +46,33 @@ method_checks method found is_full request =
     ∷ (not (is_some new && is_none found && is_full), code 5 3)
     ∷ []
 
--- the checks of every request that names a path
-abbrev pub checks : Tree → Scope → List ℕ → Request → List (Bool × Code)
-checks tree scope path request =
+-- From how many resources on none is made at a path. At a server with a revocation path, what isn't below it leaves room for what is.
+abbrev pub most_at : Option (List ℕ) → List ℕ → ℕ
+most_at None path = most_resources
+most_at (Some root) path = if begins_with (segments_of path) (segments_of root) then most_resources else most_elsewhere
+
+-- whether so many are there
+abbrev pub is_full_at : Option (List ℕ) → Tree → List ℕ → Bool
+is_full_at root tree path = nat_le (most_at root path) (map.len tree)
+
+-- the checks of every request that names a path, at a server that may have a revocation path
+abbrev pub checks : Option (List ℕ) → Tree → Scope → List ℕ → Request → List (Bool × Code)
+checks root tree scope path request =
     let method = method_of request.code in
     let found = map.get tree path in
     (names scope path, code 4 3)
     ∷ (allows scope path method, code 4 5)
     ∷ (is_matched found request.if_match, code 4 12)
     ∷ (not (request.if_none_match && is_some found), code 4 12)
-    ∷ method_checks method found (nat_le most_resources (map.len tree)) request
+    ∷ method_checks method found (is_full_at root tree path) request
 
 -- the first check that fails answers
 abbrev pub first_failing : List (Bool × Code) → Option Code
 first_failing [] = None
 first_failing (check ∷ rest) = if check.0 then first_failing rest else Some check.1
 
-unfoldable pub refusal : Tree → Scope → List ℕ → Request → Option Code
-refusal tree scope path request = first_failing (checks tree scope path request)
+unfoldable pub refusal : Option (List ℕ) → Tree → Scope → List ℕ → Request → Option Code
+refusal root tree scope path request = first_failing (checks root tree scope path request)
 
 -- what a request would write stays within the limits
 pub record CanWrite (tree : Tree) (path : List ℕ) (resource : Resource) : Type 0 where

@@ -1,5 +1,5 @@
 -- Histories: what was served, in order.
-use Rattle.std.specs.Prelude.{◌≡◌, if◌then◌else◌, ⊤, ℕ, List, [], ◌∷◌, Result, IsSomeAnd}
+use Rattle.std.specs.Prelude.{◌≡◌, if◌then◌else◌, ⊤, ℕ, List, [], ◌∷◌, Option, Result, IsSomeAnd}
 use Rattle.std.specs.List.{AllByRecursion}
 use Rattle.osc_model.specs.Tree.{Tree}
 use Rattle.osc_model.specs.Apply.{Outcome, MayReply, apply_read}
@@ -18,11 +18,11 @@ abbrev pub HasOwnNumbers : List Entry → Type 0
 HasOwnNumbers [] = ⊤
 HasOwnNumbers (entry ∷ entries) = AllByRecursion (λ other. ¬ IsSameRequest entry other) entries × HasOwnNumbers entries
 
--- `read` says what a plaintext's bytes are, and `grants` who may what.
-module _ (read : List ℕ → Result Request Code) (grants : List Grant) where
+-- `read` says what a plaintext's bytes are, `root` is the server's revocation path, if it has one, and `grants` says who may what.
+module _ (read : List ℕ → Result Request Code) (root : Option (List ℕ)) (grants : List Grant) where
   -- what the machine does with an entry's plaintext, under the scope of its context's grant
   abbrev pub outcome_of : Tree → Entry → Outcome
-  outcome_of tree entry = apply_read tree (scope_of (grant_of grants entry.context)) (read entry.plaintext)
+  outcome_of tree entry = apply_read root tree (scope_of (grant_of grants entry.context)) (read entry.plaintext)
 
   -- a 5.00 changes nothing
   abbrev pub tree_after : Tree → Entry → Tree

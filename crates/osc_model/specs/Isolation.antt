@@ -1,5 +1,5 @@
 -- Isolation: what each holder is answered, whatever the other holders do.
-use Rattle.std.specs.Prelude.{◌≡◌, ◌≢◌, ◌==◌, ⊤, ℕ, Bool, true, false, ◌||◌, List, [], ◌∷◌, map, Result, is_some}
+use Rattle.std.specs.Prelude.{◌≡◌, ◌≢◌, ◌==◌, ⊤, ℕ, Bool, true, false, ◌||◌, List, [], ◌∷◌, map, Option, Result, is_some}
 use Rattle.std.specs.List.{AllByRecursion, filter}
 use Rattle.osc_model.specs.Tree.{Tree}
 use Rattle.osc_model.specs.Scope.{Scope, names}
@@ -45,19 +45,19 @@ answers entries = map (λ entry. (entry.number, entry.reply)) entries
 abbrev pub entries_under : List Grant → List Entry → List Entry
 entries_under grants entries = filter (λ entry. is_some (grant_of grants entry.context)) entries
 
--- `read` says what a plaintext's bytes are, and `grants` who may what.
-module _ (read : List ℕ → Result Request Code) (grants : List Grant) where
+-- `read` says what a plaintext's bytes are, `root` is the server's revocation path, if it has one, and `grants` says who may what.
+module _ (read : List ℕ → Result Request Code) (root : Option (List ℕ)) (grants : List Grant) where
   -- what the machine answers to these entries, one after the other
   abbrev pub machine_answers : Tree → List Entry → List Answer
   machine_answers tree [] = []
   machine_answers tree (entry ∷ entries) =
-      let outcome = outcome_of read grants tree entry in
+      let outcome = outcome_of read root grants tree entry in
       (entry.number, outcome.reply) ∷ machine_answers outcome.tree entries
 
 -- what a client's entries are answered when they alone follow the first tree, under the client's grants alone
-abbrev pub alone : (List ℕ → Result Request Code) → List Grant → ℕ → Tree → List Entry → List Answer
-alone read grants client first history =
-    let own = held_by client grants in machine_answers read own first (entries_under own history)
+abbrev pub alone : (List ℕ → Result Request Code) → Option (List ℕ) → List Grant → ℕ → Tree → List Entry → List Answer
+alone read root grants client first history =
+    let own = held_by client grants in machine_answers read root own first (entries_under own history)
 
 -- what they were answered in the history
 abbrev pub answered : List Grant → ℕ → List Entry → List Answer
@@ -84,5 +84,5 @@ pub record Agree (served alone : List Answer) : Type 0 where
   pub replies : AgreeUpToWant served alone
 
 -- What a client is answered is what it would be answered alone, whatever other holders meet.
-abbrev pub IsIsolated : (List ℕ → Result Request Code) → List Grant → Tree → List Entry → Type 0
-IsIsolated read grants first history = (client : ℕ) → Agree (answered grants client history) (alone read grants client first history)
+abbrev pub IsIsolated : (List ℕ → Result Request Code) → Option (List ℕ) → List Grant → Tree → List Entry → Type 0
+IsIsolated read root grants first history = (client : ℕ) → Agree (answered grants client history) (alone read root grants client first history)

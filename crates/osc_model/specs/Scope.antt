@@ -52,6 +52,10 @@ allows scope path (Some method) = list_any (λ permission. stands_for permission
 abbrev pub names : Scope → List ℕ → Bool
 names scope path = list_any (λ permission. covers permission path) (set.items scope)
 
+-- whether a permission of it counts on the paths below its own, too
+abbrev pub has_subtrees : Scope → Bool
+has_subtrees scope = list_any (λ permission. permission.below) (set.items scope)
+
 -- ---- how a scope is told apart from another, for a type that has one as its value
 
 abbrev pub coded_method : Coded Method

@@ -23,6 +23,10 @@ payload_length (Some resource) = length resource.payload
 abbrev pub most_resources : ℕ
 most_resources = 1024
 
+-- how many there may be where one more is made that revokes no token, at a server with a revocation path: what is left is for those that revoke
+abbrev pub most_elsewhere : ℕ
+most_elsewhere = 960
+
 abbrev pub longest_payload : ℕ
 longest_payload = 512
 

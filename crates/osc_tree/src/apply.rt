@@ -1,5 +1,5 @@
 //! What a request does.
-ghost use Rattle.std.specs.Prelude.{◌≡◌, ◌≤◌, ◌<◌, false, length, Some, if◌then◌else◌, IsTrue, IsSome, IfOk, IfSome, OnOk, OnErr, option_copied};
+ghost use Rattle.std.specs.Prelude.{◌≡◌, ◌≤◌, ◌<◌, false, length, Some, if◌then◌else◌, IsTrue, IsSome, IfOk, IfSome, OnOk, OnErr, option_copied, option_map};
 ghost use Rattle.std.specs.FinMap as map;
 ghost use Rattle.osc_model.specs.{code, etag_of, method_of, most_resources, longest_payload, bare, takes_memory, written as new_resource, apply as outcome, read as reading};
 ghost use Rattle.osc_model.specs.Tree.{Tree as AnyTree};
@@ -12,8 +12,8 @@ use osc_scope::Scope;
 use std::alloc::{AllocError, Global};
 
 impl Tree {
-    /// Does what the request asks under this scope, and answers it: the reply, and the tree after it, are those of the
-    /// definition `apply`, with 4.03, 4.05, 4.12, 4.04, 4.06, 4.13 and 5.03 for the checks that fail, the first of them
+    /// Does what the request asks under this scope, at a server that may have a revocation path, and answers it: the reply, and the tree after
+    /// it, are those of the definition `apply`, with 4.03, 4.05, 4.12, 4.04, 4.06, 4.13 and 5.03 for the checks that fail, the first of them
     /// alone. Without memory for the reply or the resource an `AllocError`, and the tree stays as it was; a refusal and
     /// a DELETE take no memory. The path is looked up once, and once more to write or to remove, or to keep the ETag of the
     /// first GET after a write, in logarithmic time; it is copied only where it is new.
@@ -21,18 +21,19 @@ impl Tree {
     pub fn apply(
         &mut self,
         alloc: Global,
+        root: Option<&Path>,
         scope: &Scope,
         request: &Request,
     ) -> Result<Reply, AllocError>
-        ensures reply { IfOk result (λ reply. reply ≡ (outcome self.old scope.now request.now).reply) }
-        ensures tree { OnOk result (self.new ≡ (outcome self.old scope.now request.now).tree) }
+        ensures reply { IfOk result (λ reply. reply ≡ (outcome (option_map (λ path. path.now) root.entry) self.old scope.now request.now).reply) }
+        ensures tree { OnOk result (self.new ≡ (outcome (option_map (λ path. path.now) root.entry) self.old scope.now request.now).tree) }
         ensures err { OnErr result (self.new ≡ self.old) }
-        ensures needs_memory { OnErr result (IsTrue (takes_memory (outcome self.old scope.now request.now).reply)) }
+        ensures needs_memory { OnErr result (IsTrue (takes_memory (outcome (option_map (λ path. path.now) root.entry) self.old scope.now request.now).reply)) }
     {
         let Some(path) = &request.path else {
             return Ok(Reply::bare(alloc, Code::FORBIDDEN));
         };
-        match accepted(self, scope, path, request) {
+        match accepted(self, root, scope, path, request) {
             Err(code) => Ok(Reply::bare(alloc, code)),
             Ok(found) => match Method::from_code(request.code) {
                 Some(Method::Get) => {

@@ -1,5 +1,5 @@
 //! The checks that a request must pass, in their order.
-ghost use Rattle.std.specs.Prelude.{◌≡◌, ◌==◌, ◌||◌, ◌&&◌, not, ◌∷◌, [], nat_le, ◌<◌, ◌^◌, length, bytes_eq, is_some, None, Some, IfOk, OnOk, IfErr, option_copied};
+ghost use Rattle.std.specs.Prelude.{◌≡◌, ◌==◌, ◌||◌, ◌&&◌, not, ◌∷◌, [], nat_le, ◌<◌, ◌^◌, length, bytes_eq, is_some, None, Some, IfOk, OnOk, IfErr, option_copied, option_map};
 ghost use Rattle.std.specs.FinMap as map;
 ghost use Rattle.std.specs.List.{list_any};
 ghost use Rattle.osc_model.specs.{code, method_of, longest_payload, payload_length as length_of, AllowsWrite, refusal as refuses, method_checks, first_failing, is_matched as matches, is_acceptable as accepts};
@@ -13,30 +13,32 @@ use osc_scope::{Scope, Verdict};
 /// path up once, and takes no memory.
 pub fn accepted<'a>(
     tree: &'a Tree,
+    root: Option<&Path>,
     scope: &Scope,
     path: &Path,
     request: &Request,
 ) -> Result<Option<&'a Tagged>, Code>
     ensures found { IfOk result (λ found. option_copied found ≡ map.get tree.now path.now) }
-    ensures passes { OnOk result (refuses tree.now scope.now path.now request.now ≡ None) }
+    ensures passes { OnOk result (refuses (option_map (λ path. path.now) root.entry) tree.now scope.now path.now request.now ≡ None) }
     ensures writes { OnOk result (AllowsWrite tree.now path.now request.now) }
-    ensures fails { IfErr result (λ code. refuses tree.now scope.now path.now request.now ≡ Some code) }
+    ensures fails { IfErr result (λ code. refuses (option_map (λ path. path.now) root.entry) tree.now scope.now path.now request.now ≡ Some code) }
 {
     osc_model::laws::what_passes_can_be_written();
-    checked(tree, scope, path, request)
+    checked(tree, root, scope, path, request)
 }
 
 // The same, without that it can be written.
 #[tactic(auto, unfolding(osc_model::specs::Checks::refusal))]
 fn checked<'a>(
     tree: &'a Tree,
+    root: Option<&Path>,
     scope: &Scope,
     path: &Path,
     request: &Request,
 ) -> Result<Option<&'a Tagged>, Code>
     ensures found { IfOk result (λ found. option_copied found ≡ map.get tree.now path.now) }
-    ensures passes { OnOk result (refuses tree.now scope.now path.now request.now ≡ None) }
-    ensures fails { IfErr result (λ code. refuses tree.now scope.now path.now request.now ≡ Some code) }
+    ensures passes { OnOk result (refuses (option_map (λ path. path.now) root.entry) tree.now scope.now path.now request.now ≡ None) }
+    ensures fails { IfErr result (λ code. refuses (option_map (λ path. path.now) root.entry) tree.now scope.now path.now request.now ≡ Some code) }
 {
     osc_model::laws::allowed_is_named();
     match scope.verdict(Some(path), request.code) {
@@ -45,7 +47,7 @@ fn checked<'a>(
         Verdict::Granted => {}
     }
     let found = tree.find(path);
-    match refusal(found, tree.is_full(), request) {
+    match refusal(found, tree.is_full_at(root, path), request) {
         Some(code) => Err(code),
         None => Ok(found),
     }

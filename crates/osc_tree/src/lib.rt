@@ -10,4 +10,4 @@ mod tree;
 
 pub use resources::Resources;
 pub use tags::etag;
-pub use tree::{LONGEST_PAYLOAD, MOST_RESOURCES, Tree};
+pub use tree::{LONGEST_PAYLOAD, MOST_ELSEWHERE, MOST_RESOURCES, Tree};

@@ -1,8 +1,8 @@
 //! The tree.
-ghost use Rattle.std.specs.Prelude.{◌≡◌, ◌≤◌, ◌<◌, ◌==◌, false, length, nat_le, option_copied, IfOk, IfSome, OnOk, OnErr, IsSome, Some};
+ghost use Rattle.std.specs.Prelude.{◌≡◌, ◌≤◌, ◌<◌, ◌==◌, false, length, nat_le, option_copied, option_map, IfOk, IfSome, OnOk, OnErr, IsSome, Some};
 ghost use Rattle.std.specs.BTreeMap.{IsUnchanged, Updates, get_by};
 ghost use Rattle.std.specs.FinMap as map;
-ghost use Rattle.osc_model.specs.{path_cmp, etag_of, IsWithinLimits, most_resources, longest_payload};
+ghost use Rattle.osc_model.specs.{path_cmp, etag_of, IsWithinLimits, most_resources, longest_payload, is_full_at, most_at};
 
 use crate::resources::Resources;
 use crate::tagged::Tagged;
@@ -13,6 +13,10 @@ use std::marker::Model;
 
 /// How many resources a tree has at most.
 pub const MOST_RESOURCES: usize = 1024;
+
+/// How many there may be where one more is made that revokes no token, at a server with a revocation path: what is left is for those
+/// that revoke.
+pub const MOST_ELSEWHERE: usize = 960;
 
 /// How many bytes each of them has at most.
 pub const LONGEST_PAYLOAD: usize = 512;
@@ -107,6 +111,14 @@ impl Tree {
         MOST_RESOURCES <= self.len()
     }
 
+    /// Whether there are so many that none is made at this path, at a server that may have a revocation path: `MOST_RESOURCES`, or
+    /// `MOST_ELSEWHERE` where the path isn't that one and none below it.
+    pub fn is_full_at(&self, root: Option<&Path>, path: &Path) -> bool
+        ensures { result ≡ is_full_at (option_map (λ path. path.now) root.entry) self.now path.now }
+    {
+        most_at(root, path) <= self.len()
+    }
+
     /// Sets what the path has. The caller knows that the payload has at most `LONGEST_PAYLOAD` bytes, and that the path
     /// has something (`get`) or the tree is not full (`is_full`). Without memory the tree stays as it was.
     pub fn put(&mut self, _alloc: Global, path: Path, resource: Resource) -> Result<(), AllocError>
@@ -158,6 +170,16 @@ impl Tree {
         Ok(Tree {
             resources: self.resources.clone()?,
         })
+    }
+}
+
+// From how many resources on none is made at this path.
+fn most_at(root: Option<&Path>, path: &Path) -> usize
+    ensures { result ≡ most_at (option_map (λ path. path.now) root.entry) path.now }
+{
+    match root {
+        Some(root) if !path.begins_with(root) => MOST_ELSEWHERE,
+        _ => MOST_RESOURCES,
     }
 }
 
