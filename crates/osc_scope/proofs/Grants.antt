@@ -5,10 +5,10 @@ use Rattle.std.specs.FinSet as set
 use Rattle.std.proofs.lemmas.Bool.Decides.{nat_tests}
 use Rattle.std.proofs.lemmas.List.Elements.{All-head, All-tail}
 use Rattle.std.proofs.lemmas.List.Folds.{list_any-append}
-use Rattle.osc_model.specs.{Permission, permission_cmp, covers, stands_for, allows, names}
+use Rattle.osc_model.specs.{Permission, permission_cmp, covers, stands_for, allows, names, has_subtrees}
 use Rattle.osc_model.specs.declared.code.Method.{Method}
 use Rattle.osc_model.specs.declared.code.Method.TheVariants.{Get, Post, Put, Delete}
-use Rattle.osc_scope.specs.{Entry, has, has_path, methods, permissions, scope_of}
+use Rattle.osc_scope.specs.{Entry, IsLawful, entry_with, has, has_path, is_below, methods, permissions, scope_of}
 use Rattle.osc_scope.proofs.MethodLemmas.{same}
 
 -- ---- tests over lists
@@ -100,6 +100,10 @@ entry_allows entry path method =
     ∙ any_beside (has_path entry path) (same method) (filter (has entry.mask) methods)
     ∙ ap (λ b. has_path entry path && b) (chosen_is entry.mask method)
 
+and-true : (b : Bool) → (b && true) ≡ b
+and-true true = refl
+and-true false = refl
+
 entry_names : (entry : Entry) (path : List ℕ) → 1 ≤ entry.mask % 16
     → list_any (λ permission. covers permission path) (permissions entry) ≡ has_path entry path
 entry_names entry path some =
@@ -108,10 +112,14 @@ entry_names entry path some =
     ∙ any_beside (has_path entry path) (has entry.mask) methods
     ∙ ap (λ b. has_path entry path && b) (some_method entry.mask some)
     ∙ and-true (has_path entry path)
-  where
-    and-true : (b : Bool) → (b && true) ≡ b
-    and-true true = refl
-    and-true false = refl
+
+entry_below : (entry : Entry) → 1 ≤ entry.mask % 16 → list_any (λ permission. permission.below) (permissions entry) ≡ is_below entry.mask
+entry_below entry some =
+    any-map (λ (permission : Permission). permission.below) _ (filter (has entry.mask) methods)
+    ∙ any-filter (λ (method : Method). is_below entry.mask) (has entry.mask) methods
+    ∙ any_beside (is_below entry.mask) (has entry.mask) methods
+    ∙ ap (λ b. is_below entry.mask && b) (some_method entry.mask some)
+    ∙ and-true (is_below entry.mask)
 
 -- ---- all entries
 
@@ -142,3 +150,19 @@ scope_names any entries path some =
     each (entry ∷ entries) some =
         λ i. entry_names entry path (All-head (λ (e : Entry). 1 ≤ e.mask % 16) entry entries some) i
         || each entries (All-tail (λ (e : Entry). 1 ≤ e.mask % 16) entry entries some) i
+
+-- a scope has a permission that counts below its path where one of the entries does
+pub goes_below : AnyPermission → (pairs : List (List ℕ × ℕ)) → All IsLawful (map entry_with pairs)
+    → has_subtrees (scope_of (map entry_with pairs)) ≡ list_any (λ pair. is_below pair.1) pairs
+goes_below any pairs lawful =
+    let test : Permission → Bool = λ permission. permission.below in
+    any test (flat_map permissions (map entry_with pairs))
+    ∙ any-flat_map test permissions (map entry_with pairs)
+    ∙ each pairs lawful
+  where
+    each : (pairs : List (List ℕ × ℕ)) → All IsLawful (map entry_with pairs)
+        → list_any (λ entry. list_any (λ permission. permission.below) (permissions entry)) (map entry_with pairs) ≡ list_any (λ pair. is_below pair.1) pairs
+    each [] lawful = refl
+    each (pair ∷ pairs) lawful =
+        λ i. entry_below (entry_with pair) (All-head IsLawful (entry_with pair) (map entry_with pairs) lawful).some i
+        || each pairs (All-tail IsLawful (entry_with pair) (map entry_with pairs) lawful) i

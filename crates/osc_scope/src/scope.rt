@@ -2,7 +2,7 @@
 ghost use Rattle.std.specs.Prelude.{◌≡◌, OnOk, OnErr, IsOk, IsTrue, map, option_map};
 ghost use Rattle.std.specs.List.{All};
 ghost use Rattle.std.specs.FinSet as set;
-ghost use Rattle.osc_model.specs.{exactly};
+ghost use Rattle.osc_model.specs.{exactly, has_subtrees};
 ghost use Rattle.osc_scope.specs.Entries.{IsLawful, scope_of};
 ghost use Rattle.osc_scope.specs.Reading.{entry_with};
 ghost use Rattle.osc_scope.specs.Verdict.{verdict_of};
@@ -100,6 +100,14 @@ impl Scope {
             Some(path) => verdict_on(&self.entries, self.goes_below, path, code),
             None => Verdict::NoPath,
         }
+    }
+
+    /// Whether a permission counts on the paths below its own, too. It is known from the start: nothing is looked up.
+    pub fn has_subtrees(&self) -> bool
+        ensures { result ≡ has_subtrees self.now }
+    {
+        osc_model::laws::any_permission();
+        self.goes_below
     }
 
     // Whether the scope has the method on exactly this path.
