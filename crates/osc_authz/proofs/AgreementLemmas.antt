@@ -15,14 +15,14 @@ use Rattle.osc_authz.specs.declared.rules.ContextRules.{ContextRules}
 use Rattle.osc_authz.proofs.TableLaws.{added_is_table}
 
 pub agreed_is_table : (now : Standing) (rules : ContextRules) (claims : Claims) (scope : Scope) (post : AgreedPost) (remember : List AgreedPost → List AgreedPost)
-    (table seen reserved after : List TokenEntry) (taken token : List ℕ) (held : SecurityContext)
-    → IsTable table → ¬ IsFull claims.material.id (alive now table)
+    (table seen grown after : List TokenEntry) (taken token : List ℕ) (held : SecurityContext)
+    → IsTable table → ¬ IsFull rules.reserved claims.material.id (alive now table)
     → taken ≡ claims.material.id → seen ≡ table → IsLeastFree (post.client_id ∷ ids (without_pending taken (alive now seen))) post.answer.recipient_id
-    → token ≡ claims.material.id → held ≡ new_context rules now.at claims scope post → reserved ≡ table
-    → after ≡ with_pending token held remember (alive now reserved) → IsTable after
-agreed_is_table now rules claims scope post remember table seen reserved after taken token held is_table room taken_is seen_is free token_is held_is reserved_is after_is =
-    rw (after_is, token_is, held_is, reserved_is)
-    (added_is_table claims.material.id post.client_id now (new_context rules now.at claims scope post) remember post.answer.recipient_id table is_table room
+    → token ≡ claims.material.id → held ≡ new_context rules now.at claims scope post → grown ≡ table
+    → after ≡ with_pending token held remember (alive now grown) → IsTable after
+agreed_is_table now rules claims scope post remember table seen grown after taken token held is_table room taken_is seen_is free token_is held_is grown_is after_is =
+    rw (after_is, token_is, held_is, grown_is)
+    (added_is_table rules.reserved claims.material.id post.client_id now (new_context rules now.at claims scope post) remember post.answer.recipient_id table is_table room
     (rw (taken_is, seen_is) at free) refl refl)
 
 -- ---- the posts that are known

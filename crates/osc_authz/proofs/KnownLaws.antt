@@ -3,7 +3,7 @@ use Rattle.std.proofs.Common.{◌≡◌, ℕ, Bool, true, false, cond, List, [],
 use Rattle.std.specs.List.{AllByRecursion, find}
 use Rattle.std.specs.Str.{bytes_eq}
 use Rattle.std.proofs.lemmas.List.Elements.{All-from_recursion, recursion_from_All}
-use Rattle.osc_authz.specs.{AreFew, Answers, DeskState, Posts, again, agreed, full, known, offered, offers, refused, replayed, revoked}
+use Rattle.osc_authz.specs.{AreFew, Answers, DeskState, Posts, again, agreed, disallowed, full, known, offered, offers, refused, replayed, revoked}
 use Rattle.osc_authz.specs.Posting.{Posting}
 use Rattle.osc_authz.specs.declared.agreed_post.AgreedPost.{AgreedPost}
 use Rattle.osc_authz.specs.declared.error.PostError.{PostError}
@@ -35,7 +35,8 @@ known_answer IsSealing before after posting post answer (Posts.opened key nonce1
 
     by : Answers before (offered posting nonce1 client_id) token.text its after → after ≡ before
     by (refused error comes e same) = same
-    by (revoked claims scope comes gone e same) = same
+    by (disallowed claims scope comes below e same) = same
+    by (revoked claims scope comes allowed gone e same) = same
     by (full claims scope granted many e same) = same
     by (again claims scope made granted k held e same) = same
     by (replayed claims scope made granted k gone e same) = same

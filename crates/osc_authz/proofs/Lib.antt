@@ -3,6 +3,10 @@ pub mod Parts
 pub mod Pigeon
 pub mod TableLaws
 pub mod Lookups
+mod KeptPlaces
+pub mod LifeLemmas
+mod PostMarks
+mod ChangedPath
 mod PlaceLemmas
 pub mod MarkLemmas
 mod PayloadLemmas

@@ -1,5 +1,5 @@
 -- Marks of the recipient IDs in use.
-use Rattle.std.proofs.Common.{◌≡◌, ℕ, ◌<◌, ◌≤◌, Bool, true, false, not, cond, ◌||◌, List, [], ◌∷◌, ◌++◌, Some, None, length, map, position, nat_lt, replicate, get_or, drop, drop-cons, add-one, suc, ◌+◌, refl, sym, ap, ◌∙◌, arith}
+use Rattle.std.proofs.Common.{◌≡◌, ℕ, ◌<◌, ◌≤◌, Bool, true, false, not, cond, ◌||◌, List, [], ◌∷◌, ◌++◌, Some, None, length, map, filter, position, nat_lt, replicate, get_or, drop, drop-cons, add-one, suc, ◌+◌, refl, sym, ap, ◌∙◌, arith}
 use Rattle.std.specs.List.{Contains, position_or_len}
 use Rattle.std.specs.Bool.{Decides}
 use Rattle.std.specs.Str.{bytes_eq}
@@ -10,11 +10,10 @@ use Rattle.std.proofs.lemmas.List.Quantifiers.{position-Some}
 use Rattle.std.proofs.lemmas.List.Sums.{fails_before_first}
 use Rattle.std.proofs.lemmas.Map.Made.{is_member-Decides}
 use Rattle.std.proofs.lemmas.Slice.Eq.{bytes_eq-Decides}
-use Rattle.osc_authz.specs.Standing.{Standing}
 use Rattle.osc_authz.specs.declared.token_entry.TokenEntry.{TokenEntry}
 use Rattle.osc_authz.specs.SecurityContext.{SecurityContext}
 use Rattle.osc_authz.specs.Inner.Marks.{AddsMarks, is_among, is_marked}
-use Rattle.osc_authz.specs.{IsTable, IsLeastFree, alive, contexts, holds_live, ids, listed, without_pending, without_pending_in}
+use Rattle.osc_authz.specs.{IsTable, IsLeastFree, contexts, ids, listed, without_pending, without_pending_in}
 use Rattle.osc_authz.proofs.Parts.{part_filter, part_length}
 use Rattle.osc_authz.proofs.Pigeon.{crowded}
 use Rattle.osc_authz.proofs.TableLaws.{two_each}
@@ -29,13 +28,13 @@ among_more (x ∷ xs) rest byte =
     ap (λ b. bytes_eq (byte ∷ []) x.name.client_id || b) (among_more xs rest byte)
     ∙ sym (or_assoc (bytes_eq (byte ∷ []) x.name.client_id) (is_among (map (λ context. context.name.client_id) (xs ++ [])) byte) (is_among (map (λ context. context.name.client_id) rest) byte))
 
-pub staying_more : (now : Standing) (token : List ℕ) (entry : TokenEntry) (table : List TokenEntry) (byte : ℕ)
-    → is_among (ids (without_pending token (alive now (entry ∷ table)))) byte
-    ≡ (is_among (ids (without_pending token (alive now (entry ∷ [])))) byte || is_among (ids (without_pending token (alive now table))) byte)
-staying_more now token entry table byte = by (holds_live now entry)
+pub staying_more : (live : TokenEntry → Bool) (token : List ℕ) (entry : TokenEntry) (table : List TokenEntry) (byte : ℕ)
+    → is_among (ids (without_pending token (filter live (entry ∷ table)))) byte
+    ≡ (is_among (ids (without_pending token (filter live (entry ∷ [])))) byte || is_among (ids (without_pending token (filter live table))) byte)
+staying_more live token entry table byte = by (live entry)
   where
     rest : List TokenEntry
-    rest = alive now table
+    rest = filter live table
 
     changed : TokenEntry
     changed = without_pending_in token entry
@@ -46,15 +45,15 @@ staying_more now token entry table byte = by (holds_live now entry)
     by false = refl
 
 -- what is yet to be marked, once one more entry has been gone over
-pub marked_more : (now : Standing) (token : List ℕ) (table : List TokenEntry) (i : ℕ) (entry : TokenEntry) (byte : ℕ) (old new all : Bool)
+pub marked_more : (live : TokenEntry → Bool) (token : List ℕ) (table : List TokenEntry) (i : ℕ) (entry : TokenEntry) (byte : ℕ) (old new all : Bool)
     → i < length table → entry ≡ get_or table i entry
-    → new ≡ (is_among (ids (without_pending token (alive now (entry ∷ [])))) byte || old)
-    → (is_among (ids (without_pending token (alive now (drop i table)))) byte || old) ≡ all
-    → (is_among (ids (without_pending token (alive now (drop (i + 1) table)))) byte || new) ≡ all
-marked_more now token table i entry byte old new all within is marked before =
+    → new ≡ (is_among (ids (without_pending token (filter live (entry ∷ [])))) byte || old)
+    → (is_among (ids (without_pending token (filter live (drop i table)))) byte || old) ≡ all
+    → (is_among (ids (without_pending token (filter live (drop (i + 1) table)))) byte || new) ≡ all
+marked_more live token table i entry byte old new all within is marked before =
     ap (λ b. staying rest || b) marked
     ∙ sym (or_assoc (staying rest) (staying (entry ∷ [])) old)
-    ∙ ap (λ b. b || old) (or_comm (staying rest) (staying (entry ∷ [])) ∙ sym (staying_more now token entry rest byte))
+    ∙ ap (λ b. b || old) (or_comm (staying rest) (staying (entry ∷ [])) ∙ sym (staying_more live token entry rest byte))
     ∙ ap (λ entries. staying entries || old) (sym parts)
     ∙ before
   where
@@ -62,7 +61,7 @@ marked_more now token table i entry byte old new all within is marked before =
     rest = drop (i + 1) table
 
     staying : List TokenEntry → Bool
-    staying = λ entries. is_among (ids (without_pending token (alive now entries))) byte
+    staying = λ entries. is_among (ids (without_pending token (filter live entries))) byte
 
     parts : drop i table ≡ entry ∷ rest
     parts = rw (add-one, drop-cons table i entry) (ap (λ h. h ∷ drop (suc i) table) (sym is))
@@ -102,14 +101,14 @@ least_is_free client_id others one all byte first then size found = record {
     marked = all_marked client_id others one all first then
 
 -- A table has too few contexts for all bytes to be marked.
-pub one_is_unmarked : (now : Standing) (token client_id : List ℕ) (table : List TokenEntry) (one all : List Bool) → IsTable table
-    → AddsMarks (client_id ∷ []) (replicate 256 false) one → AddsMarks (ids (without_pending token (alive now table))) one all → length all ≡ 256
+pub one_is_unmarked : (live : TokenEntry → Bool) (token client_id : List ℕ) (table : List TokenEntry) (one all : List Bool) → IsTable table
+    → AddsMarks (client_id ∷ []) (replicate 256 false) one → AddsMarks (ids (without_pending token (filter live table))) one all → length all ≡ 256
     → position not all ≡ None → ⊥
-one_is_unmarked now token client_id table one all is_table first then size none =
+one_is_unmarked live token client_id table one all is_table first then size none =
     omega (arith, crowded 256 (client_id ∷ others) each, few)
   where
     others : List (List ℕ)
-    others = ids (without_pending token (alive now table))
+    others = ids (without_pending token (filter live table))
 
     past : (place : ℕ) (inside : Bool) → nat_lt place (length all) ≡ inside → cond inside (Some place) None ≡ None → length all ≤ place
     past place true is found = absurd (cc)
@@ -122,5 +121,5 @@ one_is_unmarked now token client_id table one all is_table first then size none 
 
     few : length (client_id ∷ others) ≤ 129
     few =
-        let known : List TokenEntry = without_pending token (alive now table) in
-        omega (arith, length-map (contexts known) (λ held. held.name.client_id), two_each known, length-map (alive now table) (without_pending_in token), part_length (part_filter (holds_live now) table), is_table.few)
+        let known : List TokenEntry = without_pending token (filter live table) in
+        omega (arith, length-map (contexts known) (λ held. held.name.client_id), two_each known, length-map (filter live table) (without_pending_in token), part_length (part_filter live table), is_table.few)

@@ -13,7 +13,7 @@ use Rattle.osc_cose.specs.{enc_structure, object_item}
 use Rattle.osc_scope.specs.{Entry, IsScope, scope_of}
 use Rattle.osc_token.specs.{ComesTo, FitTheirTypes, HasLawfulParts, IsToken, algorithm_header, claims_item, token_object}
 use Rattle.osc_token.specs.declared.claims.Claims.{Claims}
-use Rattle.osc_authz.specs.{IsAgreed, new_context, Agrees, Answers, agreed_post, end_of, remembering, refused, revoked, full, again, replayed, agreed, ClientContextState, Finishes, made_name, pending_of, DeskState, IsPost, IsAnswer, post_item, answer_item, In, IsKeyFor, Posts, offered, alive, contexts, with_pending, IsLawfulContext}
+use Rattle.osc_authz.specs.{IsAgreed, new_context, Agrees, Answers, agreed_post, end_of, remembering, refused, disallowed, revoked, full, again, replayed, agreed, ClientContextState, Finishes, made_name, pending_of, DeskState, IsPost, IsAnswer, post_item, answer_item, In, IsKeyFor, Posts, offered, alive, contexts, with_pending, IsLawfulContext}
 use Rattle.osc_authz.specs.Begun.{Begun}
 use Rattle.osc_authz.specs.SecurityContext.{SecurityContext}
 use Rattle.osc_authz.specs.HoldsToken.{HoldsToken}
@@ -58,7 +58,8 @@ agreed_posted IsSealing before after posting post answer (Posts.opened key nonce
 
     by : Answers before (offered posting nonce1 client_id) token.text its after → IsAgreed IsSealing before posting post answer after
     by (refused error comes e unchanged) = absurd (not_refused its answer _ e answer_is)
-    by (revoked claims scope comes gone e unchanged) = absurd (not_refused its answer _ e answer_is)
+    by (disallowed claims scope comes below e unchanged) = absurd (not_refused its answer _ e answer_is)
+    by (revoked claims scope comes allowed gone e unchanged) = absurd (not_refused its answer _ e answer_is)
     by (full claims scope granted many e unchanged) = absurd (not_refused its answer _ e answer_is)
     by (again claims scope made granted k held e unchanged) = absurd (not_known its answer made e answer_is)
     by (replayed claims scope made granted k gone e unchanged) = absurd (not_refused its answer _ e answer_is)

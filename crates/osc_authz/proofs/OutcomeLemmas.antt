@@ -1,5 +1,5 @@
 -- A post comes to one outcome.
-use Rattle.std.proofs.Common.{◌≡◌, ℕ, Bool, true, false, List, Option, Some, None, Result, Ok, Err, sym, ap, ap₂, subst, ◌∙◌, arith, inl, inr}
+use Rattle.std.proofs.Common.{◌≡◌, ◌⊎◌, ℕ, Bool, true, false, List, Option, Some, None, Result, Ok, Err, sym, ap, ap₂, subst, ◌∙◌, arith, inl, inr}
 use Rattle.std.proofs.lemmas.Bool.{cases_lt}
 use Rattle.osc_model.specs.{is_revoked}
 use Rattle.osc_model.specs.Scope.{Scope}
@@ -8,7 +8,7 @@ use Rattle.osc_model.specs.declared.step.Note.{Note}
 use Rattle.osc_token.specs.{ComesTo, IsToken, token_note}
 use Rattle.osc_token.specs.declared.claims.Claims.{Claims}
 use Rattle.osc_token.specs.declared.error.TokenError.{TokenError}
-use Rattle.osc_authz.specs.{new_context, Agrees, Answers, MadeIsHeld, agreed_post, known_of, remembering, refused, revoked, full, again, replayed, agreed, DeskState, IsPost, IsKeyFor, IsKeyOf, Opens, Posts, Offer, offered, IsFull, IsLeastFree, alive, with_pending}
+use Rattle.osc_authz.specs.{new_context, Agrees, Answers, MadeIsHeld, agreed_post, known_of, remembering, is_allowed, refused, disallowed, revoked, full, again, replayed, agreed, DeskState, IsPost, IsKeyFor, IsKeyOf, Opens, Posts, Offer, offered, IsFull, IsLeastFree, alive, with_pending}
 use Rattle.osc_authz.specs.Posting.{Posting}
 use Rattle.osc_authz.specs.declared.error.PostError.{PostError}
 use Rattle.osc_authz.specs.declared.error.PostError.TheVariants as post_error
@@ -56,31 +56,34 @@ module _ (before : DeskState) (offer : Offer) where
   -- the cases of a post whose text comes to these claims
   data AnswersTo (claims : Claims) (scope : Scope) (answer : Result PostReply PostError) (after : DeskState) : Type 0 where
     to_revoked : is_revoked before.rules.revoked offer.on.tree claims.material.id ≡ true → answer ≡ Err post_error.Revoked → after ≡ before → AnswersTo claims scope answer after
-    to_full : is_revoked before.rules.revoked offer.on.tree claims.material.id ≡ false → IsFull claims.material.id (alive offer.on before.table)
+    to_full : is_revoked before.rules.revoked offer.on.tree claims.material.id ≡ false → IsFull before.rules.reserved claims.material.id (alive offer.on before.table)
         → answer ≡ Err post_error.Full → after ≡ before → AnswersTo claims scope answer after
-    to_known : (made : PostAnswer) → is_revoked before.rules.revoked offer.on.tree claims.material.id ≡ false → ¬ IsFull claims.material.id (alive offer.on before.table)
+    to_known : (made : PostAnswer) → is_revoked before.rules.revoked offer.on.tree claims.material.id ≡ false → ¬ IsFull before.rules.reserved claims.material.id (alive offer.on before.table)
         → known_of before offer claims ≡ Some made → MadeIsHeld before offer claims made
         → answer ≡ Ok (reply.Known made) → after ≡ before → AnswersTo claims scope answer after
-    to_replayed : (made : PostAnswer) → is_revoked before.rules.revoked offer.on.tree claims.material.id ≡ false → ¬ IsFull claims.material.id (alive offer.on before.table)
+    to_replayed : (made : PostAnswer) → is_revoked before.rules.revoked offer.on.tree claims.material.id ≡ false → ¬ IsFull before.rules.reserved claims.material.id (alive offer.on before.table)
         → known_of before offer claims ≡ Some made → ¬ MadeIsHeld before offer claims made
         → answer ≡ Err post_error.Replayed → after ≡ before → AnswersTo claims scope answer after
-    to_agreed : (made : PostAnswer) → is_revoked before.rules.revoked offer.on.tree claims.material.id ≡ false → ¬ IsFull claims.material.id (alive offer.on before.table)
+    to_agreed : (made : PostAnswer) → is_revoked before.rules.revoked offer.on.tree claims.material.id ≡ false → ¬ IsFull before.rules.reserved claims.material.id (alive offer.on before.table)
         → known_of before offer claims ≡ None → Agrees before offer claims scope made after
         → answer ≡ Ok (reply.New made) → AnswersTo claims scope answer after
 
   -- what a post comes to whose text comes to something
   abbrev AnswersBy : Result (Claims × Scope) TokenError → Result PostReply PostError → DeskState → Type 0
   AnswersBy (Err error) answer after = (answer ≡ Err (post_error.Token error)) × (after ≡ before)
-  AnswersBy (Ok granted) answer after = AnswersTo granted.0 granted.1 answer after
+  AnswersBy (Ok granted) answer after =
+      ((is_allowed before.rules granted.1 ≡ false) × (answer ≡ Err (post_error.Token TokenError.BadScope)) × (after ≡ before))
+      ⊎ ((is_allowed before.rules granted.1 ≡ true) × AnswersTo granted.0 granted.1 answer after)
 
   by_its_text : (text : List ℕ) (answer : Result PostReply PostError) (after : DeskState) → Answers before offer text answer after
       → (result : Result (Claims × Scope) TokenError) × ComesTo text before.audience offer.on.at result × AnswersBy result answer after
   by_its_text text answer after (refused e comes is same) = (Err e, comes, (is, same))
-  by_its_text text answer after (revoked claims scope comes gone is same) = (Ok (claims, scope), comes, to_revoked gone is same)
-  by_its_text text answer after (full claims scope its many is same) = (Ok (claims, scope), its.comes, to_full its.unrevoked many is same)
-  by_its_text text answer after (again claims scope made its k held is same) = (Ok (claims, scope), its.granted.comes, to_known made its.granted.unrevoked its.room k held is same)
-  by_its_text text answer after (replayed claims scope made its k gone is same) = (Ok (claims, scope), its.granted.comes, to_replayed made its.granted.unrevoked its.room k gone is same)
-  by_its_text text answer after (agreed claims scope made its k agrees is) = (Ok (claims, scope), its.granted.comes, to_agreed made its.granted.unrevoked its.room k agrees is)
+  by_its_text text answer after (disallowed claims scope comes below is same) = (Ok (claims, scope), comes, inl (below, is, same))
+  by_its_text text answer after (revoked claims scope comes allowed gone is same) = (Ok (claims, scope), comes, inr (allowed, to_revoked gone is same))
+  by_its_text text answer after (full claims scope its many is same) = (Ok (claims, scope), its.comes, inr (its.allowed, to_full its.unrevoked many is same))
+  by_its_text text answer after (again claims scope made its k held is same) = (Ok (claims, scope), its.granted.comes, inr (its.granted.allowed, to_known made its.granted.unrevoked its.room k held is same))
+  by_its_text text answer after (replayed claims scope made its k gone is same) = (Ok (claims, scope), its.granted.comes, inr (its.granted.allowed, to_replayed made its.granted.unrevoked its.room k gone is same))
+  by_its_text text answer after (agreed claims scope made its k agrees is) = (Ok (claims, scope), its.granted.comes, inr (its.granted.allowed, to_agreed made its.granted.unrevoked its.room k agrees is))
 
   never_both : (b : Bool) → b ≡ true → b ≡ false → ⊥
   never_both b t f = let never : true ≡ false = sym t ∙ f in cc
@@ -130,7 +133,10 @@ module _ (before : DeskState) (offer : Offer) where
   by_once : (result : Result (Claims × Scope) TokenError) (one other : Result PostReply PostError) (after afters : DeskState)
       → AnswersBy result one after → AnswersBy result other afters → (one ≡ other) × (after ≡ afters)
   by_once (Err e) one other after afters p q = (p.0 ∙ sym q.0, p.1 ∙ sym q.1)
-  by_once (Ok granted) one other after afters p q = to_once granted.0 granted.1 one other after afters p q
+  by_once (Ok granted) one other after afters (inl p) (inl q) = (p.1 ∙ sym q.1, p.2 ∙ sym q.2)
+  by_once (Ok granted) one other after afters (inl p) (inr q) = absurd (never_both _ q.0 p.0)
+  by_once (Ok granted) one other after afters (inr p) (inl q) = absurd (never_both _ p.0 q.0)
+  by_once (Ok granted) one other after afters (inr p) (inr q) = to_once granted.0 granted.1 one other after afters p.1 q.1
 
   pub answers_once : IsOneResult → (text : List ℕ) (one other : Result PostReply PostError) (after afters : DeskState)
       → Answers before offer text one after → Answers before offer text other afters
@@ -145,7 +151,7 @@ module _ (before : DeskState) (offer : Offer) where
       → Answers before offer text answer after → ComesTo text before.audience offer.on.at (Ok (claims, scope)) → known_of before offer claims ≡ Some made → after ≡ before
   known_changes_nothing law text answer after claims scope made p comes k =
       let a = by_its_text text answer after p in
-      by (subst (λ r. AnswersBy r answer after) (law text before.audience offer.on.at a.0 (Ok (claims, scope)) a.1 comes) a.2)
+      either (subst (λ r. AnswersBy r answer after) (law text before.audience offer.on.at a.0 (Ok (claims, scope)) a.1 comes) a.2)
     where
       by : AnswersTo claims scope answer after → after ≡ before
       by (to_revoked g is same) = same
@@ -153,6 +159,10 @@ module _ (before : DeskState) (offer : Offer) where
       by (to_known m un room k2 held is same) = same
       by (to_replayed m un room k2 gone is same) = same
       by (to_agreed m un room k2 agrees is) = absurd (never_known _ made k k2)
+
+      either : AnswersBy (Ok (claims, scope)) answer after → after ≡ before
+      either (inl below) = below.2
+      either (inr allowed) = by allowed.1
 
 -- ---- what a post comes to
 

@@ -1,5 +1,5 @@
 -- What a post comes to, case by case.
-use Rattle.std.proofs.Common.{◌≡◌, ℕ, Bool, List, Option, Some, None, IfOk, Result, Ok, Err, inl, inr, refl, sym, ap, subst, ◌∙◌}
+use Rattle.std.proofs.Common.{◌≡◌, ℕ, Bool, true, false, not, List, Option, Some, None, IfOk, Result, Ok, Err, inl, inr, refl, sym, ap, subst, ◌∙◌}
 use Rattle.osc_model.specs.{is_revoked, revocation_of, stands}
 use Rattle.osc_model.specs.Scope.{Scope}
 use Rattle.osc_model.specs.Tree.{Tree}
@@ -8,9 +8,10 @@ use Rattle.osc_model.specs.declared.step.Note.{Note}
 use Rattle.osc_token.specs.{ComesTo, IsToken, token_note}
 use Rattle.osc_token.specs.declared.claims.Claims.{Claims}
 use Rattle.osc_token.specs.declared.error.TokenError.{TokenError}
-use Rattle.osc_authz.specs.{Answers, HasRoom, known_of, DeskState, IsPost, IsKeyFor, IsKeyOf, IsOpened, Opens, Posts, Offer, OpenedToken, offered}
+use Rattle.osc_authz.specs.{Answers, HasRoom, is_allowed, known_of, DeskState, IsPost, IsKeyFor, IsKeyOf, IsOpened, Opens, Posts, Offer, OpenedToken, offered}
 use Rattle.osc_authz.specs.Posting.{Posting}
 use Rattle.osc_authz.specs.declared.error.PostError.{PostError}
+use Rattle.osc_authz.specs.declared.rules.ContextRules.{ContextRules}
 use Rattle.osc_authz.specs.declared.post.Post.{Post}
 use Rattle.osc_authz.specs.declared.post.PostAnswer.{PostAnswer}
 use Rattle.osc_authz.specs.declared.post.PostReply.{PostReply}
@@ -26,6 +27,15 @@ judged text audience own now at result comes same e = coe 0 1 (i. ComesTo text (
 pub judged_revoked : (tree own : Tree) (path revoked : Option (List ℕ)) (token id : List ℕ) (found is : Bool)
     → found ≡ stands tree path → found ≡ is → tree ≡ own → path ≡ revocation_of revoked token → token ≡ id → is_revoked revoked own id ≡ is
 judged_revoked tree own path revoked token id found is e b t p k = sym (λ i. stands (t i) ((p ∙ ap (revocation_of revoked) k) i)) ∙ sym e ∙ b
+
+-- whether a scope is taken, by the rules of the desk itself
+pub allowed : (rules own : ContextRules) (scope : Scope) (result : Bool) → result ≡ is_allowed rules scope → rules ≡ own → result ≡ true → is_allowed own scope ≡ true
+allowed rules own scope true is same e = sym (is ∙ ap (λ (r : ContextRules). is_allowed r scope) same)
+allowed rules own scope false is same e = cc
+
+pub not_allowed : (rules own : ContextRules) (scope : Scope) (result : Bool) → result ≡ is_allowed rules scope → rules ≡ own → result ≡ false → is_allowed own scope ≡ false
+not_allowed rules own scope false is same e = sym (is ∙ ap (λ (r : ContextRules). is_allowed r scope) same)
+not_allowed rules own scope true is same e = cc
 
 -- what is answered to a post that is known
 pub known_answers : (before : DeskState) (offer : Offer) (text : List ℕ) (claims : Claims) (scope : Scope) (made : PostAnswer) (result : Result (Result PostReply PostError) AllocError)

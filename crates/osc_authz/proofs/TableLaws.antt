@@ -23,7 +23,7 @@ empty_table = record { few = omega arith; own_tokens = tt; own_ids = tt; lawful 
 
 -- ---- a table is lawful by its token ids and the names of its contexts
 
-abbrev tokens : List TokenEntry → List (List ℕ)
+abbrev pub tokens : List TokenEntry → List (List ℕ)
 tokens table = map (λ entry. entry.id) table
 
 abbrev names_in : TokenEntry → List ContextName
@@ -139,6 +139,9 @@ fewer_names id number entry = by (option_map_or (has_id id) entry.pending false)
 pub accepted_is_table : (id : List ℕ) (number : ℕ) (table : List TokenEntry) → IsTable table → IsTable (accepted id number table)
 accepted_is_table id number table is_table = changed_is_table (accepted_in id number) (same_id id number) (fewer_names id number) table is_table
 
+pub accepted_tokens : (id : List ℕ) (number : ℕ) (table : List TokenEntry) → tokens (accepted id number table) ≡ tokens table
+accepted_tokens id number table = changed_tokens (accepted_in id number) (same_id id number) (fewer_names id number) table
+
 -- ---- without a pending context
 
 still_id : (token : List ℕ) (entry : TokenEntry) → (without_pending_in token entry).id ≡ entry.id
@@ -228,7 +231,7 @@ distinct_among y [] zs other apart = (other, apart)
 distinct_among y (x ∷ xs) zs other apart =
     (each_among (λ z. bytes_eq x z ≡ false) y xs zs (nat_list_eq_equiv.symm x y ∙ other.0) apart.0, distinct_among y xs zs other.1 apart.1)
 
-with_pending_tokens : (token : List ℕ) (held : SecurityContext) (remember : List AgreedPost → List AgreedPost) (table : List TokenEntry) → tokens (with_pending token held remember table) ≡ cond (has_token token table) (tokens table) (tokens table ++ token ∷ [])
+pub with_pending_tokens : (token : List ℕ) (held : SecurityContext) (remember : List AgreedPost → List AgreedPost) (table : List TokenEntry) → tokens (with_pending token held remember table) ≡ cond (has_token token table) (tokens table) (tokens table ++ token ∷ [])
 with_pending_tokens token held remember [] = refl
 with_pending_tokens token held remember (entry ∷ table) = by (bytes_eq token entry.id) (has_token token table) (with_pending_tokens token held remember table)
   where
@@ -238,15 +241,15 @@ with_pending_tokens token held remember (entry ∷ table) = by (bytes_eq token e
     by false true rest = ap (λ ids. entry.id ∷ ids) rest
     by false false rest = ap (λ ids. entry.id ∷ ids) rest
 
-has_token_is : (token : List ℕ) (table : List TokenEntry) → list_any (bytes_eq token) (tokens table) ≡ has_token token table
+pub has_token_is : (token : List ℕ) (table : List TokenEntry) → list_any (bytes_eq token) (tokens table) ≡ has_token token table
 has_token_is token [] = refl
 has_token_is token (entry ∷ table) = ap (λ there. bytes_eq token entry.id || there) (has_token_is token table)
 
 -- With a pending context of a token id for which there is room, and of a recipient ID that is free, a table is one.
-pub with_pending_is_table : (token client_id : List ℕ) (held : SecurityContext) (remember : List AgreedPost → List AgreedPost) (byte : ℕ) (table : List TokenEntry) → IsTable table → ¬ IsFull token table
+pub with_pending_is_table : (reserved : Option (List ℕ)) (token client_id : List ℕ) (held : SecurityContext) (remember : List AgreedPost → List AgreedPost) (byte : ℕ) (table : List TokenEntry) → IsTable table → ¬ IsFull reserved token table
     → IsLeastFree (client_id ∷ ids (without_pending token table)) byte → held.name.client_id ≡ byte ∷ [] → held.name.server_id ≡ client_id
     → IsTable (with_pending token held remember table)
-with_pending_is_table token client_id held remember byte table is_table room free recipient sender = record {
+with_pending_is_table reserved token client_id held remember byte table is_table room free recipient sender = record {
   few = few (has_token token table) refl;
   own_tokens = rw (with_pending_tokens token held remember table) (own_tokens (has_token token table) refl);
   own_ids = rw (split.with_one, map-append client_id_of split.before (held ∷ split.after)) (distinct_among held.name.client_id (map client_id_of split.before) (map client_id_of split.after) (none_equal held.name.client_id (map client_id_of split.before ++ map client_id_of split.after) (rw (← others) absent)) (rw others at old.own_ids));
@@ -260,7 +263,7 @@ with_pending_is_table token client_id held remember byte table is_table room fre
     few true there =
         omega (arith, length-map (with_pending token held remember table) (λ entry. entry.id), length-map table (λ entry. entry.id), ap length (with_pending_tokens token held remember table ∙ ap (λ b. cond b (tokens table) (tokens table ++ token ∷ [])) there), is_table.few)
     few false absent =
-        let short : length table < 64 = elim (cases_lt (length table) 64) [ inl less ↦ less | inr many ↦ absurd (room (record { many = many; new = absent })) ] in
+        let short : length table < 64 = elim (cases_lt (length table) 64) [ inl less ↦ less | inr many ↦ absurd (room (record { many = omega (arith, many); new = absent })) ] in
         omega (arith, length-map (with_pending token held remember table) (λ entry. entry.id), length-map table (λ entry. entry.id), ap length (with_pending_tokens token held remember table ∙ ap (λ b. cond b (tokens table) (tokens table ++ token ∷ [])) absent), length-append (tokens table) (token ∷ []), short)
 
     own_tokens : (b : Bool) → has_token token table ≡ b → IsDistinct bytes_eq (cond b (tokens table) (tokens table ++ token ∷ []))
@@ -287,8 +290,8 @@ with_pending_is_table token client_id held remember byte table is_table room fre
     }
 
 -- the same once the token ids without a live context have gone
-pub added_is_table : (token client_id : List ℕ) (now : Standing) (held : SecurityContext) (remember : List AgreedPost → List AgreedPost) (byte : ℕ) (table : List TokenEntry) → IsTable table → ¬ IsFull token (alive now table)
+pub added_is_table : (reserved : Option (List ℕ)) (token client_id : List ℕ) (now : Standing) (held : SecurityContext) (remember : List AgreedPost → List AgreedPost) (byte : ℕ) (table : List TokenEntry) → IsTable table → ¬ IsFull reserved token (alive now table)
     → IsLeastFree (client_id ∷ ids (without_pending token (alive now table))) byte → held.name.client_id ≡ byte ∷ [] → held.name.server_id ≡ client_id
     → IsTable (with_pending token held remember (alive now table))
-added_is_table token client_id now held remember byte table is_table room free recipient sender =
-    with_pending_is_table token client_id held remember byte (alive now table) (alive_is_table now table is_table) room free recipient sender
+added_is_table reserved token client_id now held remember byte table is_table room free recipient sender =
+    with_pending_is_table reserved token client_id held remember byte (alive now table) (alive_is_table now table is_table) room free recipient sender

@@ -1,7 +1,7 @@
 -- What a post whose token opened comes to.
-use Rattle.std.specs.Prelude.{◌≡◌, ℕ, ◌+◌, ◌/◌, true, false, Option, Some, None, option_map, List, [], ◌∷◌, Result, Ok, Err}
+use Rattle.std.specs.Prelude.{◌≡◌, ℕ, ◌+◌, ◌/◌, Bool, true, false, not, ◌||◌, Option, Some, None, option_map, List, [], ◌∷◌, Result, Ok, Err}
 use Rattle.osc_model.specs.Scope.{Scope}
-use Rattle.osc_model.specs.{is_revoked, nonce_drawn, revocation_of}
+use Rattle.osc_model.specs.{has_subtrees, is_revoked, nonce_drawn, revocation_of}
 use Rattle.osc_model.specs.declared.context.ContextName.{ContextName}
 use Rattle.osc_model.specs.declared.node.Moment.{Moment}
 use Rattle.osc_context.specs.{master_salt}
@@ -9,6 +9,7 @@ use Rattle.osc_token.specs.{ComesTo}
 use Rattle.osc_token.specs.declared.claims.Claims.{Claims}
 use Rattle.osc_token.specs.declared.claims.InputMaterial.{InputMaterial}
 use Rattle.osc_token.specs.declared.error.TokenError.{TokenError}
+use Rattle.osc_token.specs.declared.error.TokenError.TheVariants.{BadScope}
 use Rattle.osc_authz.specs.Desk.{DeskState}
 use Rattle.osc_authz.specs.SecurityContext.{SecurityContext}
 use Rattle.osc_authz.specs.Known.{known, remembering, IsStillHeld}
@@ -75,25 +76,34 @@ known_of before offer claims = known claims.material.id offer.nonce1 offer.clien
 abbrev pub MadeIsHeld : DeskState → Offer → Claims → PostAnswer → Type 0
 MadeIsHeld before offer claims answer = IsStillHeld offer.on (name_by claims.material (agreed_post offer answer)) before.table
 
--- its text comes to these claims, whose id isn't revoked
+-- whether a server with these rules takes a token of this scope
+abbrev pub is_allowed : ContextRules → Scope → Bool
+is_allowed rules scope = rules.subtrees || not (has_subtrees scope)
+
+-- its text comes to these claims, whose scope is taken and whose id isn't revoked
 pub record IsGranted (before : DeskState) (offer : Offer) (text : List ℕ) (claims : Claims) (scope : Scope) : Type 0 where
   pub comes : ComesTo text before.audience offer.on.at (Ok (claims, scope))
+  pub allowed : is_allowed before.rules scope ≡ true
   pub unrevoked : is_revoked before.rules.revoked offer.on.tree claims.material.id ≡ false
 
 -- and there is room for the id
 pub record HasRoom (before : DeskState) (offer : Offer) (text : List ℕ) (claims : Claims) (scope : Scope) : Type 0 where
   pub granted : IsGranted before offer text claims scope
-  pub room : ¬ IsFull claims.material.id (alive offer.on before.table)
+  pub room : ¬ IsFull before.rules.reserved claims.material.id (alive offer.on before.table)
 
 -- the cases of a post whose token opened to this text
 pub data Answers (before : DeskState) (offer : Offer) (text : List ℕ) (answer : Result PostReply PostError) (after : DeskState) : Type 0 where
   refused : (error : TokenError) → ComesTo text before.audience offer.on.at (Err error)
       → answer ≡ Err (Token error) → after ≡ before → Answers before offer text answer after
+  disallowed : (claims : Claims) (scope : Scope) → ComesTo text before.audience offer.on.at (Ok (claims, scope))
+      → is_allowed before.rules scope ≡ false
+      → answer ≡ Err (Token BadScope) → after ≡ before → Answers before offer text answer after
   revoked : (claims : Claims) (scope : Scope) → ComesTo text before.audience offer.on.at (Ok (claims, scope))
+      → is_allowed before.rules scope ≡ true
       → is_revoked before.rules.revoked offer.on.tree claims.material.id ≡ true
       → answer ≡ Err Revoked → after ≡ before → Answers before offer text answer after
   full : (claims : Claims) (scope : Scope) → IsGranted before offer text claims scope
-      → IsFull claims.material.id (alive offer.on before.table)
+      → IsFull before.rules.reserved claims.material.id (alive offer.on before.table)
       → answer ≡ Err Full → after ≡ before → Answers before offer text answer after
   again : (claims : Claims) (scope : Scope) (made : PostAnswer) → HasRoom before offer text claims scope
       → known_of before offer claims ≡ Some made → MadeIsHeld before offer claims made

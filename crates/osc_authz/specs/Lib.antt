@@ -13,13 +13,14 @@ pub mod Errors
 pub mod Agreement
 pub mod Granted
 pub mod Members
+pub mod Marked
 pub mod Contexts
 pub mod Agreed
 pub mod HoldsToken
 pub mod Welcome
 pub mod Inner
 pub use Agreed.{IsAgreed}
-pub use Agreement.{Agrees, Answers, HasRoom, IsGranted, MadeIsHeld, again, agreed, agreed_post, end_of, full, known_of, name_by, new_context, refused, replayed, revoked}
+pub use Agreement.{Agrees, Answers, HasRoom, IsGranted, MadeIsHeld, again, agreed, agreed_post, disallowed, end_of, full, is_allowed, known_of, name_by, new_context, refused, replayed, revoked}
 pub use Begun.{ClientContextState}
 pub use Client.{Finishes, another_code, equal_ids, made, made_name, no_answer, offered_id}
 pub use Contexts.{AreKept, HasAdded, HasTaken, IsConfirmedOf, IsLive, IsPendingOf, OfToken, confirmed_by, of_token, of_tokens, pending_of}
@@ -28,8 +29,9 @@ pub use Errors.{post_number}
 pub use Exchange.{IsAnswer, IsPost, answer_item, post_item}
 pub use Granted.{IsSecret, IsShort}
 pub use Known.{AreFew, IsStillHeld, known, offers, remembering}
+pub use Marked.{AreMarked, IsMarked, IsSameBut, mark_of}
 pub use Members.{In}
 pub use Post.{IsKeyFor, IsKeyOf, IsOpened, Opens, Posts, answer_of, code_of, no_post, not_genuine, opened}
 pub use Posting.{Offer, OpenedToken, offered}
-pub use Table.{IsFull, IsLawfulContext, IsLeastFree, IsTable, accepted, accepted_in, alive, confirmed_at, contexts, has_id, has_token, holds_id, holds_live, ids, if_meant, is_live, is_named, listed, meant, taking, with_id, with_pending, without_pending, without_pending_in}
+pub use Table.{IsFull, IsLawfulContext, IsLeastFree, IsTable, KeepsPlace, accepted, accepted_in, alive, confirmed_at, contexts, has_id, has_token, holds_id, holds_live, ids, if_meant, is_live, is_named, kept_places, listed, meant, places_taken, taking, with_id, with_pending, without_pending, without_pending_in}
 pub use Welcome.{IsWelcome}

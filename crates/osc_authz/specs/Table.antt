@@ -1,6 +1,6 @@
 -- The security contexts of a server, by the ids of the tokens that made them. For each token id there are a confirmed context,
 -- whose key the client was seen to have, and a pending one of the newest post, until a request opens under it.
-use Rattle.std.specs.Prelude.{◌≡◌, ◌≢◌, ℕ, ◌/◌, ◌≤◌, ◌<◌, Bool, true, false, not, ◌&&◌, ◌||◌, nat_le, nat_lt, if◌then◌else◌, List, [], ◌∷◌, ◌++◌, length, map, filter, find, bytes_eq, slice_get, Option, Some, None, option_map, option_and_then}
+use Rattle.std.specs.Prelude.{◌≡◌, ◌≢◌, ℕ, ◌+◌, ◌/◌, ◌≤◌, ◌<◌, Bool, true, false, not, ◌&&◌, ◌||◌, nat_le, nat_lt, if◌then◌else◌, List, [], ◌∷◌, ◌++◌, length, map, filter, find, bytes_eq, slice_get, Option, Some, None, option_map, option_and_then}
 use Rattle.std.specs.Option.{option_map_or}
 use Rattle.std.specs.List.{All, Contains, IsDistinct, list_any}
 use Rattle.osc_model.specs.{stands}
@@ -102,10 +102,24 @@ accepted id number table = map (accepted_in id number) table
 abbrev pub has_token : List ℕ → List TokenEntry → Bool
 has_token token table = list_any (λ entry. bytes_eq token entry.id) table
 
--- 64 token ids are in the table, and this one is new
-pub record IsFull (token : List ℕ) (table : List TokenEntry) : Type 0 where
-  pub many : 64 ≤ length table
+-- The place that is reserved for a token id, if one is, is kept from other ids while that one isn't in the table.
+abbrev pub kept_places : Option (List ℕ) → List ℕ → List TokenEntry → ℕ
+kept_places None token table = 0
+kept_places (Some id) token table = if bytes_eq id token || has_token id table then 0 else 1
+
+-- 64 places are kept from this token id or have one, and this one is new
+pub record IsFull (reserved : Option (List ℕ)) (token : List ℕ) (table : List TokenEntry) : Type 0 where
+  pub many : 64 ≤ kept_places reserved token table + length table
   pub new : has_token token table ≡ false
+
+-- the places that token ids have, with the one that is reserved
+abbrev pub places_taken : Option (List ℕ) → List TokenEntry → ℕ
+places_taken None table = length table
+places_taken (Some id) table = if has_token id table then length table else 1 + length table
+
+-- the reserved id has a place, or there is one left for it
+abbrev pub KeepsPlace : Option (List ℕ) → List TokenEntry → Type 0
+KeepsPlace reserved table = places_taken reserved table ≤ 64
 
 -- without the pending context of a token id
 abbrev pub without_pending_in : List ℕ → TokenEntry → TokenEntry

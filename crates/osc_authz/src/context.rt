@@ -4,11 +4,15 @@ ghost use Rattle.std.specs.Prelude.{◌≡◌, ◌≤◌, option_map};
 ghost use Rattle.osc_model.specs.declared.context.Side.TheVariants.{Server};
 ghost use Rattle.osc_context.specs.{accepted_of, sender_of, recipient_of, greatest_number};
 ghost use Rattle.osc_window.specs.{IsFresh};
+ghost use Rattle.osc_authz.specs.Inner.Lives.{is_live_by as is_live_by_marks};
+ghost use Rattle.osc_authz.specs.Inner.Revoking.{is_revoked_at as is_revoked_at_path};
+ghost use Rattle.osc_authz.specs.Marked.{IsMarked};
 ghost use Rattle.osc_authz.specs.Table.{is_live as is_live_of, has_id as has_id_of, is_named as is_named_of, taking};
 
-use crate::standing::{Standing, is_there};
+use crate::revoked_marks::RevokedMarks;
+use crate::standing::Standing;
 use osc_context::{AcceptedNumber, RecipientContext, SenderContext};
-use osc_model::{Path, SharedName};
+use osc_model::{Moment, Path, SharedName};
 use osc_scope::Scope;
 use std::marker::Model;
 
@@ -87,15 +91,33 @@ impl ServerContext {
         &self.scope
     }
 
-    /// Whether its token is in its time, and isn't revoked, and it isn't too old.
-    pub(crate) fn is_live(&self, on: &Standing<'_>) -> bool
+    /// Whether its token is in its time, and isn't revoked, and it isn't too old; its mark says whether it is revoked.
+    pub(crate) fn is_live(&self, on: &Standing<'_>, revoked: &RevokedMarks) -> bool
+        requires { IsMarked on.now.tree revoked.now self.now }
         ensures { result ≡ is_live_of on.now self.now }
     {
-        let seconds = on.at.ms / 1000;
+        self.is_live_by(on.at, revoked)
+    }
+
+    /// The same by the marks alone.
+    pub(crate) fn is_live_by(&self, now: Moment, revoked: &RevokedMarks) -> bool
+        ensures { result ≡ is_live_by_marks now revoked.now self.now }
+    {
+        let seconds = now.ms / 1000;
         self.not_before.is_none_or(|first| first <= seconds)
             && self.expires.is_none_or(|end| seconds < end)
-            && !is_there(on.tree, &self.revocation)
+            && !revoked.has(self.name.client_id.as_slice())
             && self.ends.is_none_or(|end| seconds < end)
+    }
+
+    /// Whether a resource at this path revokes its token.
+    pub(crate) fn is_revoked_at(&self, path: &Path) -> bool
+        ensures { result ≡ is_revoked_at_path path.now self.now }
+    {
+        match &self.revocation {
+            Some(revocation) => path.text() == revocation.text(),
+            None => false,
+        }
     }
 
     /// Whether this is its recipient ID.

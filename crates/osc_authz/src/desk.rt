@@ -1,6 +1,6 @@
 //! The server's end of exchanges.
 
-ghost use Rattle.std.specs.Prelude.{◌≡◌, ◌≤◌, ◌⊎◌, ℕ, List, [], length, ◌↔◌, IfOk, IsErr, IsSome, IsTrue, OnErr, Some, None, Ok, option_map};
+ghost use Rattle.std.specs.Prelude.{◌≡◌, ◌≤◌, ◌⊎◌, ℕ, List, [], length, true, ◌↔◌, IfOk, IsErr, IsSome, IsTrue, OnErr, Some, None, Ok, option_map};
 ghost use Rattle.std.specs.Option.{IfSome};
 ghost use Rattle.osc_model.specs.declared.context.Side.TheVariants.{Server};
 ghost use Rattle.osc_context.specs.{accepted_of, greatest_number};
@@ -8,6 +8,7 @@ ghost use Rattle.osc_window.specs.{IsFresh};
 ghost use Rattle.osc_cbor.specs.{DataItem, IsWhole};
 ghost use Rattle.osc_model.specs.Scope.{Scope as AnyScope};
 ghost use Rattle.osc_model.specs.{revocation_of};
+ghost use Rattle.osc_model.specs.Tree.{Tree as Resources};
 ghost use Rattle.osc_token.specs.{ComesTo, IsToken, token_note};
 ghost use Rattle.osc_token.specs.declared.claims.Claims.{Claims as AnyClaims};
 ghost use Rattle.osc_authz.specs.Agreement.{Agrees, Answers};
@@ -15,10 +16,11 @@ ghost use Rattle.osc_authz.specs.Inner.KnownAnswer.{IsKnownAnswer};
 ghost use Rattle.osc_authz.specs.SecurityContext.{SecurityContext};
 ghost use Rattle.osc_authz.specs.Inner.Payload.{post_fields as fields_of};
 ghost use Rattle.osc_token.specs.Inner.Reading.{IsItem};
-ghost use Rattle.osc_authz.specs.Table.{IsTable, IsFull, accepted, alive, confirmed_at, meant, taking, with_id};
+ghost use Rattle.osc_authz.specs.Table.{IsTable, IsFull, KeepsPlace, accepted, alive, confirmed_at, meant, taking, with_id};
 ghost use Rattle.osc_authz.specs.Post.{IsKeyFor, IsKeyOf, Opens, Posts};
 ghost use Rattle.osc_authz.specs.Posting.{OpenedToken};
 ghost use Rattle.osc_authz.specs.Known.{IsStillHeld};
+ghost use Rattle.osc_authz.specs.Marked.{AreMarked, IsSameBut};
 
 use crate::agreed_post::PostRoom;
 use crate::agreement::{Bounds, context_of, name_of};
@@ -27,8 +29,9 @@ use crate::error::PostError;
 use crate::payload::{PostFields, post_fields};
 use crate::places::{NOWHERE, Places, places_of};
 use crate::post::{Post, PostAnswer, PostReply};
+use crate::revoked_marks::RevokedMarks;
 use crate::rules::ContextRules;
-use crate::standing::{Standing, is_there};
+use crate::standing::{Standing, has_resource, is_there};
 use crate::table::{self, Addition};
 use crate::token_entry::TokenEntry;
 use osc_cbor::ItemRef;
@@ -37,6 +40,7 @@ use osc_context::AcceptedNumber;
 use osc_model::{Draw, Note, Path, SharedName, revoked_path};
 use osc_scope::Scope;
 use osc_token::{Audience, Claims, TokenError, judge, open_token};
+use osc_tree::Tree;
 use std::alloc::{AllocError, Global};
 use std::marker::Model;
 
@@ -53,7 +57,8 @@ pub struct DeskParts {
 }
 
 /// The desk at authz-info: it judges tokens, and keeps the contexts that they made. For each token id it has at most one
-/// context that a request has opened under, and one of the newest post; at most 64 token ids have one. A look-up takes the
+/// context that a request has opened under, and one of the newest post; at most 64 token ids have one, with the one whose place is
+/// reserved. A look-up takes the
 /// same time however many there are, and no memory. Of each token id it knows so many of the newest posts as it is told.
 pub struct ServerDesk {
     key: [u8; 16],
@@ -80,7 +85,7 @@ impl Drop for ServerDesk {
 
 impl Model for ServerDesk {
     ghost use Rattle.osc_authz.specs.Desk.{DeskState};
-    ghost use Rattle.osc_authz.specs.Table.{IsTable};
+    ghost use Rattle.osc_authz.specs.Table.{IsTable, KeepsPlace};
     ghost use Rattle.osc_authz.specs.Known.{AreFew};
     ghost use Rattle.std.specs.Coded.{codes};
     ghost use Rattle.osc_model.specs.{coded_scope};
@@ -93,7 +98,8 @@ impl Model for ServerDesk {
 
     ghost use Rattle.osc_authz.specs.Inner.Places.{IsIndex};
 
-    ghost invariant = { λ desk. IsTable desk.table.items × IsIndex desk.places desk.table.items × AreFew desk.rules.remembered desk.table.items };
+    ghost invariant = { λ desk. IsTable desk.table.items × IsIndex desk.places desk.table.items × AreFew desk.rules.remembered desk.table.items
+        × KeepsPlace desk.rules.reserved desk.table.items };
 }
 
 /// What a post offers whose token opened: when and on which resources, its fields, and the random bytes of the step.
@@ -120,7 +126,7 @@ impl ServerDesk {
     /// The desk of a server that shares this key with the issuer of tokens for this audience. It has no contexts, no old key and no
     /// rules, and takes no memory.
     pub fn new(alloc: Global, key: [u8; 16], audience: Audience) -> ServerDesk
-        ensures { result ≡ record { key = key; old_key = None; audience = audience; rules = record { revoked = None; seconds = None; remembered = 0 }; table = [] } }
+        ensures { result ≡ record { key = key; old_key = None; audience = audience; rules = record { revoked = None; seconds = None; remembered = 0; reserved = None; subtrees = true }; table = [] } }
     {
         ServerDesk::of(
             alloc,
@@ -159,22 +165,28 @@ impl ServerDesk {
     /// context has and that isn't the client's own. Else nothing is changed: a post that is known is answered as before while its context is
     /// held, and refused after that.
     ///
+    /// Which of its contexts are of revoked tokens the marks say, and they say it afterwards: the tree is looked into for the posted
+    /// token's id alone.
+    ///
     /// Without memory nothing is changed; that comes only where the payload is one whole item of CBOR.
     pub fn post<A: Aead>(
         &mut self,
         alloc: Global,
         on: &Standing<'_>,
+        marks: &mut RevokedMarks,
         body: &[u8],
         draw: &Draw,
     ) -> Result<Post, AllocError>
+        requires marked { AreMarked on.now.tree self.old.table marks.old }
         ensures posted { IfOk result (λ post. Posts A.is_sealing self.old (record { on = on.now; body = body.now; draw = draw.now }) post self.new) }
         ensures err { OnErr result (self.new ≡ self.old) }
         ensures memory { IsErr result → (d : DataItem) × IsWhole body.now d }
         ensures table { IsTable self.new.table }
+        ensures marked { AreMarked on.now.tree self.new.table marks.new }
     {
-        let posted = self.post_bytes::<A>(alloc, on, body, draw);
-        // The clause `table` is the desk's invariant after the post.
-        let _ = &self.table;
+        let posted = self.post_bytes::<A>(alloc, on, marks, body, draw);
+        marks.unmark_new(&posted);
+        self.has_a_table();
         posted
     }
 
@@ -183,15 +195,17 @@ impl ServerDesk {
         &mut self,
         alloc: Global,
         on: &Standing<'_>,
+        marks: &RevokedMarks,
         body: &[u8],
         draw: &Draw,
     ) -> Result<Post, AllocError>
+        requires { AreMarked on.now.tree self.old.table marks.now }
         ensures posted { IfOk result (λ post. Posts A.is_sealing self.old (record { on = on.now; body = body.now; draw = draw.now }) post self.new) }
         ensures err { OnErr result (self.new ≡ self.old) }
         ensures memory { IsErr result → (d : DataItem) × IsWhole body.now d }
     {
         match ItemRef::whole(body) {
-            Some(item) => self.post_item::<A>(alloc, on, &item, draw),
+            Some(item) => self.post_item::<A>(alloc, on, marks, &item, draw),
             None => Ok(Post::refused(PostError::Fields)),
         }
     }
@@ -201,9 +215,11 @@ impl ServerDesk {
         &mut self,
         alloc: Global,
         on: &Standing<'_>,
+        marks: &RevokedMarks,
         item: &ItemRef<'_>,
         draw: &Draw,
     ) -> Result<Post, AllocError>
+        requires { AreMarked on.now.tree self.old.table marks.now }
         ensures posted { (body : List ℕ) → IsItem body item.now
             → IfOk result (λ post. Posts A.is_sealing self.old (record { on = on.now; body = body; draw = draw.now }) post self.new) }
         ensures err { OnErr result (self.new ≡ self.old) }
@@ -215,7 +231,7 @@ impl ServerDesk {
         match self.open::<A>(alloc, fields.token)? {
             Some(note) => {
                 let offer = Offered { on, fields, draw };
-                let answer = self.answer(alloc, &offer, note.plaintext.as_slice())?;
+                let answer = self.answer(alloc, &offer, marks, note.plaintext.as_slice())?;
                 Ok(Post {
                     opened: Some(note),
                     answer,
@@ -257,15 +273,17 @@ impl ServerDesk {
         &mut self,
         alloc: Global,
         offer: &Offered<'_>,
+        marks: &RevokedMarks,
         text: &[u8],
     ) -> Result<Result<PostReply, PostError>, AllocError>
-        requires { length offer.now.client_id ≤ 7 }
+        requires short { length offer.now.client_id ≤ 7 }
+        requires marked { AreMarked offer.now.on.tree self.old.table marks.now }
         ensures answers { IfOk result (λ answer. Answers self.old offer.now text.now answer self.new) }
         ensures err { OnErr result (self.new ≡ self.old) }
     {
         let on = offer.on;
         let verdict = judge(alloc, text, &self.audience, on.at)?;
-        self.answer_to(alloc, offer, verdict)
+        self.answer_to(alloc, offer, marks, verdict)
     }
 
     /// What is answered to a post whose token was judged so. Without memory nothing is changed; a refusal of the token takes none.
@@ -273,48 +291,69 @@ impl ServerDesk {
         &mut self,
         alloc: Global,
         offer: &Offered<'_>,
+        marks: &RevokedMarks,
         verdict: Result<(Claims, Scope), TokenError>,
     ) -> Result<Result<PostReply, PostError>, AllocError>
-        requires { length offer.now.client_id ≤ 7 }
+        requires short { length offer.now.client_id ≤ 7 }
+        requires marked { AreMarked offer.now.on.tree self.old.table marks.now }
         ensures answers { (text : List ℕ) → ComesTo text self.old.audience offer.now.on.at verdict
             → IfOk result (λ answer. Answers self.old offer.now text answer self.new) }
         ensures memory { IsErr result → (claims : AnyClaims) × (scope : AnyScope) × (verdict ≡ Ok (claims, scope))
-            × (IsSome self.old.rules.revoked ⊎ (¬ IsFull claims.material.id (alive offer.now.on self.old.table))) }
+            × (IsSome self.old.rules.revoked ⊎ (¬ IsFull self.old.rules.reserved claims.material.id (alive offer.now.on self.old.table))) }
         ensures err { OnErr result (self.new ≡ self.old) }
     {
         match verdict {
-            Ok((claims, scope)) => self.agree_unless_refused(alloc, offer, claims, scope),
+            Ok((claims, scope)) => self.agree_unless_refused(alloc, offer, marks, claims, scope),
             Err(error) => Ok(Err(PostError::Token(error))),
         }
     }
 
-    /// Adds the context of these claims, unless they are revoked or the table is full. Without memory nothing is changed; without a
-    /// revocation path, a full table is refused without memory.
+    /// Adds the context of these claims, unless their scope isn't taken, they are revoked or the table is full. Without memory nothing is
+    /// changed; a scope that isn't taken is refused without memory, and so is a full table where there is no revocation path.
     fn agree_unless_refused(
         &mut self,
         alloc: Global,
         offer: &Offered<'_>,
+        marks: &RevokedMarks,
         claims: Claims,
         scope: Scope,
     ) -> Result<Result<PostReply, PostError>, AllocError>
-        requires { length offer.now.client_id ≤ 7 }
+        requires short { length offer.now.client_id ≤ 7 }
+        requires marked { AreMarked offer.now.on.tree self.old.table marks.now }
         ensures answers { (text : List ℕ) → ComesTo text self.old.audience offer.now.on.at (Ok (claims, scope))
             → IfOk result (λ answer. Answers self.old offer.now text answer self.new) }
-        ensures memory { IsErr result → IsSome self.old.rules.revoked ⊎ (¬ IsFull claims.material.id (alive offer.now.on self.old.table)) }
+        ensures memory { IsErr result → IsSome self.old.rules.revoked ⊎ (¬ IsFull self.old.rules.reserved claims.material.id (alive offer.now.on self.old.table)) }
         ensures err { OnErr result (self.new ≡ self.old) }
     {
+        if !self.rules.allows(&scope) {
+            return Ok(Err(PostError::Token(TokenError::BadScope)));
+        }
         let revocation = self.revocation_of(alloc, claims.material.id.as_slice())?;
         let on = offer.on;
         if is_there(on.tree, &revocation) {
             return Ok(Err(PostError::Revoked));
         }
-        if table::is_full(&self.table, on, claims.material.id.as_slice()) {
+        if self.is_full(on, marks, claims.material.id.as_slice()) {
             return Ok(Err(PostError::Full));
         }
         match table::known(&self.table, claims.material.id.as_slice(), &offer.fields) {
-            Some(made) => self.answer_known(alloc, offer, claims, made),
-            None => Ok(Ok(PostReply::New(self.agree(alloc, offer, claims, scope, revocation)?))),
+            Some(made) => self.answer_known(alloc, offer, marks, claims, made),
+            None => Ok(Ok(PostReply::New(self.agree(
+                alloc,
+                offer,
+                marks,
+                (claims, scope),
+                revocation,
+            )?))),
         }
+    }
+
+    /// Whether there is no room for this token id.
+    fn is_full(&self, on: &Standing<'_>, marks: &RevokedMarks, token: &[u8]) -> bool
+        requires { AreMarked on.now.tree self.now.table marks.now }
+        ensures { IsTrue result ↔ IsFull self.now.rules.reserved token.now (alive on.now self.now.table) }
+    {
+        table::is_full(&self.table, on.at, marks, &self.rules.reserved, token)
     }
 
     /// What is answered to a post that is known: what it was answered before, while its context is held.
@@ -322,13 +361,15 @@ impl ServerDesk {
         &self,
         alloc: Global,
         offer: &Offered<'_>,
+        marks: &RevokedMarks,
         claims: Claims,
         made: PostAnswer,
     ) -> Result<Result<PostReply, PostError>, AllocError>
+        requires { AreMarked offer.now.on.tree self.now.table marks.now }
         ensures { IfOk result (λ answer. IsKnownAnswer self.now offer.now claims made answer) }
     {
         let (_, name) = name_of(alloc, claims.material, &offer.fields, &made)?;
-        if self.holds(offer.on, &name) {
+        if self.holds(offer.on, marks, &name) {
             Ok(Ok(PostReply::Known(made)))
         } else {
             Ok(Err(PostError::Replayed))
@@ -336,11 +377,12 @@ impl ServerDesk {
     }
 
     /// Whether the context of this name is held, and lives.
-    fn holds(&self, on: &Standing<'_>, name: &SharedName) -> bool
+    fn holds(&self, on: &Standing<'_>, marks: &RevokedMarks, name: &SharedName) -> bool
+        requires { AreMarked on.now.tree self.now.table marks.now }
         ensures { IsTrue result ↔ IsStillHeld on.now name.now self.now.table }
     {
         match self.get(name.client_id.as_slice()) {
-            Some(context) => context.name == *name && context.is_live(on),
+            Some(context) => context.name == *name && context.is_live(on, marks),
             None => false,
         }
     }
@@ -363,21 +405,23 @@ impl ServerDesk {
         &mut self,
         alloc: Global,
         offer: &Offered<'_>,
-        claims: Claims,
-        scope: Scope,
+        marks: &RevokedMarks,
+        granted: (Claims, Scope),
         revocation: Option<Path>,
     ) -> Result<PostAnswer, AllocError>
+        requires marked { AreMarked offer.now.on.tree self.old.table marks.now }
         requires short { length offer.now.client_id ≤ 7 }
-        requires room { ¬ IsFull claims.material.id (alive offer.now.on self.old.table) }
-        requires revocation { revocation ≡ revocation_of self.old.rules.revoked claims.material.id }
-        ensures agreed { IfOk result (λ answer. Agrees self.old offer.now claims scope answer self.new) }
+        requires room { ¬ IsFull self.old.rules.reserved granted.0.material.id (alive offer.now.on self.old.table) }
+        requires revocation { revocation ≡ revocation_of self.old.rules.revoked granted.0.material.id }
+        ensures agreed { IfOk result (λ answer. Agrees self.old offer.now granted.0 granted.1 answer self.new) }
         ensures err { OnErr result (self.new ≡ self.old) }
     {
         let on = offer.on;
+        let (claims, scope) = granted;
         let token = claims.material.id.as_slice();
         let answer = PostAnswer {
             nonce2: offer.draw.nonce(),
-            recipient_id: table::free_id(&self.table, on, token, offer.fields.client_id),
+            recipient_id: table::free_id(&self.table, on.at, marks, token, offer.fields.client_id),
         };
         let bounds = Bounds {
             revocation,
@@ -391,30 +435,62 @@ impl ServerDesk {
             context,
             room,
         };
-        table::add_pending(alloc, &mut self.table, on, added);
+        table::add_pending(alloc, &mut self.table, on.at, marks, added);
         self.places = places_of(&self.table);
         Ok(answer)
     }
 
-    /// The live context that a request's kid and kid context name.
+    /// The live context that a request's kid and kid context name; the marks say which are of revoked tokens.
     pub fn find(
         &self,
         on: &Standing<'_>,
+        marks: &RevokedMarks,
         kid: &[u8],
         kid_context: Option<&[u8]>,
     ) -> Option<&ServerContext>
+        requires marked { AreMarked on.now.tree self.now.table marks.now }
         ensures found { option_map (λ context. context.now) result ≡ meant on.now kid.now (option_map (λ bytes. bytes.now) kid_context.entry) self.now.table }
         ensures table { IsTable self.now.table }
     {
         match table::with_id(&self.table, &self.places, kid) {
-            Some(context) if context.is_live(on) && context.is_named(kid_context) => Some(context),
+            Some(context) if context.is_live(on, marks) && context.is_named(kid_context) => {
+                Some(context)
+            }
             _ => None,
         }
+    }
+
+    /// The path below which a resource revokes a token, if the desk has one.
+    pub fn revoked(&self) -> Option<&Path>
+        ensures { option_map (λ path. path.now) result ≡ self.now.rules.revoked }
+    {
+        self.rules.revoked.as_ref()
+    }
+
+    /// The marks of the contexts, by what the tree has: it is looked into once for each. Takes no memory.
+    pub fn marks(&self, tree: &Tree) -> RevokedMarks
+        ensures { AreMarked tree.now self.now.table result }
+    {
+        RevokedMarks::of(&self.table, tree)
+    }
+
+    /// Where the tree changed at this path alone, lets the marks say of the contexts what it has now: it is looked into once.
+    pub fn mark(&self, marks: &mut RevokedMarks, tree: &Tree, path: &Path)
+        ensures { (before : Resources) → IsSameBut before tree.now path.now → AreMarked before self.now.table marks.old → AreMarked tree.now self.now.table marks.new }
+    {
+        marks.set(&self.table, path, has_resource(tree, path));
     }
 
     /// For proofs: its contexts are a table. Does nothing.
     pub fn has_a_table(&self)
         ensures { IsTable self.now.table }
+    {
+        let _ = &self.table;
+    }
+
+    /// For proofs: where a place is reserved, the token id has it, or it is free. Does nothing.
+    pub fn keeps_a_place(&self)
+        ensures { KeepsPlace self.now.rules.reserved self.now.table }
     {
         let _ = &self.table;
     }

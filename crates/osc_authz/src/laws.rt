@@ -1,9 +1,12 @@
 //! Laws of the definitions, for the crates above. These functions do nothing: whoever calls one has its clauses for a proof.
 
-ghost use Rattle.std.specs.Prelude.{◌≡◌, ◌↔◌, ◌≤◌, ◌<◌, ◌^◌, ℕ, List, [], ◌∷◌, length, true, false, Option, Some, None, Ok, Result, IfSome};
+ghost use Rattle.std.specs.Prelude.{◌≡◌, ◌↔◌, ◌≤◌, ◌<◌, ◌^◌, ℕ, List, [], ◌∷◌, length, true, false, Bool, replicate, Option, Some, None, Ok, Result, IfSome};
 ghost use Rattle.osc_cbor.specs.{spelling};
 ghost use Rattle.osc_model.specs.{code, nonce_drawn, revocation_of, stands, HasBegun, IsNotOver};
+ghost use Rattle.osc_model.specs.Tree.{Tree as Resources};
+ghost use Rattle.osc_model.specs.declared.resource.Resource.{Resource as AnyResource};
 ghost use Rattle.osc_model.specs.declared.code.Code.{Code as AnyCode};
+ghost use Rattle.std.specs.FinMap as map;
 ghost use Rattle.osc_authz.specs.Standing.{Standing};
 ghost use Rattle.osc_model.specs.declared.node.Draw.{Draw as AnyDraw};
 ghost use Rattle.osc_scope.specs.{Entry, scope_of};
@@ -20,10 +23,11 @@ ghost use Rattle.osc_authz.specs.Exchange.{IsPost, IsAnswer, post_item, answer_i
 ghost use Rattle.osc_authz.specs.SecurityContext.{SecurityContext};
 ghost use Rattle.osc_authz.specs.Known.{AreFew, known};
 ghost use Rattle.osc_authz.specs.HoldsToken.{HoldsToken};
+ghost use Rattle.osc_authz.specs.Marked.{AreMarked, IsSameBut};
 ghost use Rattle.osc_authz.specs.Members.{In};
 ghost use Rattle.osc_authz.specs.Post.{Posts};
 ghost use Rattle.osc_authz.specs.Posting.{Offer, Posting};
-ghost use Rattle.osc_authz.specs.Table.{IsLawfulContext, IsTable, accepted, alive, contexts, is_live, meant, with_pending};
+ghost use Rattle.osc_authz.specs.Table.{IsFull, IsLawfulContext, IsTable, KeepsPlace, accepted, alive, contexts, is_live, meant, with_pending};
 ghost use Rattle.osc_authz.specs.Welcome.{IsWelcome};
 ghost use Rattle.osc_authz.specs.declared.error.FinishError.{FinishError as AnyFinishError};
 ghost use Rattle.osc_authz.specs.declared.granted.ClientDesk.{ClientDesk as AnyClient};
@@ -140,6 +144,29 @@ pub fn known_posts<A: Aead>()
 {
     osc_token::laws::one_outcome();
 }
+
+/// Marks of revoked contexts stay right where a number is taken, any marks are right of no contexts, and no marks where there are no
+/// resources.
+pub fn marks_stay()
+    ensures accepted { (tree : Resources) (id : List ℕ) (number : ℕ) (table : List TokenEntry) (marks : List Bool)
+        → AreMarked tree table marks → AreMarked tree (accepted id number table) marks }
+    ensures empty { (tree : Resources) (marks : List Bool) → AreMarked tree [] marks }
+    ensures none { (table : List TokenEntry) → AreMarked map.empty table (replicate 256 false) }
+{}
+
+/// A resource that is put or removed changes the tree at its path alone.
+pub fn one_path_changed()
+    ensures put { (tree : Resources) (path : List ℕ) (resource : AnyResource) → IsSameBut tree (map.insert tree path resource) path }
+    ensures removed { (tree : Resources) (path : List ℕ) → IsSameBut tree (map.remove tree path) path }
+    ensures unchanged { (tree : Resources) (path : List ℕ) → IsSameBut tree tree path }
+{
+    osc_model::laws::paths_are_ordered();
+}
+
+/// The token id whose place is kept always has one, or finds room.
+pub fn a_kept_place_is_free()
+    ensures { (on : Standing) (id : List ℕ) (table : List TokenEntry) → KeepsPlace (Some id) table → ¬ IsFull (Some id) id (alive on table) }
+{}
 
 /// Where no post is remembered, none is known.
 pub fn no_known_posts()

@@ -1,9 +1,10 @@
 //! What a server rules for its contexts.
 
-ghost use Rattle.std.specs.Prelude.{◌≡◌, None};
-ghost use Rattle.osc_authz.specs.Agreement.{end_of};
+ghost use Rattle.std.specs.Prelude.{◌≡◌, None, true};
+ghost use Rattle.osc_authz.specs.Agreement.{end_of, is_allowed};
 
-use osc_model::{Moment, Path};
+use osc_model::{Bytes, Moment, Path};
+use osc_scope::Scope;
 
 /// What a server rules for its contexts, beside what their tokens say.
 #[derive(Drop)]
@@ -15,18 +16,31 @@ pub struct ContextRules {
     /// How many of the newest posts of each token id are known again. A post that is known makes no context. With 0 each post is
     /// new.
     pub remembered: u8,
+    /// The token id whose place in the table is kept: other ids have one place less while it isn't there.
+    pub reserved: Option<Bytes>,
+    /// Whether a token's scope may have permissions that count on the paths below their own, too.
+    pub subtrees: bool,
 }
 
 impl ContextRules {
-    /// No token is revoked, a context counts as long as its token, and each post is new.
+    /// No token is revoked, a context counts as long as its token, each post is new, no place is kept, and each scope is taken.
     pub fn none() -> ContextRules
-        ensures { result ≡ record { revoked = None; seconds = None; remembered = 0 } }
+        ensures { result ≡ record { revoked = None; seconds = None; remembered = 0; reserved = None; subtrees = true } }
     {
         ContextRules {
             revoked: None,
             seconds: None,
             remembered: 0,
+            reserved: None,
+            subtrees: true,
         }
+    }
+
+    /// Whether tokens of this scope are taken.
+    pub(crate) fn allows(&self, scope: &Scope) -> bool
+        ensures { result ≡ is_allowed self.now scope.now }
+    {
+        self.subtrees || !scope.has_subtrees()
     }
 
     /// The second from which on a context that is made at this moment is too old, where there is a greatest age.

@@ -1,5 +1,6 @@
 //! What a context is judged by.
 ghost use Rattle.std.specs.Prelude.{◌≡◌};
+ghost use Rattle.std.specs.FinMap as map;
 ghost use Rattle.osc_model.specs.{stands};
 
 use osc_model::{Moment, Path};
@@ -32,7 +33,14 @@ pub(crate) fn is_there(tree: &Tree, path: &Option<Path>) -> bool
     ensures { result ≡ stands tree.now path.now }
 {
     match path {
-        Some(path) => tree.get(path).is_some(),
+        Some(path) => has_resource(tree, path),
         None => false,
     }
+}
+
+/// Whether a resource is at this path.
+pub(crate) fn has_resource(tree: &Tree, path: &Path) -> bool
+    ensures { result ≡ map.contains_key tree.now path.now }
+{
+    tree.get(path).is_some()
 }

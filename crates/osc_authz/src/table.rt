@@ -6,10 +6,11 @@ ghost use Rattle.osc_model.specs.declared.context.Side.TheVariants.{Server};
 ghost use Rattle.osc_context.specs.{accepted_of, greatest_number};
 ghost use Rattle.osc_window.specs.{IsFresh};
 ghost use Rattle.osc_authz.specs.SecurityContext.{SecurityContext};
+ghost use Rattle.osc_authz.specs.Inner.Lives.{alive_by};
 ghost use Rattle.osc_authz.specs.Inner.Places.{IsIndex};
 ghost use Rattle.osc_authz.specs.Inner.Rooms.{IsRoom};
 ghost use Rattle.osc_authz.specs.Known.{known as known_of};
-ghost use Rattle.osc_authz.specs.Table.{IsTable, IsFull, IsLeastFree, accepted, alive, confirmed_at, has_token, ids, taking, with_id as with_id_of, without_pending, with_pending};
+ghost use Rattle.osc_authz.specs.Table.{IsTable, IsFull, IsLeastFree, accepted, confirmed_at, has_token, ids, kept_places as kept_places_of, taking, with_id as with_id_of, without_pending, with_pending};
 
 use crate::agreed_post::{AgreedPosts, PostRoom};
 use crate::context::ServerContext;
@@ -17,10 +18,10 @@ use crate::marks::{least_unmarked, mark, mark_staying};
 use crate::payload::PostFields;
 use crate::places::{Places, place_of_id, places_of};
 use crate::post::PostAnswer;
-use crate::standing::Standing;
+use crate::revoked_marks::RevokedMarks;
 use crate::token_entry::TokenEntry;
 use osc_context::AcceptedNumber;
-use osc_model::Bytes;
+use osc_model::{Bytes, Moment};
 use std::alloc::Global;
 
 /// How many token ids have a context at most.
@@ -103,22 +104,52 @@ fn take_number(
     }
 }
 
-/// Whether 64 other token ids have a live context.
-pub(crate) fn is_full(table: &[TokenEntry], on: &Standing<'_>, token: &[u8]) -> bool
-    ensures { IsTrue result ↔ IsFull token.now (alive on.now table.now) }
+/// Whether other token ids have all places by a live context, or all but the reserved one.
+pub(crate) fn is_full(
+    table: &[TokenEntry],
+    now: Moment,
+    revoked: &RevokedMarks,
+    reserved: &Option<Bytes>,
+    token: &[u8],
+) -> bool
+    ensures { IsTrue result ↔ IsFull reserved.now token.now (alive_by now revoked.now table.now) }
 {
-    count_alive(table, on) >= MOST && !has_alive(table, on, token)
+    count_alive(table, now, revoked) >= MOST - kept_places(table, now, revoked, reserved, token)
+        && !has_alive(table, now, revoked, token)
+}
+
+/// How many places are kept from this token id.
+fn kept_places(
+    table: &[TokenEntry],
+    now: Moment,
+    revoked: &RevokedMarks,
+    reserved: &Option<Bytes>,
+    token: &[u8],
+) -> usize
+    ensures kept { result ≡ kept_places_of reserved.now token.now (alive_by now revoked.now table.now) }
+    ensures most { result ≤ 1 }
+{
+    match reserved {
+        Some(id) if id.as_slice() != token && !has_alive(table, now, revoked, id.as_slice()) => 1,
+        _ => 0,
+    }
 }
 
 /// The least byte that is no recipient ID in use, once the dead and the pending context of this token id have gone, and
 /// isn't the client's ID.
-pub(crate) fn free_id(table: &[TokenEntry], on: &Standing<'_>, token: &[u8], client_id: &[u8]) -> u8
+pub(crate) fn free_id(
+    table: &[TokenEntry],
+    now: Moment,
+    revoked: &RevokedMarks,
+    token: &[u8],
+    client_id: &[u8],
+) -> u8
     requires { IsTable table.now }
-    ensures { IsLeastFree (client_id.now ∷ ids (without_pending token.now (alive on.now table.now))) result }
+    ensures { IsLeastFree (client_id.now ∷ ids (without_pending token.now (alive_by now revoked.now table.now))) result }
 {
     let mut marks = [false; 256];
     mark(&mut marks, client_id);
-    mark_staying(&mut marks, table, on, token);
+    mark_staying(&mut marks, table, now, revoked, token);
     match least_unmarked(&marks) {
         Some(byte) => byte as u8,
         // 128 contexts and the client have fewer IDs than there are bytes.
@@ -158,41 +189,45 @@ pub(crate) struct Addition {
 pub(crate) fn add_pending(
     alloc: Global,
     table: &mut Vec<TokenEntry>,
-    on: &Standing<'_>,
+    now: Moment,
+    revoked: &RevokedMarks,
     added: Addition,
 )
     requires room { vec_len table.old < vec_capacity table.old }
     requires posts { IsRoom added.room }
-    ensures { table.new.items ≡ with_pending added.token added.context (λ older. take added.room.most (added.room.posts.items ++ older)) (alive on.now table.old.items) }
+    ensures { table.new.items ≡ with_pending added.token added.context (λ older. take added.room.most (added.room.posts.items ++ older)) (alive_by now revoked.now table.old.items) }
 {
-    keep_alive(table, on);
+    keep_alive(table, now, revoked);
     put_pending(alloc, table, added);
 }
 
 /// How many token ids have a live context.
-fn count_alive(table: &[TokenEntry], on: &Standing<'_>) -> usize
-    ensures { result ≡ length (alive on.now table.now) }
-{
-    table.iter().filter(|entry| entry.holds_live(on)).count()
-}
-
-/// Whether this token id has a live context.
-fn has_alive(table: &[TokenEntry], on: &Standing<'_>, token: &[u8]) -> bool
-    ensures { result ≡ has_token token.now (alive on.now table.now) }
+fn count_alive(table: &[TokenEntry], now: Moment, revoked: &RevokedMarks) -> usize
+    ensures { result ≡ length (alive_by now revoked.now table.now) }
 {
     table
         .iter()
-        .filter(|entry| entry.holds_live(on))
+        .filter(|entry| entry.holds_live(now, revoked))
+        .count()
+}
+
+/// Whether this token id has a live context.
+fn has_alive(table: &[TokenEntry], now: Moment, revoked: &RevokedMarks, token: &[u8]) -> bool
+    ensures { result ≡ has_token token.now (alive_by now revoked.now table.now) }
+{
+    table
+        .iter()
+        .filter(|entry| entry.holds_live(now, revoked))
         .any(|entry| entry.is_of_token(token))
 }
 
 /// Lets the token ids without a live context go.
-fn keep_alive(table: &mut Vec<TokenEntry>, on: &Standing<'_>)
-    ensures items { table.new.items ≡ alive on.now table.old.items }
+fn keep_alive(table: &mut Vec<TokenEntry>, now: Moment, revoked: &RevokedMarks)
+    ensures items { table.new.items ≡ alive_by now revoked.now table.old.items }
     ensures len { vec_len table.new ≤ vec_len table.old }
     ensures capacity { vec_capacity table.new ≡ vec_capacity table.old }
 {
-    table.retain(|entry| entry.holds_live(on));
+    table.retain(|entry| entry.holds_live(now, revoked));
 }
 
 /// Makes this the pending context of its token id, in the room that there is.

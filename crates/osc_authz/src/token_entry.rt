@@ -6,14 +6,15 @@ ghost use Rattle.std.specs.Option.{option_map_or, IfSome};
 ghost use Rattle.osc_model.specs.declared.context.Side.TheVariants.{Server};
 ghost use Rattle.osc_context.specs.{accepted_of, greatest_number};
 ghost use Rattle.osc_window.specs.{IsFresh};
+ghost use Rattle.osc_authz.specs.Inner.Lives.{holds_live_by, is_live_by};
 ghost use Rattle.osc_authz.specs.SecurityContext.{SecurityContext};
-ghost use Rattle.osc_authz.specs.Table.{is_live as is_live_of, holds_live as holds_live_of, holds_id, listed, has_id, taking, accepted_in};
+ghost use Rattle.osc_authz.specs.Table.{holds_id, listed, has_id, taking, accepted_in};
 
 use crate::agreed_post::{AgreedPosts, PostRoom};
 use crate::context::ServerContext;
-use crate::standing::Standing;
+use crate::revoked_marks::RevokedMarks;
 use osc_context::AcceptedNumber;
-use osc_model::Bytes;
+use osc_model::{Bytes, Moment};
 use std::alloc::Global;
 use std::mem;
 
@@ -37,11 +38,11 @@ impl Drop for TokenEntry {
 }
 
 /// Whether a context is there and live.
-fn is_live(context: &Option<ServerContext>, on: &Standing<'_>) -> bool
-    ensures { result ≡ option_map_or (is_live_of on.now) context.now false }
+fn is_live(context: &Option<ServerContext>, now: Moment, revoked: &RevokedMarks) -> bool
+    ensures { result ≡ option_map_or (is_live_by now revoked.now) context.now false }
 {
     match context {
-        Some(context) => context.is_live(on),
+        Some(context) => context.is_live_by(now, revoked),
         None => false,
     }
 }
@@ -72,10 +73,10 @@ fn take_number(context: &mut Option<ServerContext>, number: u64) -> AcceptedNumb
 
 impl TokenEntry {
     /// Whether one of the contexts is live.
-    pub fn holds_live(&self, on: &Standing<'_>) -> bool
-        ensures { result ≡ holds_live_of on.now self.now }
+    pub fn holds_live(&self, now: Moment, revoked: &RevokedMarks) -> bool
+        ensures { result ≡ holds_live_by now revoked.now self.now }
     {
-        is_live(&self.confirmed, on) || is_live(&self.pending, on)
+        is_live(&self.confirmed, now, revoked) || is_live(&self.pending, now, revoked)
     }
 
     /// Whether this is its token id.

@@ -9,7 +9,7 @@ use Rattle.osc_scope.specs.{Entry, IsScope, scope_of}
 use Rattle.osc_token.specs.{ComesTo, HasLawfulParts, IsToken, algorithm_header, claims_item, token_object}
 use Rattle.osc_token.specs.declared.claims.Claims.{Claims}
 use Rattle.osc_token.specs.declared.error.TokenError.{TokenError}
-use Rattle.osc_authz.specs.{Answers, IsGranted, refused, revoked, full, again, replayed, agreed, known, DeskState, IsPost, post_item, IsKeyFor, IsOpened, Posts, OpenedToken, offered, IsFull, alive, IsWelcome}
+use Rattle.osc_authz.specs.{Answers, IsGranted, is_allowed, refused, disallowed, revoked, full, again, replayed, agreed, known, DeskState, IsPost, post_item, IsKeyFor, IsOpened, Posts, OpenedToken, offered, IsFull, alive, IsWelcome}
 use Rattle.osc_authz.specs.Standing.{Standing}
 use Rattle.osc_authz.specs.declared.granted.ClientDesk.{ClientDesk}
 use Rattle.osc_authz.specs.declared.post.Post.{Post}
@@ -25,6 +25,12 @@ refusal error = Err error
 
 never : (error : TokenError) (claims : Claims) (scope : Scope) → refusal error ≡ granted claims scope → ⊥
 never error claims scope e = cc
+
+same_scope : (a b : Claims) (x y : Scope) → granted a x ≡ granted b y → x ≡ y
+same_scope a b x y e = ap (λ (p : Claims × Scope). p.1) (by (a, x) (b, y) e)
+  where
+    by : (p q : Claims × Scope) → (let o : Result (Claims × Scope) TokenError = Ok p in o) ≡ Ok q → p ≡ q
+    by p q e = cc
 
 same_claims : (a b : Claims) (x y : Scope) → granted a x ≡ granted b y → a ≡ b
 same_claims a b x y e = ap (λ (p : Claims × Scope). p.0) (by (a, x) (b, y) e)
@@ -105,12 +111,15 @@ module _ (is_sealing : List ℕ → List ℕ → List ℕ → List ℕ → List 
       by : Answers before (offered (record { on = on; body = body; draw = draw }) nonce1 client_id) token.text answer after → (answer : PostAnswer) × (post.answer ≡ Ok (New answer)) × (answer.nonce2 ≡ nonce_drawn draw)
       by (refused error comes is_err same) =
           absurd (never error claims (scope_of entries) (comes_to key nonce1 client_id token (refusal error) its its_key comes))
-      by (revoked others scope comes gone is_err same) =
+      by (disallowed others scope comes below is_err same) =
+          let same_as : scope ≡ scope_of entries = same_scope others claims scope (scope_of entries) (comes_to key nonce1 client_id token (granted others scope) its its_key comes) in
+          let never : true ≡ false = sym welcome.allowed ∙ ap (is_allowed before.rules) (sym same_as) ∙ below in cc
+      by (revoked others scope comes allowed gone is_err same) =
           let same_as : others ≡ claims = same_claims others claims scope (scope_of entries) (comes_to key nonce1 client_id token (granted others scope) its its_key comes) in
           let never : true ≡ false = sym gone ∙ ap (λ (k : Claims). is_revoked before.rules.revoked on.tree k.material.id) same_as ∙ welcome.unrevoked in cc
       by (full others scope found is_full is_err same) =
           let same_as : others ≡ claims = same_claims others claims scope (scope_of entries) (comes_to key nonce1 client_id token (granted others scope) its its_key found.comes) in
-          absurd (welcome.room (subst (λ (k : Claims). IsFull k.material.id (alive on before.table)) same_as is_full))
+          absurd (welcome.room (subst (λ (k : Claims). IsFull before.rules.reserved k.material.id (alive on before.table)) same_as is_full))
       by (again others scope made found k held is_ok same) = absurd (isnt_known others scope made found.granted k)
       by (replayed others scope made found k gone is_err same) = absurd (isnt_known others scope made found.granted k)
       by (agreed others scope made found k agrees answer_is) =

@@ -4,6 +4,7 @@ use Rattle.osc_authz.specs.declared.token_entry.TokenEntry.{TokenEntry}
 use Rattle.osc_authz.specs.Inner.Places.{IsIndex}
 use Rattle.osc_authz.specs.{IsTable, accepted, with_id}
 use Rattle.osc_authz.proofs.AgreementLemmas.{few_accepted}
+use Rattle.osc_authz.proofs.KeptPlaces.{kept_accepted}
 use Rattle.osc_authz.proofs.Lookups.{found_again}
 use Rattle.osc_authz.proofs.TableLaws.{accepted_is_table}
 use Rattle.osc_authz.proofs.desk.ServerDesk.accept.Goals as goal
@@ -30,6 +31,7 @@ invariant_of-self c = (
   kept c,
   subst (λ (table : List TokenEntry). IsIndex c.accept.new.places table) (sym (written c)) c.accept.ensures.index,
   rw (same c) (few_accepted c.args.id.now c.args.number c.self.inside.rules.remembered c.self.inside.table.items c.self.invariant.2),
+  rw (same c) (kept_accepted c.self.inside.rules.reserved c.args.id.now c.args.number c.self.inside.table.items c.self.invariant.3),
 )
 
 pub returns-clause-table : goal.returns-clause-table
