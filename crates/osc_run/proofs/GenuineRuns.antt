@@ -26,8 +26,8 @@ use Rattle.osc_run.proofs.Replied.{AskedBy, more_asked_by, sealed_question, no_t
 pub record Right (w : WorldState) : Type 0 where
   pub texts : (m : Minted) → In m w.minted → IsTextOf m.grant m.text
   pub granted : (c : OfToken) → In c w.server.contexts → Granted w.minted w.server.rules.revoked c.held
-  pub legal : IsLegal read_request (grants_of w.minted) w.first (history w.notes)
-  pub effects : effect read_request (grants_of w.minted) w.first (history w.notes) ≡ w.server.tree
+  pub legal : IsLegal read_request w.server.rules.revoked (grants_of w.minted) w.first (history w.notes)
+  pub effects : effect read_request w.server.rules.revoked (grants_of w.minted) w.first (history w.notes) ≡ w.server.tree
   pub unrevoked : AreUnrevoked (grants_of w.minted) w.server.rules.revoked w.first (history w.notes)
   pub asked : (e : Entry) → In e (history w.notes) → AskedBy w.minted w.notes e.context e.number e.plaintext
   pub answered : (a : Acceptance) → In a (acceptances w.notes) → IsReplyOfRequest w.notes a
@@ -62,8 +62,10 @@ same_history v s server clients h g granted t r k =
     record {
       texts = k.texts;
       granted = subst (λ (o : ContextRules). (c : OfToken) → In c server.contexts → Granted v.minted o.revoked c.held) (sym r) granted;
-      legal = subst (IsLegal read_request (grants_of v.minted) v.first) (sym same) k.legal;
-      effects = ap (effect read_request (grants_of v.minted) v.first) same ∙ k.effects ∙ sym t;
+      legal = subst (λ (o : ContextRules). IsLegal read_request o.revoked (grants_of v.minted) v.first (history (s ∷ v.notes))) (sym r)
+          (subst (IsLegal read_request v.server.rules.revoked (grants_of v.minted) v.first) (sym same) k.legal);
+      effects = ap (λ (o : ContextRules). effect read_request o.revoked (grants_of v.minted) v.first (history (s ∷ v.notes))) r
+          ∙ ap (effect read_request v.server.rules.revoked (grants_of v.minted) v.first) same ∙ k.effects ∙ sym t;
       unrevoked = subst (λ (o : ContextRules). AreUnrevoked (grants_of v.minted) o.revoked v.first (history (s ∷ v.notes))) (sym r)
           (subst (AreUnrevoked (grants_of v.minted) v.server.rules.revoked v.first) (sym same) k.unrevoked);
       asked = λ e m. more_asked_by v.minted v.notes s e (k.asked e (none_served v.notes s e h m));
@@ -183,8 +185,8 @@ right_of_client laws v i lied old new notes at (Answered honest p) genuine own k
     record {
       texts = k.texts;
       granted = k.granted;
-      legal = subst (IsLegal read_request (grants_of v.minted) v.first) (sym same) k.legal;
-      effects = ap (effect read_request (grants_of v.minted) v.first) same ∙ k.effects;
+      legal = subst (IsLegal read_request v.server.rules.revoked (grants_of v.minted) v.first) (sym same) k.legal;
+      effects = ap (effect read_request v.server.rules.revoked (grants_of v.minted) v.first) same ∙ k.effects;
       unrevoked = subst (AreUnrevoked (grants_of v.minted) v.server.rules.revoked v.first) (sym same) k.unrevoked;
       asked = λ e m. more_asked_by v.minted v.notes s e (k.asked e (none_served v.notes s e none m));
       answered = λ a m. ⊎_elim
@@ -222,8 +224,8 @@ right_start : (w : WorldState) → IsStart w → Right w
 right_start w p = record {
   texts = p.texts;
   granted = λ c m. absurd (subst (In c) p.contexts m);
-  legal = subst (λ (n : List Noted). IsLegal read_request (grants_of w.minted) w.first (history n)) (sym p.notes) (record { once = tt; timely = tt; answered = tt });
-  effects = ap (λ (n : List Noted). effect read_request (grants_of w.minted) w.first (history n)) p.notes ∙ sym p.tree;
+  legal = subst (λ (n : List Noted). IsLegal read_request w.server.rules.revoked (grants_of w.minted) w.first (history n)) (sym p.notes) (record { once = tt; timely = tt; answered = tt });
+  effects = ap (λ (n : List Noted). effect read_request w.server.rules.revoked (grants_of w.minted) w.first (history n)) p.notes ∙ sym p.tree;
   unrevoked = subst (λ (n : List Noted). AreUnrevoked (grants_of w.minted) w.server.rules.revoked w.first (history n)) (sym p.notes) tt;
   asked = λ e m. absurd (subst (λ (n : List Noted). In e (history n)) p.notes m);
   answered = λ a m. absurd (subst (λ (n : List Noted). In a (acceptances n)) p.notes m);

@@ -75,16 +75,16 @@ posted_granted minted earlier old new now notes p texts genuine =
 -- ---- one more entry
 
 -- the tree after a reply, as a history has it
-tree_is : Laws → (old : Tree) (scope : Scope) (r : Result Request Code) (reply : Reply) (new : Tree) → Replies old (apply_read old scope r) reply new → (if reply.code.0 == 160 then old else (apply_read old scope r).tree) ≡ new
-tree_is laws old scope (Ok request) reply new (Applied a b) =
-    let other : (reply.code.0 == 160) ≡ false = ap (λ (q : Reply). q.code.0 == 160) a ∙ laws.never_out_of_memory old scope request in
+tree_is : Laws → (root : Option (List ℕ)) (old : Tree) (scope : Scope) (r : Result Request Code) (reply : Reply) (new : Tree) → Replies old (apply_read root old scope r) reply new → (if reply.code.0 == 160 then old else (apply_read root old scope r).tree) ≡ new
+tree_is laws root old scope (Ok request) reply new (Applied a b) =
+    let other : (reply.code.0 == 160) ≡ false = ap (λ (q : Reply). q.code.0 == 160) a ∙ laws.never_out_of_memory root old scope request in
     rw other (sym b)
-tree_is laws old scope (Err c) reply new (Applied a b) = same (reply.code.0 == 160) ∙ sym b
+tree_is laws root old scope (Err c) reply new (Applied a b) = same (reply.code.0 == 160) ∙ sym b
   where
     same : (t : Bool) → (if t then old else old) ≡ old
     same true = refl
     same false = refl
-tree_is laws old scope r reply new (OutOfMemory t a b) =
+tree_is laws root old scope r reply new (OutOfMemory t a b) =
     let it : (reply.code.0 == 160) ≡ true = ap (λ (q : Reply). q.code.0 == 160) a in
     rw it (sym b)
 
@@ -94,18 +94,18 @@ may_reply old outcome reply new (OutOfMemory t a b) = inr (a, t)
 
 -- one more entry that came while its token wasn't revoked
 one_more_unrevoked : (grants : List Grant) (revoked : Option (List ℕ)) (first : Tree) (entries : List Entry) (entry : Entry)
-    → AreUnrevoked grants revoked first entries → IsUnrevoked grants revoked (effect read_request grants first entries) entry
+    → AreUnrevoked grants revoked first entries → IsUnrevoked grants revoked (effect read_request revoked grants first entries) entry
     → AreUnrevoked grants revoked first (entries ++ entry ∷ [])
 one_more_unrevoked grants revoked first [] entry all it = (it, tt)
 one_more_unrevoked grants revoked first (e ∷ entries) entry all it =
-    (all.0, one_more_unrevoked grants revoked (tree_after read_request grants first e) entries entry all.1 it)
+    (all.0, one_more_unrevoked grants revoked (tree_after read_request revoked grants first e) entries entry all.1 it)
 
 -- and each entry did so, on the tree that those before it left
 pub each_unrevoked : (grants : List Grant) (revoked : Option (List ℕ)) (first : Tree) (before after : List Entry) (entry : Entry)
-    → AreUnrevoked grants revoked first (before ++ entry ∷ after) → IsUnrevoked grants revoked (effect read_request grants first before) entry
+    → AreUnrevoked grants revoked first (before ++ entry ∷ after) → IsUnrevoked grants revoked (effect read_request revoked grants first before) entry
 each_unrevoked grants revoked first [] after entry all = all.0
 each_unrevoked grants revoked first (e ∷ before) after entry all =
-    each_unrevoked grants revoked (tree_after read_request grants first e) before after entry all.1
+    each_unrevoked grants revoked (tree_after read_request revoked grants first e) before after entry all.1
 
 -- what a request is served under a context that has a grant's rights
 module _ (laws : Laws) (minted : List Minted) (first : Tree) (notes : List Noted) (old new : ServerState) (now : Moment) (s : Noted) (p : IsServed old now s.notes new) where
@@ -115,8 +115,8 @@ module _ (laws : Laws) (minted : List Minted) (first : Tree) (notes : List Noted
   scope_is : HasOwnSecrets minted → Granted minted old.rules.revoked p.context.held → scope_of (grant_of (grants_of minted) p.context.held.name) ≡ p.context.held.scope
   scope_is own g = ap scope_of (grant_found minted g.source p.context.held.name own g.granted g.secret) ∙ g.scope
 
-  may_follow : HasOwnSecrets minted → Granted minted old.rules.revoked p.context.held → ServerPart old.contexts notes → effect read_request (grants_of minted) first (history notes) ≡ old.tree
-      → MayFollow read_request (grants_of minted) first (history notes) its
+  may_follow : HasOwnSecrets minted → Granted minted old.rules.revoked p.context.held → ServerPart old.contexts notes → effect read_request old.rules.revoked (grants_of minted) first (history notes) ≡ old.tree
+      → MayFollow read_request old.rules.revoked (grants_of minted) first (history notes) its
   may_follow own g k tree =
       let found = grant_found minted g.source p.context.held.name own g.granted g.secret in
       let its_scope = scope_is own g in
@@ -126,25 +126,27 @@ module _ (laws : Laws) (minted : List Minted) (first : Tree) (notes : List Noted
           begun = subst (λ (d : Option ℕ). HasBegun d now) (sym g.not_before) p.is_live.begun;
           not_over = subst (λ (d : Option ℕ). IsNotOver d now) (sym g.expires) p.is_live.not_over;
         });
-        answered = subst (λ (x : Tree × Scope). MayReply (apply_read x.0 x.1 (read_request p.text)) p.reply) (λ i. (sym tree i, sym its_scope i)) (may_reply old.tree _ p.reply new.tree p.tree);
+        answered = subst (λ (x : Tree × Scope). MayReply (apply_read old.rules.revoked x.0 x.1 (read_request p.text)) p.reply) (λ i. (sym tree i, sym its_scope i)) (may_reply old.tree _ p.reply new.tree p.tree);
       }
 
   more : history (s ∷ notes) ≡ history notes ++ its ∷ []
   more = collected_push (λ (r : Noted). r.notes.served) s notes its (ap (λ (r : StepNotes). r.served) p.noted)
 
-  pub still_legal : HasOwnSecrets minted → Granted minted old.rules.revoked p.context.held → ServerPart old.contexts notes → effect read_request (grants_of minted) first (history notes) ≡ old.tree
-      → IsLegal read_request (grants_of minted) first (history notes) → IsLegal read_request (grants_of minted) first (history (s ∷ notes))
+  pub still_legal : HasOwnSecrets minted → Granted minted old.rules.revoked p.context.held → ServerPart old.contexts notes → effect read_request old.rules.revoked (grants_of minted) first (history notes) ≡ old.tree
+      → IsLegal read_request old.rules.revoked (grants_of minted) first (history notes) → IsLegal read_request new.rules.revoked (grants_of minted) first (history (s ∷ notes))
   still_legal own g k tree legal =
-      subst (IsLegal read_request (grants_of minted) first) (sym more) (laws.one_more_legal read_request (grants_of minted) first (history notes) its legal (may_follow own g k tree))
+      subst (λ (r : ContextRules). IsLegal read_request r.revoked (grants_of minted) first (history (s ∷ notes))) (sym p.rules)
+      (subst (IsLegal read_request old.rules.revoked (grants_of minted) first) (sym more) (laws.one_more_legal read_request old.rules.revoked (grants_of minted) first (history notes) its legal (may_follow own g k tree)))
 
-  pub still_effects : HasOwnSecrets minted → Granted minted old.rules.revoked p.context.held → effect read_request (grants_of minted) first (history notes) ≡ old.tree
-      → effect read_request (grants_of minted) first (history (s ∷ notes)) ≡ new.tree
+  pub still_effects : HasOwnSecrets minted → Granted minted old.rules.revoked p.context.held → effect read_request old.rules.revoked (grants_of minted) first (history notes) ≡ old.tree
+      → effect read_request new.rules.revoked (grants_of minted) first (history (s ∷ notes)) ≡ new.tree
   still_effects own g tree =
       let its_scope = scope_is own g in
-      ap (effect read_request (grants_of minted) first) more
-      ∙ laws.one_more_effect read_request (grants_of minted) first (history notes) its
-      ∙ (λ i. if p.reply.code.0 == 160 then tree i else (apply_read (tree i) (its_scope i) (read_request p.text)).tree)
-      ∙ tree_is laws old.tree p.context.held.scope (read_request p.text) p.reply new.tree p.tree
+      ap (λ (r : ContextRules). effect read_request r.revoked (grants_of minted) first (history (s ∷ notes))) p.rules
+      ∙ ap (effect read_request old.rules.revoked (grants_of minted) first) more
+      ∙ laws.one_more_effect read_request old.rules.revoked (grants_of minted) first (history notes) its
+      ∙ (λ i. if p.reply.code.0 == 160 then tree i else (apply_read old.rules.revoked (tree i) (its_scope i) (read_request p.text)).tree)
+      ∙ tree_is laws old.rules.revoked old.tree p.context.held.scope (read_request p.text) p.reply new.tree p.tree
 
   is_unrevoked : HasOwnSecrets minted → Granted minted old.rules.revoked p.context.held → IsUnrevoked (grants_of minted) old.rules.revoked old.tree its
   is_unrevoked own g =
@@ -152,7 +154,7 @@ module _ (laws : Laws) (minted : List Minted) (first : Tree) (notes : List Noted
       subst (λ (o : Option Grant). IsSomeAnd o (λ grant. is_revoked old.rules.revoked old.tree grant.id ≡ false)) (sym found)
       (ap (stands old.tree) g.revocation ∙ p.is_live.unrevoked)
 
-  pub still_unrevoked : HasOwnSecrets minted → Granted minted old.rules.revoked p.context.held → effect read_request (grants_of minted) first (history notes) ≡ old.tree
+  pub still_unrevoked : HasOwnSecrets minted → Granted minted old.rules.revoked p.context.held → effect read_request old.rules.revoked (grants_of minted) first (history notes) ≡ old.tree
       → AreUnrevoked (grants_of minted) old.rules.revoked first (history notes) → AreUnrevoked (grants_of minted) new.rules.revoked first (history (s ∷ notes))
   still_unrevoked own g tree all =
       subst (λ (r : ContextRules). AreUnrevoked (grants_of minted) r.revoked first (history (s ∷ notes))) (sym p.rules)

@@ -1,5 +1,5 @@
 -- What the proofs use of the crates below: the laws that these state, all of them.
-use Rattle.std.proofs.Common.{◌≡◌, ◌≢◌, ◌==◌, ◌≤◌, ◌<◌, ◌^◌, ℕ, false, List, [], ◌∷◌, ◌++◌, length, Some, Result}
+use Rattle.std.proofs.Common.{◌≡◌, ◌≢◌, ◌==◌, ◌≤◌, ◌<◌, ◌^◌, ℕ, false, List, [], ◌∷◌, ◌++◌, length, Option, Some, Result}
 use Rattle.std.specs.Prelude.{IfSome}
 use Rattle.osc_model.specs.{apply, IsLegal, MayFollow, effect, tree_after}
 use Rattle.osc_model.specs.Grant.{Grant}
@@ -19,13 +19,13 @@ use Rattle.osc_protect.specs.{aad_of}
 
 -- Each field has the name of its law.
 pub record Laws : Type 0 where
-  pub one_more_legal : (read : List ℕ → Result Request Code) (grants : List Grant) (first : Tree) (history : List Entry) (entry : Entry)
-      → IsLegal read grants first history → MayFollow read grants first history entry → IsLegal read grants first (history ++ entry ∷ [])
-  pub one_more_effect : (read : List ℕ → Result Request Code) (grants : List Grant) (first : Tree) (history : List Entry) (entry : Entry)
-      → effect read grants first (history ++ entry ∷ []) ≡ tree_after read grants (effect read grants first history) entry
-  pub never_out_of_memory : (tree : Tree) (scope : Scope) (request : Request) → ((apply tree scope request).reply.code.0 == 160) ≡ false
-  pub least_code : (tree : Tree) (scope : Scope) (request : Request) → 64 ≤ (apply tree scope request).reply.code.0
-  pub most_code : (tree : Tree) (scope : Scope) (request : Request) → (apply tree scope request).reply.code.0 < 192
+  pub one_more_legal : (read : List ℕ → Result Request Code) (root : Option (List ℕ)) (grants : List Grant) (first : Tree) (history : List Entry) (entry : Entry)
+      → IsLegal read root grants first history → MayFollow read root grants first history entry → IsLegal read root grants first (history ++ entry ∷ [])
+  pub one_more_effect : (read : List ℕ → Result Request Code) (root : Option (List ℕ)) (grants : List Grant) (first : Tree) (history : List Entry) (entry : Entry)
+      → effect read root grants first (history ++ entry ∷ []) ≡ tree_after read root grants (effect read root grants first history) entry
+  pub never_out_of_memory : (root : Option (List ℕ)) (tree : Tree) (scope : Scope) (request : Request) → ((apply root tree scope request).reply.code.0 == 160) ≡ false
+  pub least_code : (root : Option (List ℕ)) (tree : Tree) (scope : Scope) (request : Request) → 64 ≤ (apply root tree scope request).reply.code.0
+  pub most_code : (root : Option (List ℕ)) (tree : Tree) (scope : Scope) (request : Request) → (apply root tree scope request).reply.code.0 < 192
   pub one_plaintext : (bytes : List ℕ) (p q : Plaintext) → SpellsPlaintext bytes p → SpellsPlaintext bytes q → p ≡ q
   pub a_written_reply : (reply : Reply) → IfSome reply.etag (λ tag. length tag ≡ 8) → HasPlaintextSpelling (reply_plaintext reply)
   pub a_reply_is_read_again : (reply : Reply) → 64 ≤ reply.code.0 → reply.code.0 < 192

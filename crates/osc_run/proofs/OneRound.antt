@@ -1,5 +1,5 @@
 -- A run in which a request is served and its reply accepted, with all that is assumed of a run.
-use Rattle.std.proofs.Common.{◌≡◌, ℕ, zero, suc, ◌+◌, false, List, [], ◌∷◌, Some, None, Result, Ok, Err, refl, sym, ap, ◌∙◌, inl, inr, ⊎_elim, subst, arith}
+use Rattle.std.proofs.Common.{◌≡◌, ℕ, zero, suc, ◌+◌, true, false, List, [], ◌∷◌, Option, Some, None, Result, Ok, Err, refl, sym, ap, ◌∙◌, inl, inr, ⊎_elim, subst, arith}
 use Rattle.std.specs.Prelude.{slice_get}
 use Rattle.std.proofs.lemmas.List.Elements.{All-nil}
 use Rattle.osc_model.specs.{apply_read, unchanged, code, HasBegun, IsNotOver, bare, quiet}
@@ -41,9 +41,9 @@ pub refusal_read : HasPlaintextSpelling (reply_plaintext refusal) → reply_in (
 unfolding reply_text
 refusal_read lawful says = record { plaintext = reply_plaintext refusal; spelled = record { lawful = lawful; whole = refl }; says = says }
 
-applied : (tree : Tree) (scope : Scope) → Replies tree (apply_read tree scope (read_request [])) refusal tree
-applied tree scope =
-    let is : apply_read tree scope (read_request []) ≡ unchanged tree (code 4 0) = ap (λ (r : Result Request Code). apply_read tree scope r) read_nothing in
+applied : (root : Option (List ℕ)) (tree : Tree) (scope : Scope) → Replies tree (apply_read root tree scope (read_request [])) refusal tree
+applied root tree scope =
+    let is : apply_read root tree scope (read_request []) ≡ unchanged tree (code 4 0) = ap (λ (r : Result Request Code). apply_read root tree scope r) read_nothing in
     Applied (ap (λ o. o.reply) (sym is)) (ap (λ o. o.tree) (sym is))
 
 other_side : side.Client ≡ side.Server → ⊥
@@ -98,7 +98,7 @@ module _ (key text audience : List ℕ) (now : Moment) (claims : Claims) (lawful
   no_age seconds e = cc
 
   abbrev rules : ContextRules
-  rules = record { revoked = None; seconds = None; remembered = 0 }
+  rules = record { revoked = None; seconds = None; remembered = 0; reserved = None; subtrees = true }
 
   abbrev post : AgreedPost
   post = record { nonce1 = eight 1; client_id = byte 0; answer = answer }
@@ -213,6 +213,7 @@ module _ (key text audience : List ℕ) (now : Moment) (claims : Claims) (lawful
         claims = claims;
         scope = scope;
         granted = h.granted;
+        allowed = refl;
         unrevoked = refl;
         post = post;
         short = omega arith;
@@ -259,7 +260,7 @@ module _ (key text audience : List ℕ) (now : Moment) (claims : Claims) (lawful
         text = [];
         reply = refusal;
         within = record { etag = tt; format = tt };
-        tree = applied tree scope;
+        tree = applied rules.revoked tree scope;
         noted = refl;
         contexts = record {
           only = λ c m. ⊎_elim (λ (e : c ≡ confirmed). inl e) (λ n. absurd n) m;

@@ -50,12 +50,12 @@ of_text text = of_bytes (plaintext_at text)
 
 -- ---- every reply to a plaintext
 
-of_machine : Laws → (tree : Tree) (scope : Scope) (r : Result Request Code) → AnswersBy r → IsResponse (apply_read tree scope r).reply.code
-of_machine laws tree scope (Ok request) h = (laws.least_code tree scope request, laws.most_code tree scope request)
-of_machine laws tree scope (Err c) h = h c refl
+of_machine : Laws → (root : Option (List ℕ)) (tree : Tree) (scope : Scope) (r : Result Request Code) → AnswersBy r → IsResponse (apply_read root tree scope r).reply.code
+of_machine laws root tree scope (Ok request) h = (laws.least_code root tree scope request, laws.most_code root tree scope request)
+of_machine laws root tree scope (Err c) h = h c refl
 
-pub reply_code : Laws → (old : Tree) (scope : Scope) (text : List ℕ) (reply : Reply) (new : Tree) → Replies old (apply_read old scope (read_request text)) reply new → IsResponse reply.code
-reply_code laws old scope text reply new (Applied is tree) =
-    subst IsResponse (ap (λ (r : Reply). r.code) (sym is)) (of_machine laws old scope (read_request text) (of_text text))
-reply_code laws old scope text reply new (OutOfMemory takes is tree) =
+pub reply_code : Laws → (root : Option (List ℕ)) (old : Tree) (scope : Scope) (text : List ℕ) (reply : Reply) (new : Tree) → Replies old (apply_read root old scope (read_request text)) reply new → IsResponse reply.code
+reply_code laws root old scope text reply new (Applied is tree) =
+    subst IsResponse (ap (λ (r : Reply). r.code) (sym is)) (of_machine laws root old scope (read_request text) (of_text text))
+reply_code laws root old scope text reply new (OutOfMemory takes is tree) =
     let its : IsResponse (code 5 0) = (omega arith, omega arith) in subst IsResponse (ap (λ (r : Reply). r.code) (sym is)) its

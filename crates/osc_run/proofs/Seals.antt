@@ -107,7 +107,7 @@ pub served_seals : Laws → (minted : List Minted) (old new : ServerState) (now 
 served_seals laws minted old new now notes s its p k seals =
     let x = p.context in
     let sealed : s.notes.seals ≡ Some (reply_note x.held.name p.number p.reply) = ap (λ (r : StepNotes). r.seals) p.noted in
-    let code = reply_code laws old.tree x.held.scope p.text p.reply new.tree p.tree in
+    let code = reply_code laws old.rules.revoked old.tree x.held.scope p.text p.reply new.tree p.tree in
     record {
       client = λ by t a e. absurd (cc (its, a));
       server = λ t a e. record {

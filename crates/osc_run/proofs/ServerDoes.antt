@@ -49,6 +49,7 @@ agreed law IsSealing before after posting post answer size a is_table =
       claims = a.claims;
       scope = a.scope;
       granted = a.granted.comes;
+      allowed = a.granted.allowed;
       unrevoked = a.granted.unrevoked;
       post = its;
       short = a.opened.is_post.id_size;
@@ -76,7 +77,8 @@ unchanged IsSealing before after posting post error (Posts.opened key nonce1 cli
 
     by : Answers before (offered posting nonce1 client_id) token.text its after → after ≡ before
     by (Answers.refused refusal comes answer same) = same
-    by (Answers.revoked claims scope comes gone answer same) = same
+    by (Answers.disallowed claims scope comes not_taken answer same) = same
+    by (Answers.revoked claims scope comes taken gone answer same) = same
     by (Answers.full claims scope granted many answer same) = same
     by (Answers.again claims scope made granted k held answer same) = same
     by (Answers.replayed claims scope made granted k gone answer same) = same
@@ -134,7 +136,7 @@ module _ (taken : TakenLaw) (now : Moment) (table : List TokenEntry) (is_table :
       (record { contexts = of_tokens (accepted kid number table); tree = after; rules = rules })
 
   opened_under : (context : OfToken) → In context (of_tokens table) → IsLive on context.held → IsFresh context.held.window number
-      → Replies tree (apply_read tree context.held.scope (read_request text)) reply after → Serves context.held context.held.name.client_id
+      → Replies tree (apply_read rules.revoked tree context.held.scope (read_request text)) reply after → Serves context.held context.held.name.client_id
   opened_under context there live fresh replies = record {
     context = context;
     is_held = there;
@@ -152,11 +154,11 @@ module _ (taken : TakenLaw) (now : Moment) (table : List TokenEntry) (is_table :
   }
 
   pub opened : MeantLaw → (kid : List ℕ) (kid_context : Option (List ℕ)) (held : SecurityContext) → meant on kid kid_context table ≡ Some held → IsFresh held.window number
-      → Replies tree (apply_read tree held.scope (read_request text)) reply after → Serves held kid
+      → Replies tree (apply_read rules.revoked tree held.scope (read_request text)) reply after → Serves held kid
   opened law kid kid_context held means fresh replies =
       let m = law on kid kid_context table held means in
       let its : IsLive on m.0.held = subst (IsLive on) (sym m.2) m.3 in
       let its_fresh : IsFresh m.0.held.window number = subst (λ (h : SecurityContext). IsFresh h.window number) (sym m.2) fresh in
-      let its_reply : Replies tree (apply_read tree m.0.held.scope (read_request text)) reply after = subst (λ (h : SecurityContext). Replies tree (apply_read tree h.scope (read_request text)) reply after) (sym m.2) replies in
+      let its_reply : Replies tree (apply_read rules.revoked tree m.0.held.scope (read_request text)) reply after = subst (λ (h : SecurityContext). Replies tree (apply_read rules.revoked tree h.scope (read_request text)) reply after) (sym m.2) replies in
       let serves : Serves m.0.held m.0.held.name.client_id = opened_under m.0 m.1 its its_fresh its_reply in
       subst (Serves held) m.4 (subst (λ (h : SecurityContext). Serves h h.name.client_id) m.2 serves)

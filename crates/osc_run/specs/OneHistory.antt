@@ -41,14 +41,14 @@ IsUnrevoked grants revoked tree entry = IsSomeAnd (grant_of grants entry.context
 abbrev pub AreUnrevoked : List Grant → Option (List ℕ) → Tree → List Entry → Type 0
 AreUnrevoked grants revoked tree [] = ⊤
 AreUnrevoked grants revoked tree (entry ∷ entries) =
-    IsUnrevoked grants revoked tree entry × AreUnrevoked grants revoked (tree_after read_request grants tree entry) entries
+    IsUnrevoked grants revoked tree entry × AreUnrevoked grants revoked (tree_after read_request revoked grants tree entry) entries
 
 -- The history is legal from the first tree: no two entries share context and number, each came in the time of its grant, and each
 -- is answered as the machine answers under the grant's scope. Its effects give the server's tree. No entry came while its token was
 -- revoked. Each entry was asked by the holder of its grant, and each accepted reply is that of its request.
 pub record OneHistory (w : WorldState) : Type 0 where
-  pub legal : IsLegal read_request (grants_of w.minted) w.first (history w.notes)
-  pub effects : effect read_request (grants_of w.minted) w.first (history w.notes) ≡ w.server.tree
+  pub legal : IsLegal read_request w.server.rules.revoked (grants_of w.minted) w.first (history w.notes)
+  pub effects : effect read_request w.server.rules.revoked (grants_of w.minted) w.first (history w.notes) ≡ w.server.tree
   pub none_revoked : AreUnrevoked (grants_of w.minted) w.server.rules.revoked w.first (history w.notes)
   pub asked : (entry : Entry) → In entry (history w.notes) → IsAskedByHolder w.minted w.notes entry
   pub answered : (a : Acceptance) → In a (acceptances w.notes) → IsReplyOfRequest w.notes a

@@ -1,6 +1,6 @@
 -- The kinds of step that a server may take. Beyond what its kind names, a step seals nothing, adds no context and no entry, drops
 -- no context that lives, and changes neither a context that stays nor a resource. The rules of contexts stay what they are.
-use Rattle.std.specs.Prelude.{◌≡◌, ◌≢◌, ℕ, ◌≤◌, false, IsTrue, List, [], ◌∷◌, length, Option, Some, Ok}
+use Rattle.std.specs.Prelude.{◌≡◌, ◌≢◌, ℕ, ◌≤◌, true, false, IsTrue, List, [], ◌∷◌, length, Option, Some, Ok}
 use Rattle.osc_model.specs.{Outcome, apply_read, is_revoked, out_of_memory, takes_memory, quiet}
 use Rattle.osc_model.specs.Scope.{Scope}
 use Rattle.osc_model.specs.StepNotes.{StepNotes}
@@ -16,7 +16,7 @@ use Rattle.osc_window.specs.{IsFresh}
 use Rattle.osc_protect.specs.{request_nonce, note_of}
 use Rattle.osc_token.specs.{ComesTo, token_note}
 use Rattle.osc_token.specs.declared.claims.Claims.{Claims}
-use Rattle.osc_authz.specs.{new_context, OfToken, IsLive, AreKept, HasAdded, HasTaken, In}
+use Rattle.osc_authz.specs.{is_allowed, new_context, OfToken, IsLive, AreKept, HasAdded, HasTaken, In}
 use Rattle.osc_authz.specs.Standing.{Standing}
 use Rattle.osc_authz.specs.declared.agreed_post.AgreedPost.{AgreedPost}
 use Rattle.osc_run.specs.States.{ServerState}
@@ -54,7 +54,7 @@ pub record IsServerIdle (old : ServerState) (now : Moment) (notes : StepNotes) (
   pub tree : new.tree ≡ old.tree
   pub rules : new.rules ≡ old.rules
 
--- A token opens, its claims are granted, and its id isn't revoked. One pending context with the input material, the scope and the times of these claims
+-- A token opens, its claims are granted, the server takes its scope, and its id isn't revoked. One pending context with the input material, the scope and the times of these claims
 -- is added, in the place of the pending one of the token's id. Its master salt has the nonce that the server drew, its IDs differ,
 -- and its replay window is empty (RFC 9203 section 4.3).
 pub record IsPosted (old : ServerState) (now : Moment) (notes : StepNotes) (new : ServerState) : Type 0 where
@@ -66,6 +66,7 @@ pub record IsPosted (old : ServerState) (now : Moment) (notes : StepNotes) (new 
   pub claims : Claims
   pub scope : Scope
   pub granted : ComesTo text audience now (Ok (claims, scope))
+  pub allowed : is_allowed old.rules scope ≡ true
   pub unrevoked : is_revoked old.rules.revoked old.tree claims.material.id ≡ false
   pub post : AgreedPost
   pub short : length post.client_id ≤ longest_id
@@ -90,7 +91,7 @@ pub record IsServed (old : ServerState) (now : Moment) (notes : StepNotes) (new 
   pub text : List ℕ
   pub reply : Reply
   pub within : IsWithinRanges reply
-  pub tree : Replies old.tree (apply_read old.tree context.held.scope (read_request text)) reply new.tree
+  pub tree : Replies old.tree (apply_read old.rules.revoked old.tree context.held.scope (read_request text)) reply new.tree
   pub noted : notes
       ≡ record quiet {
         seals = Some (reply_note context.held.name number reply);

@@ -88,7 +88,7 @@ pub fn requests_that_open()
     ensures { (now : AnyMoment) (kid : List ℕ) (kid_context : Option (List ℕ)) (table : List TokenEntry) (held : SecurityContext) (number : ℕ) (text : List ℕ) (reply : AnyReply) (tree after : Tree) (rules : AnyRules)
         → IsTable table → meant (record { at = now; tree = tree }) kid kid_context table ≡ Some held
         → number ≤ greatest_number → IsFresh held.window number
-        → IsWithinRanges reply → Replies tree (apply_read tree held.scope (read_request text)) reply after
+        → IsWithinRanges reply → Replies tree (apply_read rules.revoked tree held.scope (read_request text)) reply after
         → IsServed (record { contexts = of_tokens table; tree = tree; rules = rules }) now
         (record quiet {
           seals = Some (reply_note held.name number reply);

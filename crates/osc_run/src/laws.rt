@@ -1,6 +1,6 @@
 //! Laws of the definitions, for the crates above. These functions do nothing: whoever calls one has its clauses for a proof.
 
-ghost use Rattle.std.specs.Prelude.{◌≡◌, ◌≤◌, ◌<◌, ◌∷◌, ◌++◌, ℕ, List, length};
+ghost use Rattle.std.specs.Prelude.{◌≡◌, ◌≤◌, ◌<◌, ◌∷◌, ◌++◌, ℕ, List, length, Option};
 ghost use Rattle.osc_model.specs.{apply_read, effect, HasBegun, IsNotOver, HaveOwnPaths, IsIsolated};
 ghost use Rattle.osc_model.specs.Scope.{Scope};
 ghost use Rattle.osc_model.specs.Tree.{Tree};
@@ -53,7 +53,7 @@ pub fn one_history()
 pub fn none_revoked()
     ensures { (w : WorldState) → IsReached w → Premise w.minted w.notes → (before after : List AnyEntry) (entry : AnyEntry)
         → history w.notes ≡ before ++ entry ∷ after
-        → IsUnrevoked (grants_of w.minted) w.server.rules.revoked (effect read_request (grants_of w.minted) w.first before) entry }
+        → IsUnrevoked (grants_of w.minted) w.server.rules.revoked (effect read_request w.server.rules.revoked (grants_of w.minted) w.first before) entry }
 {
     one_history();
 }
@@ -68,7 +68,7 @@ pub fn contexts_are_young()
 /// the first tree, up to the first that is for lack of memory or of room; what other holders meet doesn't matter.
 pub fn own_answers()
     ensures { (w : WorldState) → IsReached w → Premise w.minted w.notes → HaveOwnPaths (grants_of w.minted)
-        → IsIsolated read_request (grants_of w.minted) w.first (history w.notes) }
+        → IsIsolated read_request w.server.rules.revoked (grants_of w.minted) w.first (history w.notes) }
 {
     one_history();
     isolation();
@@ -94,10 +94,10 @@ pub fn own_nonces()
 
 /// What answers a plaintext has the code of a response (RFC 7252 section 12.1.2).
 pub fn codes_of_replies()
-    ensures least { (old new : Tree) (scope : Scope) (text : List ℕ) (reply : AnyReply)
-        → Replies old (apply_read old scope (read_request text)) reply new → 64 ≤ reply.code.0 }
-    ensures most { (old new : Tree) (scope : Scope) (text : List ℕ) (reply : AnyReply)
-        → Replies old (apply_read old scope (read_request text)) reply new → reply.code.0 < 192 }
+    ensures least { (root : Option (List ℕ)) (old new : Tree) (scope : Scope) (text : List ℕ) (reply : AnyReply)
+        → Replies old (apply_read root old scope (read_request text)) reply new → 64 ≤ reply.code.0 }
+    ensures most { (root : Option (List ℕ)) (old new : Tree) (scope : Scope) (text : List ℕ) (reply : AnyReply)
+        → Replies old (apply_read root old scope (read_request text)) reply new → reply.code.0 < 192 }
 {
     replies_are_responses();
 }

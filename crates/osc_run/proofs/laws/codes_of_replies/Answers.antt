@@ -45,22 +45,22 @@ of_text : (text : List ℕ) → AnswersBy (read_request text)
 unfolding read_request
 of_text text = of_bytes (plaintext_at text)
 
-module _ (least : (tree : Tree) (scope : Scope) (request : Request) → 64 ≤ (apply tree scope request).reply.code.0)
-    (most : (tree : Tree) (scope : Scope) (request : Request) → (apply tree scope request).reply.code.0 < 192) where
-  of_machine : (tree : Tree) (scope : Scope) (r : Result Request Code) → AnswersBy r → IsResponse (apply_read tree scope r).reply.code
-  of_machine tree scope (Ok request) h = (least tree scope request, most tree scope request)
-  of_machine tree scope (Err c) h = h c refl
+module _ (least : (root : Option (List ℕ)) (tree : Tree) (scope : Scope) (request : Request) → 64 ≤ (apply root tree scope request).reply.code.0)
+    (most : (root : Option (List ℕ)) (tree : Tree) (scope : Scope) (request : Request) → (apply root tree scope request).reply.code.0 < 192) where
+  of_machine : (root : Option (List ℕ)) (tree : Tree) (scope : Scope) (r : Result Request Code) → AnswersBy r → IsResponse (apply_read root tree scope r).reply.code
+  of_machine root tree scope (Ok request) h = (least root tree scope request, most root tree scope request)
+  of_machine root tree scope (Err c) h = h c refl
 
-  reply_code : (old : Tree) (scope : Scope) (text : List ℕ) (reply : Reply) (new : Tree) → Replies old (apply_read old scope (read_request text)) reply new → IsResponse reply.code
-  reply_code old scope text reply new (Applied is tree) =
-      subst IsResponse (ap (λ (r : Reply). r.code) (sym is)) (of_machine old scope (read_request text) (of_text text))
-  reply_code old scope text reply new (OutOfMemory takes is tree) =
+  reply_code : (root : Option (List ℕ)) (old : Tree) (scope : Scope) (text : List ℕ) (reply : Reply) (new : Tree) → Replies old (apply_read root old scope (read_request text)) reply new → IsResponse reply.code
+  reply_code root old scope text reply new (Applied is tree) =
+      subst IsResponse (ap (λ (r : Reply). r.code) (sym is)) (of_machine root old scope (read_request text) (of_text text))
+  reply_code root old scope text reply new (OutOfMemory takes is tree) =
       let its : IsResponse (code 5 0) = (omega arith, omega arith) in subst IsResponse (ap (λ (r : Reply). r.code) (sym is)) its
 
 pub returns-clause-least : goal.returns-clause-least
-returns-clause-least c = λ old new scope text reply applied.
-    (reply_code c.replies_are_responses.ensures.least c.replies_are_responses.ensures.most old scope text reply new applied).0
+returns-clause-least c = λ root old new scope text reply applied.
+    (reply_code c.replies_are_responses.ensures.least c.replies_are_responses.ensures.most root old scope text reply new applied).0
 
 pub returns-clause-most : goal.returns-clause-most
-returns-clause-most c = λ old new scope text reply applied.
-    (reply_code c.replies_are_responses.ensures.least c.replies_are_responses.ensures.most old scope text reply new applied).1
+returns-clause-most c = λ root old new scope text reply applied.
+    (reply_code c.replies_are_responses.ensures.least c.replies_are_responses.ensures.most root old scope text reply new applied).1
