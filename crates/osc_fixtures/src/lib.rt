@@ -12,7 +12,8 @@ mod resources;
 pub use grants::{GET_AND_POST, KEY, Right, claims, desk, iv_of, own, token};
 pub use names::shared_name;
 pub use nodes::{
-    client, empty_server, proxy, sent, sent_in, server, straight, target, targets, through,
+    client, empty_server, proxy, revoking_server, sent, sent_in, server, straight, target, targets,
+    through,
 };
 pub use peers::{CLIENT, NOWHERE, PROXY, SERVER, STRANGER, at, drawn, place};
 pub use requests::{DELETE, GET, POST, PUT, request};

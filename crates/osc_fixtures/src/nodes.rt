@@ -2,9 +2,9 @@
 
 use crate::grants::{KEY, Right, desk};
 use crate::peers::{PROXY, SERVER};
-use osc_authz::ServerDesk;
+use osc_authz::{ContextRules, DeskParts, ServerDesk};
 use osc_client::{Client, Origin, Route};
-use osc_model::{Bytes, Peer, Step};
+use osc_model::{Bytes, Path, Peer, Step};
 use osc_proxy::{Proxy, Target, Targets};
 use osc_scope::Scope;
 use osc_server::Server;
@@ -39,6 +39,24 @@ pub fn client(alloc: Global, right: Right, way: Route) -> Result<Client, AllocEr
 pub fn server(alloc: Global, tree: Tree, open_scope: Scope) -> Result<Server, AllocError> {
     let desk = ServerDesk::new(alloc, KEY, Audience::new(alloc, "s")?);
     Server::new(alloc, tree, desk, open_scope)
+}
+
+/// The same, on which a resource below this path revokes a token.
+pub fn revoking_server(alloc: Global, tree: Tree, root: &[u8]) -> Result<Server, AllocError> {
+    let rules = ContextRules {
+        revoked: Path::from_text(alloc, root)?,
+        ..ContextRules::none()
+    };
+    let desk = ServerDesk::of(
+        alloc,
+        DeskParts {
+            key: KEY,
+            old_key: None,
+            audience: Audience::new(alloc, "s")?,
+            rules,
+        },
+    );
+    Server::new(alloc, tree, desk, Scope::new(alloc))
 }
 
 /// A server without resources and contexts.

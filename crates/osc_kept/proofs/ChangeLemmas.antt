@@ -81,23 +81,23 @@ module _ (total : IsTotalOrder path_cmp) (exact : IsAntisymmetric path_cmp) wher
   refused_tells tree path None outcome tells = tells
   refused_tells tree path (Some c) outcome tells = same_at (where_told (unchanged tree c).reply path) tree
 
-  at_tells : (tree : Tree) (scope : Scope) (path : Option (List ℕ)) (request : Request) → Tells tree path (apply_at tree scope path request)
-  at_tells tree scope None request = same_at (where_told (unchanged tree (code 4 3)).reply None) tree
-  at_tells tree scope (Some path) request = refused_tells tree (Some path) (refusal tree scope path request) _ (perform_tells tree path (method_of request.code) request)
+  at_tells : (root : Option (List ℕ)) (tree : Tree) (scope : Scope) (path : Option (List ℕ)) (request : Request) → Tells tree path (apply_at root tree scope path request)
+  at_tells root tree scope None request = same_at (where_told (unchanged tree (code 4 3)).reply None) tree
+  at_tells root tree scope (Some path) request = refused_tells tree (Some path) (refusal root tree scope path request) _ (perform_tells tree path (method_of request.code) request)
 
-  apply_tells : (tree : Tree) (scope : Scope) (asked : Result Request Code) → Tells tree (path_asked asked) (apply_read tree scope asked)
+  apply_tells : (root : Option (List ℕ)) (tree : Tree) (scope : Scope) (asked : Result Request Code) → Tells tree (path_asked asked) (apply_read root tree scope asked)
   unfolding apply
-  apply_tells tree scope (Ok request) = at_tells tree scope request.path request
-  apply_tells tree scope (Err c) = same_at (where_told (unchanged tree c).reply None) tree
+  apply_tells root tree scope (Ok request) = at_tells root tree scope request.path request
+  apply_tells root tree scope (Err c) = same_at (where_told (unchanged tree c).reply None) tree
 
   -- ---- what a server does
 
-  replied_tells : (old new : Tree) (scope : Scope) (asked : Result Request Code) (reply : Reply) → Replies old (apply_read old scope asked) reply new
+  replied_tells : (root : Option (List ℕ)) (old new : Tree) (scope : Scope) (asked : Result Request Code) (reply : Reply) → Replies old (apply_read root old scope asked) reply new
       → DifferAt (where_told reply (path_asked asked)) old new
-  replied_tells old new scope asked reply (Applied answered after) =
+  replied_tells root old new scope asked reply (Applied answered after) =
       subst (λ (t : Tree). DifferAt (where_told reply (path_asked asked)) old t) (sym after)
-      (subst (λ (r : Reply). DifferAt (where_told r (path_asked asked)) old (apply_read old scope asked).tree) (sym answered) (apply_tells old scope asked))
-  replied_tells old new scope asked reply (OutOfMemory takes answered after) =
+      (subst (λ (r : Reply). DifferAt (where_told r (path_asked asked)) old (apply_read root old scope asked).tree) (sym answered) (apply_tells root old scope asked))
+  replied_tells root old new scope asked reply (OutOfMemory takes answered after) =
       subst (λ (t : Tree). DifferAt (where_told reply (path_asked asked)) old t) (sym after) (same_at (where_told reply (path_asked asked)) old)
 
   pub changes_one : (old new : ServerState) (now : Moment) (notes : StepNotes) → ServerStep old now notes new → IsChangeOf notes.served old.tree new.tree
@@ -105,6 +105,6 @@ module _ (total : IsTotalOrder path_cmp) (exact : IsAntisymmetric path_cmp) wher
   changes_one old new now notes (Posted posted) = subst (λ (n : StepNotes). IsChangeOf n.served old.tree new.tree) (sym posted.noted) posted.tree
   changes_one old new now notes (Served served) =
       subst (λ (n : StepNotes). IsChangeOf n.served old.tree new.tree) (sym served.noted)
-      (replied_tells old.tree new.tree served.context.held.scope (read_request served.text) served.reply served.tree)
+      (replied_tells old.rules.revoked old.tree new.tree served.context.held.scope (read_request served.text) served.reply served.tree)
   changes_one old new now notes (ServerRestarted again) =
       subst (λ (n : StepNotes). IsChangeOf n.served old.tree new.tree) (sym again.noted) (ap (λ (s : ServerState). s.tree) again.is)

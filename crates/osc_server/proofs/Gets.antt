@@ -42,11 +42,11 @@ get_of_code c e = rw e refl
 performed : (tree : Tree) (path : List ℕ) (method : Option Method) (request : Request) → method ≡ Some Get → (perform tree path method request).tree ≡ tree
 performed tree path method request e = rw e (read_same tree (map.get tree path))
 
-read_at : (tree : Tree) (scope : Scope) (path : Option (List ℕ)) (request : Request) → request.code.0 ≡ 1 → (apply_at tree scope path request).tree ≡ tree
-read_at tree scope None request e = refl
-read_at tree scope (Some path) request e =
-    refused tree (refusal tree scope path request) _ (performed tree path (method_of request.code) request (get_of_code request.code e))
+read_at : (root : Option (List ℕ)) (tree : Tree) (scope : Scope) (path : Option (List ℕ)) (request : Request) → request.code.0 ≡ 1 → (apply_at root tree scope path request).tree ≡ tree
+read_at root tree scope None request e = refl
+read_at root tree scope (Some path) request e =
+    refused tree (refusal root tree scope path request) _ (performed tree path (method_of request.code) request (get_of_code request.code e))
 
-pub get_reads : (tree : Tree) (scope : Scope) (request : Request) → request.code.0 ≡ 1 → (apply tree scope request).tree ≡ tree
+pub get_reads : (root : Option (List ℕ)) (tree : Tree) (scope : Scope) (request : Request) → request.code.0 ≡ 1 → (apply root tree scope request).tree ≡ tree
 unfolding apply
-get_reads tree scope request e = read_at tree scope request.path request e
+get_reads root tree scope request e = read_at root tree scope request.path request e

@@ -1,5 +1,6 @@
 pub mod Meant
 pub mod Cases
+pub mod Changes
 pub mod Gets
 pub mod Notes
 pub mod Requests

@@ -77,17 +77,17 @@ performed tree path request =
           ]
     ]
 
-reply_at : (tree : Tree) (scope : Scope) (path : Option (List ℕ)) (request : Request) → IsReplyOf (if request.code.0 == 1 then read_length tree path else 0) (apply_at tree scope path request).reply
+reply_at : (root : Option (List ℕ)) (tree : Tree) (scope : Scope) (path : Option (List ℕ)) (request : Request) → IsReplyOf (if request.code.0 == 1 then read_length tree path else 0) (apply_at root tree scope path request).reply
 unfolding refusal
-reply_at tree scope None request = bare_reply _ (code 4 3) (omega arith)
-reply_at tree scope (Some path) request =
-    replied (checks tree scope path request) tree _ _
+reply_at root tree scope None request = bare_reply _ (code 4 3) (omega arith)
+reply_at root tree scope (Some path) request =
+    replied (checks root tree scope path request) tree _ _
     (lit< tt, (lit< tt, (lit< tt, (lit< tt, (lit< tt, (lit< tt, (lit< tt, (lit< tt, tt))))))))
     (performed tree path request)
 
-pub machine_reply : (tree : Tree) (scope : Scope) (request : Request) → IsReplyOf (request_reply_length tree request) (apply tree scope request).reply
+pub machine_reply : (root : Option (List ℕ)) (tree : Tree) (scope : Scope) (request : Request) → IsReplyOf (request_reply_length tree request) (apply root tree scope request).reply
 unfolding apply
-machine_reply tree scope request = reply_at tree scope request.path request
+machine_reply root tree scope request = reply_at root tree scope request.path request
 
 limited : (tree : Tree) (request : Request) → IsWithinLimits tree → request_reply_length tree request ≤ 512
 limited tree request limits = by (request.code.0 == 1) request.path
@@ -97,8 +97,8 @@ limited tree request limits = by (request.code.0 == 1) request.path
     by true (Some path) = limits.short path
     by false path = omega arith
 
-pub read_reply_short : (tree : Tree) (scope : Scope) (request : Request) → IsWithinLimits tree → FitsAResource (apply tree scope request).reply
-read_reply_short tree scope request limits = is_short (request_reply_length tree request) _ (limited tree request limits) (machine_reply tree scope request)
+pub read_reply_short : (root : Option (List ℕ)) (tree : Tree) (scope : Scope) (request : Request) → IsWithinLimits tree → FitsAResource (apply root tree scope request).reply
+read_reply_short root tree scope request limits = is_short (request_reply_length tree request) _ (limited tree request limits) (machine_reply root tree scope request)
 
 -- ---- the answer to a post
 

@@ -10,15 +10,16 @@ use Rattle.osc_model.specs.declared.step.Step.{Step}
 use Rattle.osc_coap.specs.Message.{Message}
 use Rattle.osc_authz.specs.{accepted, taking}
 use Rattle.osc_authz.specs.SecurityContext.{SecurityContext}
-use Rattle.osc_ccm.specs.{Sealings}
+use Rattle.osc_ccm.specs.{Sealings, Tags}
 use Rattle.osc_protect.specs.{SealedRequest}
 use Rattle.osc_run.specs.{opening_note, Replies as AppliesTo}
 use Rattle.osc_options.specs.{read_request}
 use Rattle.osc_message.specs.{datagram}
-use Rattle.osc_server.specs.Inner.Parts.{IsReplied, IsServedAs, Standing, noted_by}
+use Rattle.osc_server.specs.Inner.Parts.{IsReady, IsReplied, IsServedAs, IsTakenFor, Standing, noted_by}
 use Rattle.osc_server.specs.State.{State}
 use Rattle.osc_server.specs.{Met, IsOpened, Serves}
 use Rattle.osc_server.specs.declared.serving.Served.{Served}
+use Rattle.osc_server.specs.declared.serving.Taken.{Taken}
 
 -- what serves of this server
 abbrev pub standing : State → Standing
@@ -42,7 +43,7 @@ serves is_sealing old came request served tree step new is sent kept =
       opened = is.opened;
       reply = is.replied.reply;
       within = is.replied.within;
-      applied = subst (λ t. AppliesTo old.tree (apply_read old.tree is.held.scope (read_request is.text)) is.replied.reply t) same is.replied.applied;
+      applied = subst (λ t. AppliesTo old.tree (apply_read old.desk.rules.revoked old.tree is.held.scope (read_request is.text)) is.replied.reply t) same is.replied.applied;
       answer = is.replied.answer;
       protected = is.replied.protected;
       sent = record {
@@ -88,9 +89,12 @@ served_as is_sealing old came request held context taken number text served new 
     }
 
 -- what is noted of the opening, with the memory beside it
-pub opened_note : (is_sealing : Sealings) (server : Met) (came : Arrival Message) (request : SealedRequest) (note taken : Note)
-    → taken ≡ note
+pub ready : (is_sealing : Sealings) (tag : Tags) (server : Met) (came : Arrival Message) (request : SealedRequest) (note : Note) (taken : Taken)
+    → taken.note ≡ note → IsTakenFor tag server.tree taken
     → (held : SecurityContext) × IsOpened is_sealing server came request held note.plaintext × (note ≡ opening_note held.name request.number note.plaintext)
-    → (held : SecurityContext) × IsOpened is_sealing server came request held taken.plaintext × (taken ≡ opening_note held.name request.number taken.plaintext)
-opened_note is_sealing server came request note taken same opened =
+    → IsReady is_sealing tag server came request taken
+ready is_sealing tag server came request note taken same room opened =
+    let it : (held : SecurityContext) × IsOpened is_sealing server came request held taken.note.plaintext × (taken.note ≡ opening_note held.name request.number taken.note.plaintext) =
     subst (λ (n : Note). (held : SecurityContext) × IsOpened is_sealing server came request held n.plaintext × (n ≡ opening_note held.name request.number n.plaintext)) (sym same) opened
+    in
+    record { held = it.0; opened = it.1; noted = it.2; room = room }

@@ -53,7 +53,7 @@ pub record Laws (is_sealing : Sealings) : Type 0 where
   pub opens : (now : Moment) (kid : List ℕ) (kid_context : Option (List ℕ)) (table : List TokenEntry) (held : SecurityContext) (number : ℕ) (text : List ℕ) (reply : Reply) (tree after : Tree) (rules : ContextRules)
       → IsTable table → meant (record { at = now; tree = tree }) kid kid_context table ≡ Some held
       → number ≤ greatest_number → IsFresh held.window number
-      → IsWithinRanges reply → AppliesTo tree (apply_read tree held.scope (read_request text)) reply after
+      → IsWithinRanges reply → AppliesTo tree (apply_read rules.revoked tree held.scope (read_request text)) reply after
       → IsServed (record { contexts = of_tokens table; tree = tree; rules = rules }) now
       (record quiet {
         seals = Some (reply_note held.name number reply);

@@ -77,7 +77,7 @@ Refuses old came why step new = Sends old came (reply_to old.endpoint came (bare
 -- a GET on an open path is answered as the machine answers it under the open scope, or for lack of memory with 5.00
 pub record AnswersGet (old : State) (came : Arrival Message) (request : Request) (step : Step) (new : State) : Type 0 where
   pub reply : Reply
-  pub may : MayReply (apply old.tree old.open_scope request) reply
+  pub may : MayReply (apply old.desk.rules.revoked old.tree old.open_scope request) reply
   pub replies : AnswersWith old came reply step new
 
 -- ---- posts to authz-info
@@ -205,7 +205,7 @@ module _ (is_sealing : Sealings) where
     pub opened : IsOpened (met old) came request held text
     pub reply : Reply
     pub within : IsWithinRanges reply
-    pub applied : AppliesTo old.tree (apply_read old.tree held.scope (read_request text)) reply new.tree
+    pub applied : AppliesTo old.tree (apply_read old.desk.rules.revoked old.tree held.scope (read_request text)) reply new.tree
     pub answer : Message
     pub protected : IsProtectedResponse is_sealing held.name request.number None (reply_to old.endpoint came reply) answer
     pub sent : Sends (record old { tree = new.tree; desk = record old.desk { table = accepted request.kid request.number old.desk.table } })

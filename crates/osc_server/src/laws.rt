@@ -1,5 +1,5 @@
 //! Laws of the definitions, for the crates above. These functions do nothing: whoever calls one has its clauses for a proof.
-ghost use Rattle.std.specs.Prelude.{◌≡◌, ◌<◌, ◌≤◌, ℕ, List, length};
+ghost use Rattle.std.specs.Prelude.{◌≡◌, ◌<◌, ◌≤◌, ℕ, List, length, Option};
 ghost use Rattle.std.specs.Option.{ForSome};
 ghost use Rattle.osc_authz.specs.SecurityContext.{SecurityContext};
 ghost use Rattle.osc_coap.specs.Message.{Message};
@@ -20,8 +20,8 @@ use osc_protect::laws::one_request;
 
 /// What answers a protected request has at most 512 bytes of payload, and a reply that does has a plaintext of at most 526 bytes.
 pub fn lengths_of_replies()
-    ensures payload { (old new : Tree) (scope : Scope) (text : List ℕ) (reply : AnyReply) → IsWithinLimits old
-        → AppliesTo old (apply_read old scope (read_request text)) reply new → length reply.payload ≤ 512 }
+    ensures payload { (root : Option (List ℕ)) (old new : Tree) (scope : Scope) (text : List ℕ) (reply : AnyReply) → IsWithinLimits old
+        → AppliesTo old (apply_read root old scope (read_request text)) reply new → length reply.payload ≤ 512 }
     ensures text { (reply : AnyReply) → 0 < reply.code.0 → ForSome reply.etag (λ tag. length tag ≤ 8) → length reply.payload ≤ 512
         → length (reply_text reply) ≤ 526 }
 {

@@ -4,6 +4,7 @@
 
 mod answer;
 mod case;
+mod in_hand;
 pub mod laws;
 mod node;
 mod posting;

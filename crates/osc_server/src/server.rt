@@ -1,33 +1,38 @@
 //! The server.
-ghost use Rattle.std.specs.Prelude.{◌≡◌, ◌≤◌, ◌<◌, ℕ, List, [], ◌∷◌, length, false, true, IsOk, IfOk, None, OnErr, Some};
+ghost use Rattle.std.specs.Prelude.{◌≡◌, ◌≤◌, ◌<◌, ℕ, List, [], ◌∷◌, length, false, true, IsOk, IfOk, None, OnErr, Some, option_map};
 ghost use Rattle.std.specs.List.{All};
-ghost use Rattle.osc_authz.specs.{IsTable};
+ghost use Rattle.osc_authz.specs.{AreMarked, IsTable, KeepsPlace};
 ghost use Rattle.osc_coap.specs.{Spells, spelling};
 ghost use Rattle.osc_coap.specs.Message.{Message};
 ghost use Rattle.osc_message.specs.{fresh, AnswersAlone, heard as heard_as, Receives, FitsDatagram, datagram, is_confirmable as is_confirmable_of, rejection as rejection_of, acts};
 ghost use Rattle.osc_message.specs.declared.received.Received.{Received as AnyReceived};
 ghost use Rattle.osc_model.specs.{apply, MayReply, sends, quiet};
+ghost use Rattle.osc_model.specs.Tree.{Tree as AnyTree};
 ghost use Rattle.osc_model.specs.declared.node.Moment.{Moment as AnyMoment};
 ghost use Rattle.osc_run.specs.{ServerStep};
 ghost use Rattle.osc_server.specs.Case.{IsAnswered, IsNewAnswered, case_of as case_in};
 ghost use Rattle.osc_server.specs.Hearing.{Hears, Ticks};
-ghost use Rattle.osc_server.specs.Inner.Parts.{AsksGet, FitsAResource, HeardSendsTo, IsMessage, SendsTo, noted_by};
+ghost use Rattle.osc_server.specs.Inner.Parts.{AsksGet, DifferAt, FitsAResource, HeardSendsTo, IsMessage, SendsTo, may_change, noted_by};
 ghost use Rattle.osc_server.specs.State.{core};
 ghost use Rattle.osc_server.specs.Steps.{again};
 ghost use Rattle.osc_server.specs.Table.{Answers, AnswersNew, AnswersGet, AnswersPost, AnswersProtected, AnswersWith, Refuses, Sends, answered, refusal_code, refusal_number, refusal_to as refusal_to_of, refused_for as refused_for_of};
 
 use crate::Endpoint;
 use crate::answer::{refusal_to, reply_to, sent_as};
-use crate::case::{Case, case_of};
+use crate::case::{Case, GET, case_of};
+use crate::in_hand::InHand;
 use crate::posting::{POST_ANSWER, POST_PAYLOAD, notes_of, post_answer};
 use crate::refusal::{Refusal, refused_for};
-use crate::serving::{ProtectedRequest, Served, serve};
-use osc_authz::{Post, ServerDesk, Standing};
+use crate::serving::{ProtectedRequest, Served, prepared, serve_opened};
+use osc_authz::laws::marks_stay;
+use osc_authz::{Post, RevokedMarks, ServerDesk, Standing};
 use osc_ccm::Ciphers;
 use osc_coap::MessageBuilder;
 use osc_message::laws::{what_is_heard, what_nodes_send};
 use osc_message::{Arrival, Buffer, Handling, Heard, ReplyRoom, Ticked, rejection};
-use osc_model::{Bytes, Code, Datagrams, Draw, Moment, Peer, Reply, Request, Step, StepNotes};
+use osc_model::{
+    Bytes, Code, Datagrams, Draw, Moment, Path, Peer, Reply, Request, Step, StepNotes,
+};
 use osc_protect::{TokenCipher, read_request};
 use osc_run::kinds;
 use osc_scope::Scope;
@@ -36,12 +41,15 @@ use std::alloc::{AllocError, Global};
 use std::marker::Model;
 
 /// A server: its resources, the desk at authz-info with the security contexts, the scope of what needs no protection, of which
-/// GETs alone count, and its message layer.
+/// GETs alone count, and its message layer. Where its desk has a revocation path, it keeps 2 KB of memory in hand, so that there is room for
+/// a change below that path where there is no other.
 pub struct Server {
     tree: Tree,
     desk: ServerDesk,
     open_scope: Scope,
     endpoint: Endpoint,
+    marks: RevokedMarks,
+    in_hand: InHand,
 }
 
 impl Drop for Server {
@@ -51,6 +59,8 @@ impl Drop for Server {
             desk: _,
             open_scope: _,
             endpoint: _,
+            marks: _,
+            in_hand: _,
         } = self;
     }
 }
@@ -58,6 +68,7 @@ impl Drop for Server {
 impl Model for Server {
     ghost use Rattle.osc_server.specs.State.{State};
     ghost use Rattle.osc_server.specs.Inner.Parts.{IsQuiet};
+    ghost use Rattle.osc_authz.specs.{AreMarked};
     ghost use Rattle.std.specs.Coded.{codes};
     ghost use Rattle.osc_model.specs.{coded_scope, coded_tree};
 
@@ -67,7 +78,7 @@ impl Model for Server {
 
     ghost view = { λ s. record { tree = s.tree; desk = s.desk; open_scope = s.open_scope; endpoint = s.endpoint } };
 
-    ghost invariant = { λ s. IsQuiet s.endpoint };
+    ghost invariant = { λ s. IsQuiet s.endpoint × AreMarked s.tree s.desk.table s.marks };
 }
 
 impl Server {
@@ -82,11 +93,16 @@ impl Server {
         ensures { IfOk result (λ server. server ≡ record { tree = tree; desk = desk; open_scope = open_scope; endpoint = fresh }) }
     {
         let endpoint = Endpoint::new(alloc)?;
+        let marks = desk.marks(&tree);
+        let mut in_hand = InHand::nothing();
+        keep_in_hand(alloc, &desk, &mut in_hand);
         Ok(Server {
             tree,
             desk,
             open_scope,
             endpoint,
+            marks,
+            in_hand,
         })
     }
 
@@ -101,9 +117,25 @@ impl Server {
     pub fn desk(&self) -> &ServerDesk
         ensures desk { result.now ≡ self.now.desk }
         ensures table { IsTable self.now.desk.table }
+        ensures kept { KeepsPlace self.now.desk.rules.reserved self.now.desk.table }
     {
         self.desk.has_a_table();
+        self.desk.keeps_a_place();
         &self.desk
+    }
+
+    /// Gives back what the server keeps in hand, for a call that needs memory and found none: [`Server::take_in_hand`] takes it again.
+    pub fn give_back(&mut self)
+        ensures { self.new ≡ self.old }
+    {
+        self.in_hand.give_back();
+    }
+
+    /// Takes what the server keeps in hand, where it isn't there and can be had; each tick does.
+    pub fn take_in_hand(&mut self, alloc: Global)
+        ensures { self.new ≡ self.old }
+    {
+        keep_in_hand(alloc, &self.desk, &mut self.in_hand);
     }
 
     /// These bytes came from this peer at this moment as one datagram: the step that answers them. What is sent is at most
@@ -112,7 +144,8 @@ impl Server {
     /// first message ID of the server's own, and the nonce of a post.
     ///
     /// Without memory for it an `AllocError`; then nothing has changed. What the resources themselves lack of memory is answered,
-    /// by 5.00, to a GET on an open path and to a request that opened.
+    /// by 5.00, to a GET on an open path and to a request that opened. A change below the revocation path, at a server that has one, may use
+    /// the memory that is in hand; no other request does.
     pub fn on_datagram<A: Ciphers>(
         &mut self,
         alloc: Global,
@@ -244,11 +277,17 @@ impl Server {
     /// The reply to a GET on an open path; the server stays as it is.
     fn read(&mut self, alloc: Global, request: &Request) -> Reply
         requires { request.now.code.0 ≡ 1 }
-        ensures reply { MayReply (apply self.old.tree self.old.open_scope request.now) result }
+        ensures reply { MayReply (apply self.old.desk.rules.revoked self.old.tree self.old.open_scope request.now) result }
         ensures short { FitsAResource result }
         ensures same { self.new ≡ self.old }
     {
-        open_reply(alloc, &mut self.tree, &self.open_scope, request)
+        open_reply(
+            alloc,
+            self.desk.revoked(),
+            &mut self.tree,
+            &self.open_scope,
+            request,
+        )
     }
 
     /// Answers the request, which isn't served, with a reply of this code alone.
@@ -347,7 +386,7 @@ impl Server {
         };
         let Post { opened, answer } = self
             .desk
-            .post::<TokenCipher<A>>(alloc, &on, body, came.draw)?;
+            .post::<TokenCipher<A>>(alloc, &on, &mut self.marks, body, came.draw)?;
         let message = post_answer(alloc, payload, &self.endpoint, &came, answer);
         Ok(self.send(room, came, &message, notes_of(opened, answer)))
     }
@@ -367,15 +406,32 @@ impl Server {
         let Ok(says) = read_request(&came.message) else {
             return self.complain(alloc, came, Refusal::Malformed);
         };
+        marks_stay();
         let request = ProtectedRequest { came: &came, says };
-        match serve::<A>(
+        match prepared::<A>(
             alloc,
-            &mut self.desk,
-            &mut self.tree,
-            &self.endpoint,
+            &self.desk,
+            &self.tree,
+            &self.marks,
             &request,
+            &mut self.in_hand,
         ) {
-            Ok(Ok(Served { out, reply, notes })) => {
+            Ok(Ok(taken)) => {
+                let Served {
+                    out,
+                    reply,
+                    notes,
+                    asked,
+                } = serve_opened::<A>(
+                    alloc,
+                    &mut self.desk,
+                    &mut self.tree,
+                    &self.endpoint,
+                    &request,
+                    taken,
+                );
+                mark_changed(&self.desk, &mut self.marks, &self.tree, asked);
+                keep_in_hand(alloc, &self.desk, &mut self.in_hand);
                 self.note(came, reply);
                 Ok(Step { out, notes })
             }
@@ -403,12 +459,13 @@ impl Server {
     }
 
     /// Lets the notes of what was heard go whose lifetime has ended. Nothing that a server sends waits for an acknowledgement, so
-    /// nothing is sent, and no memory is taken.
+    /// nothing is sent, and no memory is taken but what is kept in hand, where it isn't there and can be had.
     pub fn on_tick(&mut self, alloc: Global, now: Moment) -> Step
         ensures ticked { Ticks self.old now result self.new }
         ensures kind { ServerStep (core self.old) now result.notes (core self.new) }
     {
         let Ticked { out, .. } = self.endpoint.on_tick(alloc, now);
+        keep_in_hand(alloc, &self.desk, &mut self.in_hand);
         Step::sending(out)
     }
 
@@ -429,8 +486,48 @@ impl Server {
         ensures kind { (now : AnyMoment) → ServerStep (core self.old) now quiet (core self.new) }
         ensures restarted { self.new ≡ again self.old }
     {
+        marks_stay();
         self.desk.clear();
         self.endpoint.clear();
+        self.marks = RevokedMarks::none();
+    }
+}
+
+/// Takes what a server with this desk keeps in hand, where it isn't there and can be had.
+fn keep_in_hand(alloc: Global, desk: &ServerDesk, in_hand: &mut InHand) {
+    if desk.revoked().is_some() {
+        in_hand.take(alloc);
+    }
+}
+
+/// Marks the contexts whose tokens are revoked by what such a request changed, and unmarks those that aren't any more.
+fn mark_changed(
+    desk: &ServerDesk,
+    marks: &mut RevokedMarks,
+    tree: &Tree,
+    asked: Result<Request, Code>,
+)
+    ensures { (before : AnyTree) → DifferAt (may_change asked) before tree.now → AreMarked before desk.now.table marks.old
+        → AreMarked tree.now desk.now.table marks.new }
+{
+    if let Some(path) = path_changed(&asked) {
+        desk.mark(marks, tree, path);
+    }
+}
+
+/// The path whose resource a request may change: none for a GET.
+fn path_changed(asked: &Result<Request, Code>) -> Option<&Path>
+    ensures { option_map (λ path. path.now) result ≡ may_change asked.now }
+{
+    match asked {
+        Ok(request) => {
+            if request.code.0 == GET {
+                None
+            } else {
+                request.path.as_ref()
+            }
+        }
+        Err(_) => None,
     }
 }
 
@@ -455,15 +552,21 @@ fn drawn(draw: &Draw)
 }
 
 /// The reply to a GET on an open path: 5.00 for lack of memory.
-fn open_reply(alloc: Global, tree: &mut Tree, open_scope: &Scope, request: &Request) -> Reply
+fn open_reply(
+    alloc: Global,
+    root: Option<&Path>,
+    tree: &mut Tree,
+    open_scope: &Scope,
+    request: &Request,
+) -> Reply
     requires { request.now.code.0 ≡ 1 }
-    ensures reply { MayReply (apply tree.old open_scope.now request.now) result }
+    ensures reply { MayReply (apply (option_map (λ path. path.now) root.entry) tree.old open_scope.now request.now) result }
     ensures short { FitsAResource result }
     ensures same { tree.new ≡ tree.old }
 {
     // For the proof alone: the call tells that what the tree has fits a datagram.
     let _count = tree.len();
-    match tree.apply(alloc, open_scope, request) {
+    match tree.apply(alloc, root, open_scope, request) {
         Ok(reply) => reply,
         Err(_) => Reply::bare(alloc, Code::INTERNAL_SERVER_ERROR),
     }

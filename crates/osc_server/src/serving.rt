@@ -1,9 +1,9 @@
 //! Protected requests (RFC 8613 sections 8.2 and 8.3): a request is opened without memory until it is known to be genuine, then all
 //! memory is taken before the number is accepted, and nothing fails from there but what is answered by 5.00.
-ghost use Rattle.std.specs.Prelude.{◌≡◌, ◌<◌, ◌≤◌, ◌+◌, ℕ, List, length, Some, None, IfOk, IfErr, IfSome, IfNone, OnErr, OnOk};
+ghost use Rattle.std.specs.Prelude.{◌≡◌, ◌<◌, ◌≤◌, ◌+◌, ℕ, List, length, Some, None, IfOk, IfErr, IfSome, IfNone, OnErr, OnOk, option_map};
 ghost use Rattle.osc_coap.specs.Message.{Message as AnyMessage};
 ghost use Rattle.osc_authz.specs.SecurityContext.{SecurityContext};
-ghost use Rattle.osc_authz.specs.{accepted};
+ghost use Rattle.osc_authz.specs.{AreMarked, accepted};
 ghost use Rattle.osc_context.specs.{algorithm_of, accepted_of};
 ghost use Rattle.osc_model.specs.declared.context.Side.TheVariants.{Server};
 ghost use Rattle.osc_model.specs.{apply_read};
@@ -11,16 +11,17 @@ ghost use Rattle.osc_protect.specs.{aad_of, IsFor, IsRequest, IsProtectedRespons
 ghost use Rattle.osc_run.specs.{opening_note, reply_note, Replies as AppliesTo};
 ghost use Rattle.osc_options.specs.{read_request, IsWithinRanges};
 ghost use Rattle.osc_model.specs.Tree.{Tree as AnyTree};
-ghost use Rattle.osc_server.specs.Inner.Parts.{FitsAResource, IsReplyOf, IsSentAs, IsServedAs, IsTakenFor, message_beside_sealed, reply_length, read_length as read_length_of, text_beside_payload};
+ghost use Rattle.osc_server.specs.Inner.Parts.{DifferAt, FitsAResource, IsReady, IsReplyOf, IsSentAs, IsServedAs, IsTakenFor, may_change, message_beside_sealed, reply_length, read_length as read_length_of, text_beside_payload};
 ghost use Rattle.osc_server.specs.Table.{context_for, IsMeant, IsOpened, IsRefused, IsSealed, notes_of_request, reply_to as reply_to_of};
 ghost use Rattle.osc_window.specs.{IsFresh};
 
 use crate::Endpoint;
 use crate::answer::header_to;
 use crate::case::GET;
+use crate::in_hand::InHand;
 use crate::refusal::Refusal;
-use osc_authz::laws::meant_contexts;
-use osc_authz::{ServerContext, ServerDesk, Standing};
+use osc_authz::laws::{meant_contexts, one_path_changed};
+use osc_authz::{RevokedMarks, ServerContext, ServerDesk, Standing};
 use osc_ccm::Ciphers;
 use osc_coap::laws::{length_of_plaintext, length_of_spelling};
 use osc_context::AcceptedNumber;
@@ -31,7 +32,7 @@ use osc_model::{
 use osc_options::request_in;
 use osc_protect::{Room, SealedReply, SealedRequestRef, open_request, seal_reply};
 use osc_run::kinds;
-use osc_scope::Scope;
+use osc_scope::{Scope, Verdict};
 use osc_tree::Tree;
 use std::alloc::{AllocError, Global};
 
@@ -44,6 +45,8 @@ pub struct Served {
     pub reply: Bytes,
     /// What is noted of the step.
     pub notes: StepNotes,
+    /// What was asked, or the code that answered the text.
+    pub asked: Result<Request, Code>,
 }
 
 /// The most bytes of a reply's plaintext beside its payload: a code, an ETag, a Content-Format, and the payload marker.
@@ -65,30 +68,34 @@ pub struct ProtectedRequest<'a> {
 fn meant_context<'a>(
     desk: &'a ServerDesk,
     tree: &Tree,
+    marks: &RevokedMarks,
     request: &ProtectedRequest<'_>,
 ) -> Option<&'a ServerContext>
-    requires { IsRequest request.now.came.now.what request.now.says }
+    requires says { IsRequest request.now.came.now.what request.now.says }
+    requires marked { AreMarked tree.now desk.now.table marks.now }
     ensures some { IfSome result (λ context. IsMeant (record { tree = tree.now; table = desk.now.table }) request.now.came.now request.now.says context.now) }
     ensures none { IfNone result (context_for (record { tree = tree.now; table = desk.now.table }) request.now.came.now request.now.says ≡ None) }
 {
     let came = request.came;
     let says = &request.says;
     let on = Standing { at: came.at, tree };
-    desk.find(&on, says.kid(), says.kid_context())
+    desk.find(&on, marks, says.kid(), says.kid_context())
 }
 
 /// The same, where the request's number is fresh.
 fn fresh_context<'a, A: Ciphers>(
     desk: &'a ServerDesk,
     tree: &Tree,
+    marks: &RevokedMarks,
     request: &ProtectedRequest<'_>,
 ) -> Result<&'a ServerContext, Refusal>
-    requires { IsRequest request.now.came.now.what request.now.says }
+    requires says { IsRequest request.now.came.now.what request.now.says }
+    requires marked { AreMarked tree.now desk.now.table marks.now }
     ensures meant { IfOk result (λ context. IsMeant (record { tree = tree.now; table = desk.now.table }) request.now.came.now request.now.says context.now) }
     ensures fresh { IfOk result (λ context. IsFresh context.now.window request.now.says.number) }
     ensures refused { IfErr result (λ refusal. IsRefused A.is_sealing (record { tree = tree.now; table = desk.now.table }) request.now.came.now refusal) }
 {
-    let Some(context) = meant_context(desk, tree, request) else {
+    let Some(context) = meant_context(desk, tree, marks, request) else {
         return Err(Refusal::NoContext);
     };
     if !context.recipient().is_fresh(request.says.number()) {
@@ -123,14 +130,20 @@ fn read_length(tree: &Tree, path: &Path) -> usize
 }
 
 /// What an opened request does to the tree, and its reply: 5.00 for lack of memory.
-fn applied(alloc: Global, tree: &mut Tree, scope: &Scope, read: &Result<Request, Code>) -> Reply
+fn applied(
+    alloc: Global,
+    root: Option<&Path>,
+    tree: &mut Tree,
+    scope: &Scope,
+    read: &Result<Request, Code>,
+) -> Reply
     requires { IfErr read.now (λ code. 0 < code.0) }
-    ensures applied { AppliesTo tree.old (apply_read tree.old scope.now read.now) result tree.new }
+    ensures applied { AppliesTo tree.old (apply_read (option_map (λ path. path.now) root.entry) tree.old scope.now read.now) result tree.new }
     ensures short { IsReplyOf (reply_length tree.old read.now) result }
     ensures within { IsWithinRanges result }
 {
     match read {
-        Ok(request) => match tree.apply(alloc, scope, request) {
+        Ok(request) => match tree.apply(alloc, root, scope, request) {
             Ok(reply) => reply,
             Err(_) => Reply::bare(alloc, Code::INTERNAL_SERVER_ERROR),
         },
@@ -149,7 +162,7 @@ struct AnswerRoom {
 
 /// What an opened request asks, and the memory of all that follows, taken before anything changes.
 #[derive(Drop)]
-struct Taken {
+pub struct Taken {
     /// The note of the opening.
     note: Note,
     /// The request, or the code that answers the text.
@@ -200,6 +213,9 @@ fn sent<A: Ciphers>(
     (copy.fill(came.from, datagram), note)
 }
 
+/// A protected request that opened, with the memory of all that follows, or why it isn't served; or that memory was refused.
+pub type Prepared = Result<Result<Taken, Refusal>, AllocError>;
+
 impl Taken {
     /// Reads what was opened, and takes the memory of all that follows.
     #[inline(never)]
@@ -242,10 +258,11 @@ impl Taken {
             (reply_to_of endpoint.now came.now reply) answer
             × IsSentAs came.now.from answer result.out result.reply }
         ensures noted { result.notes ≡ notes_of_request came.now.at context.now number.number self.note.plaintext reply }
+        ensures asked { result.asked ≡ self.read }
     {
         let Taken {
             note,
-            read: _,
+            read,
             context: name,
             plaintext,
             room,
@@ -263,13 +280,14 @@ impl Taken {
             out,
             reply: bytes,
             notes: StepNotes::of_request(sealed, note, entry),
+            asked: read,
         }
     }
 }
 
 /// Accepts the number of a request that was opened, and serves the request; takes no memory but the tree's.
 #[inline(never)]
-fn serve_opened<A: Ciphers>(
+pub fn serve_opened<A: Ciphers>(
     alloc: Global,
     desk: &mut ServerDesk,
     tree: &mut Tree,
@@ -277,16 +295,16 @@ fn serve_opened<A: Ciphers>(
     request: &ProtectedRequest<'_>,
     taken: Taken,
 ) -> Served
-    requires opened { (held : SecurityContext) × IsOpened A.is_sealing (record { tree = tree.old; table = desk.old.table }) request.now.came.now request.now.says held taken.note.plaintext
-        × (taken.note ≡ opening_note held.name request.now.says.number taken.note.plaintext) }
-    requires taken { IsTakenFor A.TAG tree.old taken }
+    requires { IsReady A.is_sealing A.TAG (record { tree = tree.old; table = desk.old.table }) request.now.came.now request.now.says taken }
     ensures served { IsServedAs A.is_sealing (record { tree = tree.old; desk = desk.old; endpoint = endpoint.now }) request.now.came.now request.now.says result tree.new }
     ensures accepted { desk.new ≡ record desk.old { table = accepted request.now.says.kid request.now.says.number desk.old.table } }
+    ensures changed { DifferAt (may_change result.asked) tree.old tree.new }
 {
+    one_path_changed();
     let says = &request.says;
     let (number, place) = desk.accept(says.kid(), says.number());
     let context = desk.confirmed_at(place).unwrap();
-    let reply = applied(alloc, tree, context.scope(), &taken.read);
+    let reply = applied(alloc, desk.revoked(), tree, context.scope(), &taken.read);
     taken.answered::<A>(context, number, endpoint, request.came, reply)
 }
 
@@ -311,16 +329,18 @@ fn opened<A: Ciphers>(
     alloc: Global,
     desk: &ServerDesk,
     tree: &Tree,
+    marks: &RevokedMarks,
     request: &ProtectedRequest<'_>,
 ) -> Result<Result<Note, Refusal>, AllocError>
-    requires { IsRequest request.now.came.now.what request.now.says }
+    requires says { IsRequest request.now.came.now.what request.now.says }
+    requires marked { AreMarked tree.now desk.now.table marks.now }
     ensures opened { IfOk result (λ outcome. IfOk outcome (λ note. (held : SecurityContext)
         × IsOpened A.is_sealing (record { tree = tree.now; table = desk.now.table }) request.now.came.now request.now.says held note.plaintext
         × (note ≡ opening_note held.name request.now.says.number note.plaintext))) }
     ensures refused { IfOk result (λ outcome. IfErr outcome (λ refusal. IsRefused A.is_sealing (record { tree = tree.now; table = desk.now.table }) request.now.came.now refusal)) }
 {
     meant_contexts();
-    let context = match fresh_context::<A>(desk, tree, request) {
+    let context = match fresh_context::<A>(desk, tree, marks, request) {
         Ok(context) => context,
         Err(refusal) => return Ok(Err(refusal)),
     };
@@ -330,29 +350,117 @@ fn opened<A: Ciphers>(
     }
 }
 
-/// Serves a protected request, as far as the contexts, the tree and the reply go, or says why it isn't served. Without memory all
-/// is as before, as it is where the request isn't served.
-pub fn serve<A: Ciphers>(
+/// Opens a protected request, and takes the memory of all that follows, or says why it isn't served.
+fn taken_for<A: Ciphers>(
     alloc: Global,
-    desk: &mut ServerDesk,
-    tree: &mut Tree,
-    endpoint: &Endpoint,
+    desk: &ServerDesk,
+    tree: &Tree,
+    marks: &RevokedMarks,
     request: &ProtectedRequest<'_>,
-) -> Result<Result<Served, Refusal>, AllocError>
-    requires { IsRequest request.now.came.now.what request.now.says }
-    ensures served { IfOk result (λ outcome. IfOk outcome (λ served.
-        IsServedAs A.is_sealing (record { tree = tree.old; desk = desk.old; endpoint = endpoint.now }) request.now.came.now request.now.says served tree.new)) }
-    ensures accepted { IfOk result (λ outcome. OnOk outcome
-        (desk.new ≡ record desk.old { table = accepted request.now.says.kid request.now.says.number desk.old.table })) }
-    ensures refused { IfOk result (λ outcome. IfErr outcome (λ refusal. IsRefused A.is_sealing (record { tree = tree.old; table = desk.old.table }) request.now.came.now refusal)) }
-    ensures same { IfOk result (λ outcome. OnErr outcome ((desk.new ≡ desk.old) × (tree.new ≡ tree.old))) }
-    ensures err { OnErr result ((desk.new ≡ desk.old) × (tree.new ≡ tree.old)) }
+) -> Prepared
+    requires says { IsRequest request.now.came.now.what request.now.says }
+    requires marked { AreMarked tree.now desk.now.table marks.now }
+    ensures ready { IfOk result (λ outcome. IfOk outcome (IsReady A.is_sealing A.TAG (record { tree = tree.now; table = desk.now.table }) request.now.came.now request.now.says)) }
+    ensures refused { IfOk result (λ outcome. IfErr outcome (IsRefused A.is_sealing (record { tree = tree.now; table = desk.now.table }) request.now.came.now)) }
 {
-    match opened::<A>(alloc, desk, tree, request)? {
+    match opened::<A>(alloc, desk, tree, marks, request)? {
         Ok(note) => {
             let taken = Taken::new::<A>(alloc, tree, note)?;
-            Ok(Ok(serve_opened::<A>(alloc, desk, tree, endpoint, request, taken)))
+            Ok(Ok(taken))
         }
         Err(refusal) => Ok(Err(refusal)),
+    }
+}
+
+/// The same. What is in hand is given back for a request that may change what is below the revocation path, and for no other: where memory
+/// is refused it is taken again at once, unless the request is found to be such a one with its help.
+#[inline(never)]
+pub fn prepared<A: Ciphers>(
+    alloc: Global,
+    desk: &ServerDesk,
+    tree: &Tree,
+    marks: &RevokedMarks,
+    request: &ProtectedRequest<'_>,
+    in_hand: &mut InHand,
+) -> Prepared
+    requires says { IsRequest request.now.came.now.what request.now.says }
+    requires marked { AreMarked tree.now desk.now.table marks.now }
+    ensures ready { IfOk result (λ outcome. IfOk outcome (IsReady A.is_sealing A.TAG (record { tree = tree.now; table = desk.now.table }) request.now.came.now request.now.says)) }
+    ensures refused { IfOk result (λ outcome. IfErr outcome (IsRefused A.is_sealing (record { tree = tree.now; table = desk.now.table }) request.now.came.now)) }
+{
+    let prepared = taken_for::<A>(alloc, desk, tree, marks, request);
+    if may_revoke(desk, tree, marks, request, &prepared) {
+        in_hand.give_back();
+    } else if prepared.is_err() && in_hand.give_back() {
+        return prepared_in_hand::<A>(alloc, desk, tree, marks, request, in_hand);
+    }
+    prepared
+}
+
+/// The same, where what was in hand has been given back: without memory still, and for a request that isn't such a one, an `AllocError`.
+fn prepared_in_hand<A: Ciphers>(
+    alloc: Global,
+    desk: &ServerDesk,
+    tree: &Tree,
+    marks: &RevokedMarks,
+    request: &ProtectedRequest<'_>,
+    in_hand: &mut InHand,
+) -> Prepared
+    requires says { IsRequest request.now.came.now.what request.now.says }
+    requires marked { AreMarked tree.now desk.now.table marks.now }
+    ensures ready { IfOk result (λ outcome. IfOk outcome (IsReady A.is_sealing A.TAG (record { tree = tree.now; table = desk.now.table }) request.now.came.now request.now.says)) }
+    ensures refused { IfOk result (λ outcome. IfErr outcome (IsRefused A.is_sealing (record { tree = tree.now; table = desk.now.table }) request.now.came.now)) }
+{
+    let prepared = taken_for::<A>(alloc, desk, tree, marks, request);
+    if may_revoke(desk, tree, marks, request, &prepared) {
+        return prepared;
+    }
+    drop(prepared);
+    in_hand.take(alloc);
+    Err(AllocError)
+}
+
+/// Whether a request opened that may change what is at the revocation path or below: it names a path there, and is a change that its context's
+/// scope grants.
+fn may_revoke(
+    desk: &ServerDesk,
+    tree: &Tree,
+    marks: &RevokedMarks,
+    request: &ProtectedRequest<'_>,
+    prepared: &Prepared,
+) -> bool
+    requires says { IsRequest request.now.came.now.what request.now.says }
+    requires marked { AreMarked tree.now desk.now.table marks.now }
+{
+    let Some(root) = desk.revoked() else {
+        return false;
+    };
+    let Some(asked) = asked_in(prepared) else {
+        return false;
+    };
+    if !is_change_below(root, asked) {
+        return false;
+    }
+    match meant_context(desk, tree, marks, request) {
+        Some(context) => {
+            context.scope().verdict(asked.path.as_ref(), asked.code) == Verdict::Granted
+        }
+        None => false,
+    }
+}
+
+/// What is asked, where a request opened and its text is one.
+fn asked_in(prepared: &Prepared) -> Option<&Request> {
+    match prepared {
+        Ok(Ok(taken)) => taken.read.as_ref().ok(),
+        _ => None,
+    }
+}
+
+/// Whether the request asks for a change of what is at this path or below it.
+fn is_change_below(root: &Path, asked: &Request) -> bool {
+    match &asked.path {
+        Some(path) => asked.code.0 != GET && path.begins_with(root),
+        None => false,
     }
 }

@@ -7,6 +7,8 @@ mod client;
 #[cfg(test)]
 mod protected;
 #[cfg(test)]
+mod revoking;
+#[cfg(test)]
 mod server;
 #[cfg(test)]
 mod tokens;

@@ -64,7 +64,7 @@ fn answer(
     scope: &Scope,
     asked: Asked,
 ) -> Result<Answer, AllocError> {
-    let reply = tree.apply(alloc, scope, &request(alloc, asked)?)?;
+    let reply = tree.apply(alloc, None, scope, &request(alloc, asked)?)?;
     Ok((reply.code, reply.payload.len(), reply.format))
 }
 
@@ -188,7 +188,7 @@ fn tag_answered(alloc: Global) -> Result<Option<[u8; 8]>, AllocError> {
     let scope = scope_of(alloc, EVERY_METHOD)?;
     let mut tree = small_tree(alloc, &scope)?;
     let get = request(alloc, (GET, b'e', 0, With::Nothing))?;
-    Ok(tree.apply(alloc, &scope, &get)?.etag)
+    Ok(tree.apply(alloc, None, &scope, &get)?.etag)
 }
 
 #[test]
@@ -234,7 +234,7 @@ fn a_tag_follows_its_resource(rt: HostRuntime) -> Result<(), Fail> {
     let scope = scope_of(alloc, EVERY_METHOD)?;
     let mut tree = small_tree(alloc, &scope)?;
     for &(asked, code, tag) in &TAGS_IN_A_ROW {
-        let reply = tree.apply(alloc, &scope, &request(alloc, asked)?)?;
+        let reply = tree.apply(alloc, None, &scope, &request(alloc, asked)?)?;
         assert!(rt; reply.code == code);
         assert_eq!(rt; reply.etag, tag);
     }
@@ -260,7 +260,7 @@ fn put_numbered(alloc: Global, tree: &mut Tree, number: u16) -> Result<Code, All
     }
     let mut put = request(alloc, (PUT, b'e', 1, With::Nothing))?;
     put.path = numbered(alloc, number)?;
-    Ok(tree.apply(alloc, &scope, &put)?.code)
+    Ok(tree.apply(alloc, None, &scope, &put)?.code)
 }
 
 #[test]

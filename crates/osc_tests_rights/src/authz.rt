@@ -1,7 +1,8 @@
 //! Exchanges, and what the desk refuses.
+
 use osc_authz::{
     ClientContext, ClientDesk, ContextRules, DeskParts, GrantError, Post, PostAnswer, PostError,
-    PostReply, ServerDesk, Standing,
+    PostReply, RevokedMarks, ServerContext, ServerDesk, Standing, laws,
 };
 use osc_cbor::{Item, write};
 use osc_ccm::Ccm;
@@ -151,31 +152,53 @@ fn posted_with(
     body: &[u8],
     last: u8,
 ) -> Result<Outcome, AllocError> {
-    let now = Moment::new(at).unwrap_or(Moment::START);
-    let tree = Tree::new(alloc);
-    let on = Standing {
-        at: now,
-        tree: &tree,
-    };
-    let post = desk.post::<Ccm<8>>(alloc, &on, body, &drawn(last))?;
+    let post = post_at(desk, alloc, at, body, last)?;
     let outcome = outcome_of(&post);
     drop(post);
-    drop(on);
-    drop(tree);
     Ok(outcome)
 }
 
-/// Whether a live context has this recipient ID.
-fn is_found(desk: &ServerDesk, alloc: Global, at: u64, id: u8) -> bool {
+/// What is posted at this moment, where no token is revoked, with a draw whose nonce ends in this byte.
+fn post_at(
+    desk: &mut ServerDesk,
+    alloc: Global,
+    at: u64,
+    body: &[u8],
+    last: u8,
+) -> Result<Post, AllocError> {
+    laws::marks_stay();
     let tree = Tree::new(alloc);
+    let mut marks = RevokedMarks::none();
     let on = Standing {
         at: Moment::new(at).unwrap_or(Moment::START),
         tree: &tree,
     };
-    let is_found = desk.find(&on, &[id], None).is_some();
+    let post = desk.post::<Ccm<8>>(alloc, &on, &mut marks, body, &drawn(last));
     drop(on);
+    drop(marks);
     drop(tree);
-    is_found
+    post
+}
+
+/// The live context that has this recipient ID at this moment, where no token is revoked.
+fn found_at<'a>(desk: &'a ServerDesk, alloc: Global, at: u64, id: u8) -> Option<&'a ServerContext> {
+    laws::marks_stay();
+    let tree = Tree::new(alloc);
+    let marks = RevokedMarks::none();
+    let on = Standing {
+        at: Moment::new(at).unwrap_or(Moment::START),
+        tree: &tree,
+    };
+    let found = desk.find(&on, &marks, &[id], None);
+    drop(on);
+    drop(marks);
+    drop(tree);
+    found
+}
+
+/// Whether a live context has this recipient ID.
+fn is_found(desk: &ServerDesk, alloc: Global, at: u64, id: u8) -> bool {
+    found_at(desk, alloc, at, id).is_some()
 }
 
 /// A post of the token of id 1, with a nonce that ends in 1 and the ID 00. The token was sealed by another implementation.
@@ -195,16 +218,7 @@ fn reply_at(
     desk: &mut ServerDesk,
     last: u8,
 ) -> (Result<PostReply, PostError>, bool) {
-    let tree = Tree::new(alloc);
-    let on = Standing {
-        at: Moment::START,
-        tree: &tree,
-    };
-    let post = desk
-        .post::<Ccm<8>>(alloc, &on, POST, &drawn(last))
-        .expect(rt, "memory");
-    drop(on);
-    drop(tree);
+    let post = post_at(desk, alloc, 0, POST, last).expect(rt, "memory");
     let came = (post.answer, post.opened.is_some());
     drop(post);
     came
@@ -248,15 +262,8 @@ fn both_ends_have_one_name(rt: HostRuntime) {
     let made = made_of(&rt, rt.alloc(), answer);
     assert!(rt; is_exchanged(made.name()));
     drop(made);
-    let tree = Tree::new(rt.alloc());
-    let on = Standing {
-        at: Moment::START,
-        tree: &tree,
-    };
-    let held = desk.find(&on, &[1], None).expect(&rt, "a context");
+    let held = found_at(&desk, rt.alloc(), 0, 1).expect(&rt, "a context");
     assert!(rt; is_exchanged(held.name()));
-    drop(on);
-    drop(tree);
     drop(desk);
 }
 
@@ -335,18 +342,10 @@ const STEPS: [(Event, u8, [Option<u8>; 3]); 6] = [
 
 /// The last byte of the salt of the live context with this recipient ID.
 fn salt_end(desk: &ServerDesk, alloc: Global, id: u8) -> Option<u8> {
-    let tree = Tree::new(alloc);
-    let on = Standing {
-        at: Moment::START,
-        tree: &tree,
-    };
-    let last = match desk.find(&on, &[id], None) {
+    match found_at(desk, alloc, 0, id) {
         Some(context) => context.name().salt.as_slice().last().copied(),
         None => None,
-    };
-    drop(on);
-    drop(tree);
-    last
+    }
 }
 
 /// Takes each step, and sees what it makes.
@@ -411,16 +410,19 @@ fn fill(rt: &impl Abort, alloc: Global, desk: &mut ServerDesk) {
     }
 }
 
-/// Posts to the full desk: the token id, when it expires, the moment, and what the post comes to.
-const FURTHER: [(u8, Option<u64>, u64, Result<u8, u8>); 3] = [
+/// A post: the token id, when it expires, the moment, and what it comes to.
+type Further = (u8, Option<u64>, u64, Result<u8, u8>);
+
+/// Posts to the full desk.
+const FURTHER: [Further; 3] = [
     (65, None, 99_999, Err(31)),
     (64, Some(100), 99_999, Ok(64)),
     (65, None, 100_000, Ok(1)),
 ];
 
-/// Posts the further tokens to the full desk.
-fn post_further(rt: &impl Abort, alloc: Global, desk: &mut ServerDesk) {
-    for &(id, expires, at, answer) in &FURTHER {
+/// Posts each of these tokens.
+fn post_each(rt: &impl Abort, alloc: Global, desk: &mut ServerDesk, posts: &[Further]) {
+    for &(id, expires, at, answer) in posts {
         let body = post_of(rt, alloc, id, until(expires));
         let outcome = posted(desk, alloc, at, &body).expect(rt, "memory");
         assert!(rt; outcome == (answer, true));
@@ -436,7 +438,7 @@ fn sixty_four_tokens_have_contexts(rt: HostRuntime) {
             is_found(&desk, rt.alloc(), 99_999, id) && !is_found(&desk, rt.alloc(), 100_000, id)
         );
     }
-    post_further(&rt, rt.alloc(), &mut desk);
+    post_each(&rt, rt.alloc(), &mut desk, &FURTHER);
     drop(desk);
 }
 
@@ -597,17 +599,24 @@ fn a_refused_allocation_leaves_the_desk(rt: HostRuntime) {
     assert!(rt; is_found(&desk, rt.alloc(), 0, 1));
 }
 
-/// A desk with these rules.
+/// A desk whose contexts count so many seconds, and which remembers so many posts.
 fn desk_with(
     alloc: Global,
     seconds: Option<u32>,
     remembered: u8,
 ) -> Result<ServerDesk, AllocError> {
-    let rules = ContextRules {
-        revoked: None,
-        seconds,
-        remembered,
-    };
+    ruled_by(
+        alloc,
+        ContextRules {
+            seconds,
+            remembered,
+            ..ContextRules::none()
+        },
+    )
+}
+
+/// A desk with these rules.
+fn ruled_by(alloc: Global, rules: ContextRules) -> Result<ServerDesk, AllocError> {
     let parts = DeskParts {
         key: KEY,
         old_key: None,
@@ -701,4 +710,63 @@ fn contexts_get_too_old(rt: HostRuntime) {
     assert!(&rt; known == (Ok(1), true));
     assert!(&rt; gone == (Err(23), true));
     assert!(&rt; anew == (Ok(1), true));
+}
+
+/// Posts to a desk that keeps a place for token 65, where 63 others have a context. The 64th other id finds no room, and the reserved one does; its context dies, and the others still have 63 places.
+const BESIDE_THE_RESERVED: [Further; 5] = [
+    (64, None, 0, Err(31)),
+    (65, Some(50), 0, Ok(64)),
+    (64, None, 0, Err(31)),
+    (64, None, 50_000, Err(31)),
+    (65, None, 50_000, Ok(64)),
+];
+
+#[test]
+fn a_place_is_kept(rt: HostRuntime) {
+    let rules = ContextRules {
+        reserved: Some(Bytes::from_slice(rt.alloc(), &[65]).expect(&rt, "memory")),
+        ..ContextRules::none()
+    };
+    let mut desk = ruled_by(rt.alloc(), rules).expect(&rt, "memory");
+    for id in 1..64u8 {
+        let body = post_of(&rt, rt.alloc(), id, until(Some(100)));
+        let outcome = posted(&mut desk, rt.alloc(), 0, &body).expect(&rt, "memory");
+        assert!(rt; outcome == (Ok(id), true));
+    }
+    post_each(&rt, rt.alloc(), &mut desk, &BESIDE_THE_RESERVED);
+    drop(desk);
+}
+
+/// Scopes: GET on `/log` and below; GET on `/log`, POST on `/t` and below; GET and POST on `/log`.
+const SUBTREES: [(&[u8], Result<u8, u8>, Result<u8, u8>); 3] = [
+    (b"\x81\x82\x64/log\x11", Err(24), Ok(1)),
+    (b"\x82\x82\x64/log\x01\x82\x62/t\x12", Err(24), Ok(1)),
+    (SCOPE, Ok(1), Ok(1)),
+];
+
+/// What a post of a token of this scope comes to at a desk that takes subtrees, or takes none.
+fn posted_scope(
+    rt: &impl Abort,
+    alloc: Global,
+    scope: &'static [u8],
+    subtrees: bool,
+) -> Result<u8, u8> {
+    let rules = ContextRules {
+        subtrees,
+        ..ContextRules::none()
+    };
+    let mut desk = ruled_by(alloc, rules).expect(rt, "memory");
+    let body = post_of(rt, alloc, 1, Said { scope, ..RIGHT });
+    let (answer, is_opened) = posted(&mut desk, alloc, 0, &body).expect(rt, "memory");
+    drop(desk);
+    assert!(rt; is_opened);
+    answer
+}
+
+#[test]
+fn scopes_that_reach_below(rt: HostRuntime) {
+    for &(scope, without, with) in &SUBTREES {
+        assert!(rt; posted_scope(&rt, rt.alloc(), scope, false) == without);
+        assert!(rt; posted_scope(&rt, rt.alloc(), scope, true) == with);
+    }
 }

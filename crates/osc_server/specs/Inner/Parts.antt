@@ -17,7 +17,7 @@ use Rattle.osc_model.specs.declared.reply.Reply.{Reply}
 use Rattle.osc_model.specs.declared.request.Request.{Request}
 use Rattle.osc_model.specs.declared.step.Datagram.{Datagram}
 use Rattle.osc_context.specs.{algorithm_of}
-use Rattle.osc_authz.specs.{DeskState}
+use Rattle.osc_authz.specs.{DeskState, IsSameBut}
 use Rattle.osc_authz.specs.SecurityContext.{SecurityContext}
 use Rattle.osc_message.specs.{EndpointState, settled, AreSendable, FitsDatagram, datagram, replied}
 use Rattle.osc_message.specs.declared.handling.Handling.TheVariants.{Answered}
@@ -25,9 +25,9 @@ use Rattle.osc_message.specs.declared.heard.Heard.{Heard}
 use Rattle.osc_message.specs.declared.heard.Heard.TheVariants as heard
 use Rattle.osc_ccm.specs.{Sealings, Tags}
 use Rattle.osc_protect.specs.{SealedRequest, IsProtectedResponse}
-use Rattle.osc_run.specs.{Replies as AppliesTo}
+use Rattle.osc_run.specs.{opening_note, Replies as AppliesTo}
 use Rattle.osc_options.specs.{read_request, IsWithinRanges}
-use Rattle.osc_server.specs.Table.{IsOpened, notes_of_request, reply_to}
+use Rattle.osc_server.specs.Table.{IsOpened, Met, notes_of_request, reply_to}
 use Rattle.osc_server.specs.declared.case.Case.{Case}
 use Rattle.osc_server.specs.declared.case.Case.TheVariants.{OpenGet}
 use Rattle.osc_server.specs.declared.serving.Served.{Served}
@@ -77,6 +77,23 @@ pub record IsTakenFor (tag : Tags) (tree : Tree) (taken : Taken) : Type 0 where
   pub seal : taken.room.seal ≡ record { name = taken.note.context; number = taken.note.number; most = text_beside_payload + reply_length tree taken.read }
   pub datagram : taken.room.datagram ≡ message_beside_sealed + text_beside_payload + reply_length tree taken.read + tag (algorithm_of taken.note.context)
   pub limit : reply_length tree taken.read ≤ longest_payload
+
+-- a protected request that opened, with what was taken of it: under a context that it means, at a fresh number
+pub record IsReady (is_sealing : Sealings) (tag : Tags) (server : Met) (came : Arrival Message) (request : SealedRequest) (taken : Taken) : Type 0 where
+  pub held : SecurityContext
+  pub opened : IsOpened is_sealing server came request held taken.note.plaintext
+  pub noted : taken.note ≡ opening_note held.name request.number taken.note.plaintext
+  pub room : IsTakenFor tag server.tree taken
+
+-- the path whose resource a request may change
+abbrev pub may_change : Result Request Code → Option (List ℕ)
+may_change (Err code) = None
+may_change (Ok request) = if request.code.0 == method_number Get then None else request.path
+
+-- two trees differ at this path at most, where there is one
+abbrev pub DifferAt : Option (List ℕ) → Tree → Tree → Type 0
+DifferAt None before after = after ≡ before
+DifferAt (Some path) before after = IsSameBut before after path
 
 -- these bytes are a message
 abbrev pub IsMessage : Bytes → Type 0
@@ -137,7 +154,7 @@ pub record Opened : Type 0 where
 pub record IsReplied (is_sealing : Sealings) (old : Standing) (came : Arrival Message) (opened : Opened) (served : Served) (new : Tree) : Type 0 where
   pub reply : Reply
   pub within : IsWithinRanges reply
-  pub applied : AppliesTo old.tree (apply_read old.tree opened.held.scope (read_request opened.text)) reply new
+  pub applied : AppliesTo old.tree (apply_read old.desk.rules.revoked old.tree opened.held.scope (read_request opened.text)) reply new
   pub answer : Message
   pub protected : IsProtectedResponse is_sealing opened.held.name opened.number None (reply_to old.endpoint came reply) answer
   pub sends : IsSentAs came.from answer served.out served.reply

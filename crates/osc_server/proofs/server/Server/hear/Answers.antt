@@ -16,4 +16,4 @@ by seen now peer (Err error) kept alone fits = tt
 
 pub returns-clause-sent : goal.returns-clause-sent
 returns-clause-sent c =
-    by c.self.inside.endpoint.seen c.args.now c.args.from c.on_datagram.result c.self.invariant.messages c.on_datagram.ensures.alone c.on_datagram.ensures.fits
+    by c.self.inside.endpoint.seen c.args.now c.args.from c.on_datagram.result c.self.invariant.0.messages c.on_datagram.ensures.alone c.on_datagram.ensures.fits

@@ -10,7 +10,7 @@ use Rattle.osc_server.proofs.server.Server.on_tick.Goals as goal
 
 pub invariant_of-self : goal.invariant_of-self
 invariant_of-self c =
-    subst IsQuiet (sym c.on_tick-out.ensures.ticked) (quiet_tick c.args.now c.self.inside.endpoint c.self.invariant).stays
+    (subst IsQuiet (sym c.on_tick-out.ensures.ticked) (quiet_tick c.args.now c.self.inside.endpoint c.self.invariant.0).stays, c.self.invariant.1)
 
 pub returns-clause-kind : goal.returns-clause-kind
 returns-clause-kind c =
@@ -21,7 +21,7 @@ returns-clause-kind c =
 
 pub returns-clause-ticked : goal.returns-clause-ticked
 returns-clause-ticked c =
-    let none = (quiet_tick c.args.now c.self.inside.endpoint c.self.invariant).sends in
+    let none = (quiet_tick c.args.now c.self.inside.endpoint c.self.invariant.0).sends in
     record {
       sent = c.sending.ensures ∙ ap sends (nothing_goes _ c.on_tick-out.result.out none c.on_tick-out.ensures.sent);
       kept = search rules;

@@ -5,8 +5,8 @@ use Rattle.osc_model.specs.Arrival.{Arrival}
 use Rattle.osc_model.specs.declared.step.Step.{Step}
 use Rattle.osc_coap.specs.Message.{Message}
 use Rattle.osc_protect.specs.{IsRequest}
-use Rattle.osc_authz.specs.{accepted}
-use Rattle.osc_server.specs.Inner.Parts.{IsServedAs, noted_by}
+use Rattle.osc_authz.specs.{AreMarked, DeskState, accepted}
+use Rattle.osc_server.specs.Inner.Parts.{noted_by}
 use Rattle.osc_server.specs.{AnswersProtected, IsRefused, refused, served}
 use Rattle.osc_server.specs.declared.refusal.Refusal.TheVariants.{Malformed}
 use Rattle.osc_server.proofs.Served.{serves}
@@ -22,33 +22,38 @@ returns-in_default-clause-answered g c =
     ))) sends)
     c.complain.ensures.sends
 
+pub serve_opened-out-requires : goal.serve_opened-out-requires
+serve_opened-out-requires g c = rw c.in-Ok-Ok.field-0-is at c.in-Ok-Ok.ensures.ready
+
+pub invariant_of-self : goal.invariant_of-self
+invariant_of-self g c =
+    let old = c.self.inside in
+    let says = c.in-Ok.says in
+    let marked : AreMarked old.tree c.serve_opened-out.new.desk.table old.marks =
+    subst (λ (desk : DeskState). AreMarked old.tree desk.table old.marks) (sym c.serve_opened-out.ensures.accepted)
+    (c.marks_stay.ensures.accepted old.tree says.kid says.number old.desk.table old.marks c.self.invariant.1)
+    in
+    (c.self.invariant.0, c.mark_changed.ensures old.tree c.serve_opened-out.ensures.changed marked)
+
 pub returns-in-Ok-Ok-clause-answered : goal.returns-in-Ok-Ok-clause-answered
 returns-in-Ok-Ok-clause-answered g c =
-    let it = c.in-Ok-Ok.field-0-0 in
+    let it = c.serve_opened-out.result in
     let step : Step = record { out = it.out; notes = it.notes } in
-    let as_served : IsServedAs g.A.Ciphers.is_sealing (record { tree = c.self.inside.tree; desk = c.self.inside.desk; endpoint = c.self.inside.endpoint }) c.args.came c.in-Ok.says it c.serve.new.tree =
-    rw c.in-Ok-Ok.field-0-is at c.in-Ok-Ok.ensures.served
-    in
-    let desk : c.serve.new.desk ≡ record c.self.inside.desk { table = accepted c.in-Ok.says.kid c.in-Ok.says.number c.self.inside.desk.table } =
-    rw c.in-Ok-Ok.field-0-is at c.in-Ok-Ok.ensures.accepted
-    in
     let kept : c.note.new.self ≡ record {
-      tree = c.serve.new.tree;
+      tree = c.serve_opened-out.new.tree;
       desk = record c.self.inside.desk { table = accepted c.in-Ok.says.kid c.in-Ok.says.number c.self.inside.desk.table };
       open_scope = c.self.inside.open_scope;
       endpoint = noted_by c.self.inside.endpoint c.args.came it.reply;
-    } = rw (sym desk) c.note.ensures in
+    } = rw (sym c.serve_opened-out.ensures.accepted) c.note.ensures in
     subst (λ old. AnswersProtected g.A.Ciphers.is_sealing old c.args.came step c.note.new.self) c.self.view_is
     (served
     (serves g.A.Ciphers.is_sealing
     (record { tree = c.self.inside.tree; desk = c.self.inside.desk; open_scope = c.self.inside.open_scope; endpoint = c.self.inside.endpoint })
-    c.args.came c.in-Ok.says it c.serve.new.tree step c.note.new.self
-    as_served refl kept))
+    c.args.came c.in-Ok.says it c.serve_opened-out.new.tree step c.note.new.self
+    c.serve_opened-out.ensures.served refl kept))
 
 pub returns-in-Ok-Err-clause-answered : goal.returns-in-Ok-Err-clause-answered
 returns-in-Ok-Err-clause-answered g c =
-    let same : (c.serve.new.desk ≡ c.self.inside.desk) × (c.serve.new.tree ≡ c.self.inside.tree) = rw c.in-Ok-Err.field-0-is at c.in-Ok-Err.ensures.same in
     let why : IsRefused g.A.Ciphers.is_sealing (record { tree = c.self.inside.tree; table = c.self.inside.desk.table }) c.args.came c.in-Ok-Err.refusal = rw c.in-Ok-Err.field-0-is at c.in-Ok-Err.ensures.refused in
-    let sends = rw (same.0, same.1) at c.complain-in-Ok-Err.ensures.sends in
     subst (λ old. IfOk c.complain-in-Ok-Err.result (λ step. AnswersProtected g.A.Ciphers.is_sealing old c.args.came step c.complain-in-Ok-Err.new.self)) c.self.view_is
-    (IfOk-weaker c.complain-in-Ok-Err.result _ _ (λ step it. refused c.in-Ok-Err.refusal why it) sends)
+    (IfOk-weaker c.complain-in-Ok-Err.result _ _ (λ step it. refused c.in-Ok-Err.refusal why it) c.complain-in-Ok-Err.ensures.sends)
