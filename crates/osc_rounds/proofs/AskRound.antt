@@ -61,9 +61,9 @@ module _ (is_sealing : Sealings) (tag : Tags) where
     pub short_tag : (algorithm : Algorithm) → tag algorithm ≤ most_tag
     pub encrypted : (request : Request) → outer_options (request_options request) ≡ []
     pub written : (message : Message) (reply : Reply) → plaintext_of (with_reply message reply) ≡ reply_plaintext reply
-    pub least : (old new : Tree) (scope : Scope) (text : List ℕ) (reply : Reply) → AppliesTo old (apply_read old scope (read_request text)) reply new → 64 ≤ reply.code.0
-    pub most : (old new : Tree) (scope : Scope) (text : List ℕ) (reply : Reply) → AppliesTo old (apply_read old scope (read_request text)) reply new → reply.code.0 < 192
-    pub short : (old new : Tree) (scope : Scope) (text : List ℕ) (reply : Reply) → IsWithinLimits old → AppliesTo old (apply_read old scope (read_request text)) reply new → length reply.payload ≤ 512
+    pub least : (root : Option (List ℕ)) (old new : Tree) (scope : Scope) (text : List ℕ) (reply : Reply) → AppliesTo old (apply_read root old scope (read_request text)) reply new → 64 ≤ reply.code.0
+    pub most : (root : Option (List ℕ)) (old new : Tree) (scope : Scope) (text : List ℕ) (reply : Reply) → AppliesTo old (apply_read root old scope (read_request text)) reply new → reply.code.0 < 192
+    pub short : (root : Option (List ℕ)) (old new : Tree) (scope : Scope) (text : List ℕ) (reply : Reply) → IsWithinLimits old → AppliesTo old (apply_read root old scope (read_request text)) reply new → length reply.payload ≤ 512
 
 -- ---- a context of a table
 
@@ -127,15 +127,15 @@ module _ (is_sealing : Sealings) (tag : Tags) (laws : RoundLaws is_sealing tag)
     inside = inside;
     plaintext = plaintext ∙ laws.written (reply_start came.draw old.endpoint.next_id message is.reply.code.0) is.reply;
     within = is.within;
-    least = laws.least old.tree new.tree held.scope text is.reply is.applied;
-    most = laws.most old.tree new.tree held.scope text is.reply is.applied;
+    least = laws.least old.desk.rules.revoked old.tree new.tree held.scope text is.reply is.applied;
+    most = laws.most old.desk.rules.revoked old.tree new.tree held.scope text is.reply is.applied;
   }
 
   reply_short : IsShortReply is.reply
   reply_short = record {
-    code = omega (arith, laws.least old.tree new.tree held.scope text is.reply is.applied);
+    code = omega (arith, laws.least old.desk.rules.revoked old.tree new.tree held.scope text is.reply is.applied);
     etag = etag_short is.reply.etag is.within.etag;
-    payload = laws.short old.tree new.tree held.scope text is.reply limits is.applied;
+    payload = laws.short old.desk.rules.revoked old.tree new.tree held.scope text is.reply limits is.applied;
   }
 
   pub answer_sendable : IsCarried is.answer

@@ -98,7 +98,7 @@ module _ (is_sealing : Sealings) where
   -- the answer, with that reply, and is acknowledged.
   pub record IsServedAndAnsweredThrough (way : RequestFromProxy) (came : Arrival Message) (second : Step) (served : Server) : Type 0 where
     pub reply : Reply
-    pub applied : AppliesTo way.server.tree (apply_read way.server.tree way.request.held.scope (read_request way.request.text)) reply served.tree
+    pub applied : AppliesTo way.server.tree (apply_read way.server.desk.rules.revoked way.server.tree way.request.held.scope (read_request way.request.text)) reply served.tree
     pub entry : second.notes ≡ notes_of_request came.at way.request.held way.request.number way.request.text reply
     pub kept : served.desk ≡ record way.server.desk { table = accepted way.request.held.name.client_id way.request.number way.server.desk.table }
     pub response : Message

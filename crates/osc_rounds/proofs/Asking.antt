@@ -217,7 +217,7 @@ module _ (is_sealing : Sealings) (laws : RequestLaws is_sealing)
     opens : IsSealed is_sealing h request text
     reply : Reply
     within : IsWithinRanges reply
-    applied : AppliesTo old.tree (apply_read old.tree h.scope (read_request text)) reply new.tree
+    applied : AppliesTo old.tree (apply_read old.desk.rules.revoked old.tree h.scope (read_request text)) reply new.tree
     answer : Message
     protects : IsProtectedResponse is_sealing h.name request.number None (reply_to old.endpoint came reply) answer
     sends : Sends (record old { tree = new.tree; desk = record old.desk { table = accepted request.kid request.number old.desk.table } })

@@ -79,7 +79,7 @@ module _ (is_sealing : Sealings) where
   -- the proxy; and where that comes there, it goes back
   pub record IsServedAndBroughtBack (way : OnItsWay) (settled : Client) (passed : Proxy) (third : Step) (served : Server) : Type 0 where
     pub reply : Reply
-    pub applied : AppliesTo way.server.tree (apply_read way.server.tree way.held.scope (read_request way.text)) reply served.tree
+    pub applied : AppliesTo way.server.tree (apply_read way.server.desk.rules.revoked way.server.tree way.held.scope (read_request way.text)) reply served.tree
     pub entry : third.notes ≡ notes_of_request way.now way.held way.number way.text reply
     pub kept : served.desk ≡ record way.server.desk { table = accepted way.held.name.client_id way.number way.server.desk.table }
     pub response : Message

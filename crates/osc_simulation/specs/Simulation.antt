@@ -124,7 +124,7 @@ first_start lines = record {
   key = token_key;
   old_key = None;
   audience = codes "s";
-  rules = record { revoked = revocation_in lines; seconds = None; remembered = 0 };
+  rules = record { revoked = revocation_in lines; seconds = None; remembered = 0; reserved = None; subtrees = true };
   server_at = address_of Server;
   minted = [];
   clients = [];
@@ -222,7 +222,7 @@ pub record IsEnd (world : State) (text : List ℕ) : Type 0 where
 
 -- what the entries of a client are answered where they alone follow the first resources; one that no line grants to has none
 abbrev pub alone_in : Names → State → ClientName → List Answer
-alone_in names world client = alone read_request (grants_of world.minted) (number_of names.clients client) world.first (history world.steps)
+alone_in names world client = alone read_request world.nodes.server.desk.rules.revoked (grants_of world.minted) (number_of names.clients client) world.first (history world.steps)
 
 -- the lines of that, if a client is wanted
 abbrev pub only_text : Names → State → Option ClientName → List ℕ

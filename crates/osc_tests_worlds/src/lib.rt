@@ -24,6 +24,8 @@ mod refused;
 #[cfg(test)]
 mod revoked;
 #[cfg(test)]
+mod room;
+#[cfg(test)]
 mod through;
 #[cfg(test)]
 mod trees;

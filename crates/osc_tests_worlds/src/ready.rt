@@ -125,15 +125,11 @@ fn held<'a>(world: &'a World, now: Moment, name: &SharedName) -> Option<&'a Serv
         Some(bytes) => Some(bytes.as_slice()),
         None => None,
     };
-    let on = Standing {
-        at: now,
-        tree: world.server().tree(),
-    };
-    match world
-        .server()
-        .desk()
-        .find(&on, name.client_id.as_slice(), kid_context)
-    {
+    let desk = world.server().desk();
+    let tree = world.server().tree();
+    let marks = desk.marks(tree);
+    let on = Standing { at: now, tree };
+    match desk.find(&on, &marks, name.client_id.as_slice(), kid_context) {
         Some(context) if *context.name() == *name => Some(context),
         _ => None,
     }
@@ -226,7 +222,7 @@ fn takes(alloc: Global, world: &mut World, next: Next, deliveries: usize) -> boo
 }
 
 /// What the last step of a client told it.
-fn learnt(world: &World) -> Option<&ClientResult> {
+pub(crate) fn learnt(world: &World) -> Option<&ClientResult> {
     let mut told = None;
     for step in world.steps() {
         told = match step.actor() {

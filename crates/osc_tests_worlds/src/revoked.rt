@@ -12,7 +12,7 @@ use std::process::Abort;
 use std::test::*;
 
 /// PUT and DELETE on the path that revokes the guest's token.
-const OWNER: &[u8] = b"\x81\x82\x6b/revoked/01\x0c";
+pub(crate) const OWNER: &[u8] = b"\x81\x82\x6b/revoked/01\x0c";
 
 /// GET and POST on `/log`.
 const GUEST: &[u8] = b"\x81\x82\x64/log\x03";
@@ -38,7 +38,7 @@ const TURNS: [(u8, u8); 10] = [
 ];
 
 /// An owner, and a guest with this scope, at a server where resources under `/revoked` revoke tokens, and contexts count so many seconds.
-fn world(
+pub(crate) fn world(
     alloc: Global,
     guest: &'static [u8],
     seconds: Option<u32>,
@@ -50,6 +50,8 @@ fn world(
         revoked,
         seconds,
         remembered,
+        reserved: None,
+        subtrees: true,
     });
     let whole = is_enrolled(alloc, &mut start, own(0, OWNER), Ok(straight()))
         && is_enrolled(alloc, &mut start, own(1, guest), Ok(straight()));

@@ -218,7 +218,7 @@ module _ (is_sealing : Sealings) (tag : Tags) where
       round.round,
       record {
         reply = served.reply;
-        applied = subst (λ (s : Server). AppliesTo old.nodes.server.tree (apply_read old.nodes.server.tree held.scope (read_request text)) served.reply s.tree) (sym server_is) served.applied;
+        applied = subst (λ (s : Server). AppliesTo old.nodes.server.tree (apply_read old.nodes.server.desk.rules.revoked old.nodes.server.tree held.scope (read_request text)) served.reply s.tree) (sym server_is) served.applied;
         entry = history_is;
         asked = asks.step.notes;
         served = round.serving.notes;

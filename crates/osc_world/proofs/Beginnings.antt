@@ -1,5 +1,5 @@
 -- Where a world begins, a client that was enrolled may exchange, straight or through a proxy that was added.
-use Rattle.std.proofs.Common.{◌≡◌, ◌∙◌, sym, ap, subst, refl, ℕ, ◌^◌, ◌<◌, ◌≤◌, List, [], false, length, None, Some, arith}
+use Rattle.std.proofs.Common.{◌≡◌, ◌∙◌, sym, ap, subst, refl, ℕ, ◌^◌, ◌<◌, ◌≤◌, Bool, true, false, List, [], length, Option, None, Some, if◌then◌else◌, ◌||◌, bytes_eq, arith}
 use Rattle.std.specs.Prelude.{slice_get, IfSome}
 use Rattle.osc_model.specs.{HasBegun, IsNotOver, is_revoked}
 use Rattle.osc_server.specs.{standing_of}
@@ -11,13 +11,14 @@ use Rattle.osc_ccm.specs.{most_tag, Sealings, IsLongerBy}
 use Rattle.osc_cbor.specs.{spelling}
 use Rattle.osc_cose.specs.{enc_structure}
 use Rattle.osc_authz.specs.HoldsToken.{HoldsToken}
-use Rattle.osc_authz.specs.{IsWelcome}
+use Rattle.osc_authz.specs.{IsFull, IsWelcome, has_token, is_allowed}
 use Rattle.osc_client.specs.{HostAndPort}
 use Rattle.osc_dedup.specs.{looked}
 use Rattle.osc_message.specs.{EndpointState}
 use Rattle.osc_proxy.specs.{peer_of, answer_id}
 use Rattle.osc_proxy.specs.declared.targets.Target.{Target}
 use Rattle.osc_rounds.specs.{MayExchange}
+use Rattle.osc_scope.specs.{scope_of}
 use Rattle.osc_token.specs.{FitTheirTypes, HasLawfulParts, algorithm_header, claims_item}
 use Rattle.osc_token.specs.declared.claims.Claims.{Claims}
 use Rattle.osc_proxy.specs.State.{State as Proxy}
@@ -37,6 +38,15 @@ fit claims lawful = record {
   id_context = λ bytes is. omega (arith, lawful.id_context bytes is);
   scope = lawful.scope;
 }
+
+-- at an empty table there is room for each token id, whichever place is kept
+at_most_one : (is_there : Bool) → (if is_there then 0 else 1) ≤ 1
+at_most_one true = omega arith
+at_most_one false = omega arith
+
+room_at_first : (reserved : Option (List ℕ)) (token : List ℕ) → ¬ IsFull reserved token []
+room_at_first None token full = omega (arith, full.many)
+room_at_first (Some id) token full = omega (arith, full.many, at_most_one (bytes_eq id token || has_token id []))
 
 module _ (is_sealing : Sealings) (tag : ℕ)
     (sealed_length : IsLongerBy tag (is_sealing EightByteTag))
@@ -70,6 +80,7 @@ module _ (is_sealing : Sealings) (tag : ℕ)
   module _ (audience : holder.claims.audience ≡ start.audience) (now : Moment)
       (begins : HasBegun holder.claims.not_before now) (ends : IsNotOver holder.claims.expires now)
       (unrevoked : is_revoked start.rules.revoked start.first holder.claims.material.id ≡ false)
+      (allowed : is_allowed start.rules (scope_of enrols.enrolled.entries) ≡ true)
       (lasting : IfSome start.rules.seconds (λ seconds. 0 < seconds)) (draw : Draw) where
     welcome : IsWelcome (is_sealing EightByteTag) (begun start).nodes.server.desk (standing_of (begun start).nodes.server now) holder.claims enrols.enrolled.entries enrols.placed.node.desk
     welcome = record {
@@ -78,8 +89,9 @@ module _ (is_sealing : Sealings) (tag : ℕ)
       audience = audience;
       begun = begins;
       not_over = ends;
+      allowed = allowed;
       unrevoked = unrevoked;
-      room = λ full. absurd (omega (arith, full.many));
+      room = room_at_first start.rules.reserved holder.claims.material.id;
     }
 
     pub may_exchange : MayExchange is_sealing enrols.placed.node (begun start).nodes.server now draw holder.claims enrols.enrolled.entries

@@ -144,7 +144,7 @@ pub record HoldsStill (server : Server) (held : SecurityContext) (number : ℕ) 
 -- contexts, the client's with the next number; and the client waits for nothing more.
 pub record HasAnswered (old : State) (client : ℕ) (now : Moment) (request : OpenedRequest) (new : State) : Type 0 where
   pub reply : Reply
-  pub applied : AppliesTo old.nodes.server.tree (apply_read old.nodes.server.tree request.held.scope (read_request request.text)) reply new.nodes.server.tree
+  pub applied : AppliesTo old.nodes.server.tree (apply_read old.nodes.server.desk.rules.revoked old.nodes.server.tree request.held.scope (read_request request.text)) reply new.nodes.server.tree
   pub entry : history new.steps
       ≡ history old.steps
       ++ (record { context = request.held.name; number = request.number; plaintext = request.text; moment = now; reply = reply })

@@ -6,7 +6,7 @@ ghost use Rattle.osc_model.specs.declared.node.Draw.{Draw as AnyDraw};
 ghost use Rattle.osc_model.specs.declared.node.Moment.{Moment as AnyMoment};
 ghost use Rattle.osc_model.specs.declared.node.Peer.{Peer as AnyPeer};
 ghost use Rattle.osc_cbor.specs.{spelling};
-ghost use Rattle.osc_authz.specs.{IsLive};
+ghost use Rattle.osc_authz.specs.{IsLive, is_allowed};
 ghost use Rattle.osc_authz.specs.HoldsToken.{HoldsToken};
 ghost use Rattle.osc_model.specs.declared.algorithm.Algorithm.TheVariants.{EightByteTag};
 ghost use Rattle.osc_context.specs.{greatest_number};
@@ -21,7 +21,7 @@ ghost use Rattle.osc_proxy.specs.declared.targets.Target.{Target as AnyTarget};
 ghost use Rattle.osc_rounds.specs.{IsLawfulServer, OpenedRequest, MayAsk, MayExchange};
 ghost use Rattle.osc_run.specs.{HasOwnSecrets, IsMinted};
 ghost use Rattle.osc_run.specs.Premise.{Premise};
-ghost use Rattle.osc_scope.specs.{Entry};
+ghost use Rattle.osc_scope.specs.{Entry, scope_of};
 ghost use Rattle.osc_token.specs.{HasLawfulParts, claims_item};
 ghost use Rattle.osc_token.specs.declared.claims.Claims.{Claims as AnyClaims};
 ghost use Rattle.osc_world.specs.Lawful.{AreLawfulClients, AreLawfulProxies};
@@ -182,7 +182,7 @@ pub fn what_is_minted<A: Ciphers>()
 
 /// Where a world begins, what is assumed of a run holds if no two grants share a secret. A client that was enrolled holds a token of the
 /// key, and may exchange: at any moment in the time of its token, if that is for the server's audience, isn't revoked by the first
-/// resources and has parts of lawful lengths, and the server's contexts count for a while. The world is ready for it where the client reaches the server straight, or through a proxy
+/// resources, has a scope that the server allows and parts of lawful lengths, and the server's contexts count for a while. The world is ready for it where the client reaches the server straight, or through a proxy
 /// that was added and has the server among its targets, by the host and port that the client writes.
 pub fn where_a_world_begins<A: Ciphers>()
     ensures premise { (start : Beginning) → HasOwnSecrets start.minted → Premise (begun start).minted (begun start).steps }
@@ -194,6 +194,7 @@ pub fn where_a_world_begins<A: Ciphers>()
         → start.key ≡ before.key → HasLawfulParts holder.claims → FitAToken holder.claims → holder.claims.audience ≡ start.audience
         → HasBegun holder.claims.not_before now → IsNotOver holder.claims.expires now
         → is_revoked start.rules.revoked start.first holder.claims.material.id ≡ false
+        → is_allowed start.rules (scope_of enrols.enrolled.entries) ≡ true
         → IfSome start.rules.seconds (λ seconds. 0 < seconds)
         → length holder.iv ≡ 13 → length enrols.placed.node.desk.token < 2 ^ 64
         → MayExchange A.is_sealing enrols.placed.node (begun start).nodes.server now draw holder.claims enrols.enrolled.entries }

@@ -281,7 +281,7 @@ impl World {
     /// lack of memory or of room.
     pub fn alone(&self, alloc: Global, client: usize) -> Result<Vec<(u64, Reply)>, AllocError>
         ensures alone { IfOk result (λ answers. answers.items
-            ≡ answers_alone read_request (grants_of self.now.minted) client self.now.first (history_of self.now.steps)) }
+            ≡ answers_alone read_request self.now.nodes.server.desk.rules.revoked (grants_of self.now.minted) client self.now.first (history_of self.now.steps)) }
         ensures isolated { IfOk result (λ answers. Premise self.now.minted self.now.steps → HaveOwnPaths (grants_of self.now.minted)
             → Agree (answered (grants_of self.now.minted) client (history_of self.now.steps)) answers.items) }
     {
@@ -289,7 +289,8 @@ impl World {
         let entries = self.history(alloc)?;
         // The clauses of runs are the world's invariant after it.
         let _ = &self.minted;
-        alone(alloc, &self.minted, client, &self.first, &entries)
+        let root = self.nodes.server().desk().revoked();
+        alone(alloc, &self.minted, client, root, &self.first, &entries)
     }
 
     /// The requests that clients sealed, or their holders in a lie, the oldest first. Without memory there is no list.

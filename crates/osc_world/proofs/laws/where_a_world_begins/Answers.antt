@@ -6,9 +6,9 @@ pub returns-clause-premise : goal.returns-clause-premise
 returns-clause-premise g c = λ start separate. record { genuine = tt; fresh = tt; separate = separate }
 
 pub returns-clause-may_exchange : goal.returns-clause-may_exchange
-returns-clause-may_exchange g c = λ before after start holder now draw enrols key lawful fits audience begins ends unrevoked lasting iv_size token_size.
+returns-clause-may_exchange g c = λ before after start holder now draw enrols key lawful fits audience begins ends unrevoked allowed lasting iv_size token_size.
     may_exchange g.A.Ciphers.is_sealing (g.A.Ciphers.TAG EightByteTag) (g.met.A.Ciphers.sealed_length EightByteTag) (g.met.A.Ciphers.short_tag EightByteTag)
-    before after start holder enrols key lawful fits iv_size token_size audience now begins ends unrevoked lasting draw
+    before after start holder enrols key lawful fits iv_size token_size audience now begins ends unrevoked allowed lasting draw
 
 pub returns-clause-holds : goal.returns-clause-holds
 returns-clause-holds g c = holds g.A.Ciphers.is_sealing (g.A.Ciphers.TAG EightByteTag) (g.met.A.Ciphers.sealed_length EightByteTag) (g.met.A.Ciphers.short_tag EightByteTag)
