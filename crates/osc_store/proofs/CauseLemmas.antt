@@ -13,7 +13,7 @@ use Rattle.sqlite_trees.specs.declared.error.StoreError.{StoreError}
 use Rattle.sqlite_trees.specs.declared.error.StoreError.TheVariants.{OutOfMemory, Io, Corrupt, Full, Broken, Unstorable}
 use Rattle.osc_model.specs.declared.resource.Resource.{Resource}
 use Rattle.osc_store.specs.{format_value, row_of, Excuses}
-use Rattle.osc_store.specs.Causes.{IsTooLong}
+use Rattle.osc_store.specs.Causes.{IsTooLong, WhyNotKept, told}
 
 no_bytes : (f : Option ℕ) → length (bytes (format_value f)) ≡ 0
 no_bytes None = refl
@@ -52,3 +52,12 @@ excused v a b c d Long Longer Unstorable sound p q more h = more h
 pub on_ok_if : {X E : Type 0} (r : Result X E) (C P : Type 0) → (C → OnOk r P) → OnOk r (C → P)
 on_ok_if (Ok x) C P f = f
 on_ok_if (Err e) C P f = tt
+
+-- the cause of a call is that of a change that isn't kept
+pub told_why : (F L : Type 0) (e : StoreError) → Excuses F L e → WhyNotKept F L (told e)
+told_why F L OutOfMemory h = tt
+told_why F L Io h = h
+told_why F L Corrupt h = h
+told_why F L Full h = h
+told_why F L Broken h = h
+told_why F L Unstorable h = h

@@ -2,8 +2,11 @@
 pub mod RowLemmas
 pub mod ViewLemmas
 pub mod LoadLemmas
+mod BelongLemmas
 pub mod CauseLemmas
 pub mod FindLemmas
 pub mod StartLemmas
 pub mod FileLemmas
 pub mod TakeLemmas
+mod WholeLemmas
+mod ReadLemmas

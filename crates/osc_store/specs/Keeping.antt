@@ -51,6 +51,19 @@ module _ {S : Type 0} (view : S → View) (recovers : S → Trees → Type 0) wh
     pub numbered : IsTrue (view s).is_numbered
     pub left : (db : Trees) → recovers s db → ListsTable db × (Holds db before ⊎ Holds db after)
 
+  -- The same, of a store that may have been shut by a failure as it carried its log into the database file: each outcome of a crash that it
+  -- names is a file of this table that holds one of the two.
+  pub record MayLeave (s : S) (before after : Tree) : Type 0 where
+    pub numbered : IsTrue (view s).is_open → IsTrue (view s).is_numbered
+    pub left : (db : Trees) → recovers s db → ListsTable db × (Holds db before ⊎ Holds db after)
+
+  -- a store that keeps a tree leaves one of two, if the tree is the first
+  pub may_leave_first : (s : S) (before after : Tree) → Keeps s before → MayLeave s before after
+  may_leave_first s before after keeps = record {
+    numbered = λ _. keeps.ready.numbered;
+    left = λ db recovered. let held = keeps.left db recovered in (held.0, inl held.1);
+  }
+
   -- a store that keeps a tree holds one of two, if the tree is the first
   pub may_hold_first : (s : S) (before after : Tree) → Keeps s before → MayHold s before after
   may_hold_first s before after keeps = record {

@@ -5,9 +5,11 @@ pub mod Keeping
 pub mod Causes
 pub mod Loading
 pub mod Opening
+pub mod Belonging
+pub use Belonging.{BelongTogether, IsHollow, IsMark, LacksLog, Refuses, version_in}
 pub use Causes.{Excuses, by_fault, of_open, of_probe}
-pub use Keeping.{AddsNone, Finds, HasTable, IsSame, Keeps, MayHold}
+pub use Keeping.{AddsNone, Finds, HasTable, IsSame, Keeps, MayHold, MayLeave}
 pub use Loading.{IsForeign, Reads}
 pub use Opening.{Fails, Fault, Fits, HasSound, IsFullLeft, IsOnlyRead, IsOtherVersion, IsOver, IsOwnList, IsTooLong, Lists, NamesSize, Shows, WhyNotOpened, faults_left, faults_of, image_of, outcomes_of, tally_left}
 pub use Rows.{Holds, changed, format_value, key_of, row_of, rows_of}
-pub use Starting.{FindsTree, HoldsTree, IsEmpty, IsStore, IsUnmade, Leaves, ListsTable, ReadsAs, page, schema, statement}
+pub use Starting.{FindsTree, HoldsTree, IsEmpty, IsStore, IsUnmade, IsWhole, Leaves, ListsTable, ReadsAs, page, schema, statement}

@@ -27,13 +27,14 @@ use Rattle.sqlite_store.specs.declared.store.FileStore.{FileStore}
 use Rattle.sqlite_store.specs.declared.store.open.Unopened.{Unopened}
 use Rattle.osc_model.specs.Tree.{Tree}
 use Rattle.osc_store.specs.declared.error.OpenError.{OpenError}
-use Rattle.osc_store.specs.declared.error.OpenError.TheVariants.{OutOfMemory, Full, Failed, Busy, Journal, NoStore, OtherVersion, Damaged}
+use Rattle.osc_store.specs.declared.error.OpenError.TheVariants.{OutOfMemory, Full, Failed, Busy, Journal, NoStore, OtherVersion, Damaged, EmptyFile, NoLog}
 use Rattle.osc_store.specs.declared.listing.Listed.{Listed}
 use Rattle.osc_store.specs.declared.listing.Listed.TheVariants as listed
 use Rattle.osc_store.specs.declared.left.Left.{Left}
 use Rattle.osc_store.specs.declared.left.Left.TheVariants as left
+use Rattle.osc_store.specs.Belonging.{Refuses}
 use Rattle.osc_store.specs.Keeping.{IsReady}
-use Rattle.osc_store.specs.Starting.{FindsTree, IsUnmade, Leaves, ListsTable, ReadsAs, statement}
+use Rattle.osc_store.specs.Starting.{FindsTree, IsStore, IsUnmade, Leaves, ListsTable, ReadsAs, statement}
 
 -- what reads of the two files return, how many of their calls failed, and what a crash may leave of them
 abbrev pub image_of : {D : Type 0} → disk.Ghosts D → Files D → Image
@@ -96,9 +97,11 @@ Fails fault limit held other Journal = ⊥
 Fails fault limit held other NoStore = ¬ held
 Fails fault limit held other OtherVersion = other × (¬ held)
 Fails fault limit held other Damaged = ¬ held
+Fails fault limit held other EmptyFile = ⊥
+Fails fault limit held other NoLog = ⊥
 
 -- where `fault` says that the disk failed in this way, `limit` that the file met one of its format, `held` that the files are a store,
--- and `other` that they are one of another version
+-- and `other` that they are one of another version; `Refuses` says of the last two what they tell
 abbrev pub WhyNotOpened : (StoreError → Type 0) → Type 0 → Type 0 → Type 0 → OpenError → Type 0
 WhyNotOpened fault limit held other OutOfMemory = ⊤
 WhyNotOpened fault limit held other Full = fault call.Full ⊎ limit
@@ -108,6 +111,8 @@ WhyNotOpened fault limit held other Journal = ⊥
 WhyNotOpened fault limit held other NoStore = ¬ held
 WhyNotOpened fault limit held other OtherVersion = other × (¬ held)
 WhyNotOpened fault limit held other Damaged = fault call.Corrupt ⊎ (¬ held)
+WhyNotOpened fault limit held other EmptyFile = ⊤
+WhyNotOpened fault limit held other NoLog = ⊤
 
 -- ---- what is left of the files
 
@@ -155,6 +160,12 @@ module _ {D : Type 0} {g : disk.Ghosts D} where
   IsOnlyRead files (left.Unopened now) = ⊤
   IsOnlyRead files (left.Store now) = ⊤
 
+  -- the same, and nothing else was done with them
+  abbrev pub IsLeftAlone : Files D → Left D g → Type 0
+  IsLeftAlone files (left.Files now) = OnlyReads g files.log now.log × OnlyReads g files.db now.db
+  IsLeftAlone files (left.Unopened now) = ⊥
+  IsLeftAlone files (left.Store now) = ⊥
+
   -- the disk failed during a start, in this way
   abbrev pub Fault : Files D → Left D g → StoreError → Type 0
   Fault files now kind = MoreFaults (faults_of g files) (faults_left now) × (named (tally_of_files g (files.log, files.db)) (tally_left now) ≡ kind)
@@ -187,3 +198,10 @@ module _ {D : Type 0} {g : disk.Ghosts D} where
     pub counts : faults_of g files ≤ faults_left now
     pub cause : Fails (MoreFaults (faults_of g files) (faults_left now)) (IsFullLeft now) held other e
     pub goes_on : given → (tree : Tree) → FindsTree (image_of g files) tree → Leaves (outcomes_of g files) tree → Leaves (outcomes_left now) tree
+
+  -- what a start over these files left that failed, which looked first whether the two belong together
+  pub record Stops (files : Files D) (now : Left D g) (e : OpenError) : Type 0 where
+    pub honest : AreClean g files.log files.db
+    pub counts : faults_of g files ≤ faults_left now
+    pub cause : Fails (MoreFaults (faults_of g files) (faults_left now)) (IsFullLeft now) (IsStore (image_of g files)) (IsOtherVersion (image_of g files)) e ⊎ Refuses (image_of g files) ⊥ e
+    pub goes_on : (tree : Tree) → FindsTree (image_of g files) tree → Leaves (outcomes_of g files) tree → Leaves (outcomes_left now) tree

@@ -1,13 +1,16 @@
 -- What the server finds that starts again.
 use Rattle.std.specs.Prelude.{◌≡◌, ◌⊎◌, ℕ, true, List, [], ◌∷◌, codes}
 use Rattle.std.specs.FinMap as finmap
+use Rattle.sqlite_disk.specs.declared.Disk.{Ghosts}
 use Rattle.sqlite_pages.specs.PageMap.{PageMap}
 use Rattle.sqlite_pool.specs.Opening.{IsBlankFile}
 use Rattle.sqlite_pool.specs.Stored.{Recovers, stored_size}
 use Rattle.sqlite_value.specs.declared.value.Value.TheVariants.{Text}
+use Rattle.sqlite_store.specs.FileStore.{state}
 use Rattle.sqlite_store.specs.Listing.{file_trees, listed_from, IsOurs}
 use Rattle.sqlite_store.specs.Opening.{IsEmptyFile}
 use Rattle.sqlite_store.specs.declared.catalog.Wanted.{Wanted}
+use Rattle.sqlite_store.specs.declared.store.FileStore.{FileStore}
 use Rattle.sqlite_trees.specs.Objects.{catalog_tree}
 use Rattle.sqlite_trees.specs.Tree.{Trees}
 use Rattle.sqlite_trees.specs.declared.store.Shape.TheVariants.{Index}
@@ -82,3 +85,7 @@ AreOne a b = ∥ a ≡ b ∥₁
 -- the same as IsEmpty, where which pages they are isn't told
 abbrev pub HasNoTable : Image → Type 0
 HasNoTable image = ∥ IsEmpty image ∥₁
+
+-- whatever a crash leaves, the database file alone is found as this tree
+abbrev pub IsWhole : {D : Type 0} {g : Ghosts D} → FileStore D g → Tree → Type 0
+IsWhole it tree = (left : Image) → (state it).may_leave left → ∥ FindsTree (record { log = []; db = left.db }) tree ∥₁

@@ -57,6 +57,12 @@ pub enum OpenError {
     /// A page isn't what was written there, or a row of the table is no resource.
     #[error("the file is damaged")]
     Damaged,
+    /// The file has no byte, or isn't there, and a log stands beside it.
+    #[error("the file is empty or missing, beside a log")]
+    EmptyFile,
+    /// The file says that a log belongs to it, and there is none.
+    #[error("its log is missing")]
+    NoLog,
 }
 
 // The error of a store's call, as one of ours.

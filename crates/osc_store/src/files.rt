@@ -2,12 +2,15 @@
 ghost use Rattle.std.specs.Prelude.{◌≡◌, ⊤, IfOk, IfErr, IsTrue};
 ghost use Rattle.sqlite_store.specs.FileStore.{recovers, view};
 ghost use Rattle.sqlite_store.specs.Report.{named as name_of};
+ghost use Rattle.sqlite_wal.specs.Reads.{AreClean};
 ghost use Rattle.osc_model.specs.Tree.{Tree as AnyTree};
-ghost use Rattle.osc_store.specs.Causes.{by_fault as renamed};
+ghost use Rattle.osc_store.specs.Belonging.{BelongTogether, Refuses};
+ghost use Rattle.osc_store.specs.Causes.{is_refusal};
 ghost use Rattle.osc_store.specs.Keeping.{Keeps};
 ghost use Rattle.osc_store.specs.Starting.{FindsTree, IsStore, IsUnmade, Leaves};
-ghost use Rattle.osc_store.specs.Opening.{Fault, IsCleanLeft, IsFullLeft, IsOnlyRead, IsOtherVersion, Spares, WhyNotOpened, image_of, outcomes_left, outcomes_of};
+ghost use Rattle.osc_store.specs.Opening.{Fault, IsCleanLeft, IsFullLeft, IsLeftAlone, IsOnlyRead, IsOtherVersion, Spares, Stops, WhyNotOpened, image_of, outcomes_left, outcomes_of};
 
+use crate::belonging::check_pair;
 use crate::error::{OpenError, by_fault};
 use crate::left::Left;
 use crate::loading::adopt;
@@ -35,9 +38,12 @@ pub fn open_files<D: Disk + Drop>(
         → WhyNotOpened (Fault files e.1) (IsFullLeft e.1) (IsStore (image_of D.Disk files)) (IsOtherVersion (image_of D.Disk files)) e.0) }
     ensures unharmed { IfErr result (λ e. IsCleanLeft e.1 → (tree : AnyTree) → Leaves (outcomes_of D.Disk files) tree → Leaves (outcomes_left e.1) tree) }
     ensures read { IfErr result (λ e. e.0 ≡ OpenError.NoStore → IsOnlyRead files e.1) }
+    ensures belong { IfOk result (λ opened. IsTrue (view opened.0).is_clean → BelongTogether (image_of D.Disk files)) }
+    ensures refused { IfErr result (λ e. IsCleanLeft e.1 → Refuses (image_of D.Disk files) ⊤ e.0) }
+    ensures left_alone { IfErr result (λ e. IsCleanLeft e.1 → IsTrue (is_refusal e.0) → IsLeftAlone files e.1) }
 {
     let before = files.tally();
-    match open_over(alloc, files, seed) {
+    match open_checked(alloc, files, seed) {
         Ok(opened) => Ok(opened),
         Err((error, left)) => {
             let error = by_fault(name_fault(before, left.tally()), error);
@@ -47,6 +53,31 @@ pub fn open_files<D: Disk + Drop>(
 }
 
 // The same, before a failure of the disk is named.
+fn open_checked<D: Disk + Drop>(
+    alloc: Global,
+    mut files: Files<D>,
+    seed: u64,
+) -> Result<(FileStore<D>, Tree), (OpenError, Left<D>)>
+    requires log { IsTrue (D.Disk.is_usable files.log) }
+    requires db { IsTrue (D.Disk.is_usable files.db) }
+    ensures kept { IfOk result (λ opened. IsTrue (view opened.0).is_clean → Keeps view recovers opened.0 opened.1) }
+    ensures found { IfOk result (λ opened. IsTrue (view opened.0).is_clean → FindsTree (image_of D.Disk files) opened.1) }
+    ensures sums { IfOk result (λ opened. IsTrue (view opened.0).is_clean → IsUnmade (image_of D.Disk files) → IsTrue (view opened.0).has_sums) }
+    ensures belong { IfOk result (λ opened. IsTrue (view opened.0).is_clean → BelongTogether (image_of D.Disk files)) }
+    ensures stops { IfErr result (λ e. IsCleanLeft e.1 → Stops files e.1 e.0) }
+    ensures read { IfErr result (λ e. e.0 ≡ OpenError.NoStore → IsOnlyRead files e.1) }
+    ensures left_alone { IfErr result (λ e. IsCleanLeft e.1 → IsTrue (is_refusal e.0) → IsLeftAlone files e.1) }
+{
+    match check_pair(&mut files) {
+        Ok(()) => match open_over(alloc, files, seed) {
+            Ok(opened) => Ok(opened),
+            Err((error, left)) => Err((error, left)),
+        },
+        Err(error) => Err((error, Left::Files(files))),
+    }
+}
+
+// The same, where the two belong together.
 fn open_over<D: Disk + Drop>(
     alloc: Global,
     files: Files<D>,
@@ -57,6 +88,7 @@ fn open_over<D: Disk + Drop>(
     ensures kept { IfOk result (λ opened. IsTrue (view opened.0).is_clean → Keeps view recovers opened.0 opened.1) }
     ensures found { IfOk result (λ opened. IsTrue (view opened.0).is_clean → FindsTree (image_of D.Disk files) opened.1) }
     ensures sums { IfOk result (λ opened. IsTrue (view opened.0).is_clean → IsUnmade (image_of D.Disk files) → IsTrue (view opened.0).has_sums) }
+    ensures honest { IfOk result (λ opened. IsTrue (view opened.0).is_clean → AreClean D.Disk files.log files.db) }
     ensures spares { IfErr result (λ e. IsCleanLeft e.1 → Spares files e.1 ⊤ (IsStore (image_of D.Disk files)) (IsOtherVersion (image_of D.Disk files)) e.0) }
     ensures read { IfErr result (λ e. e.0 ≡ OpenError.NoStore → IsOnlyRead files e.1) }
 {

@@ -71,8 +71,8 @@ fn change<S: Store>(
     store.commit()
 }
 
-// Writes it, and commits nothing.
-fn write<S: Store>(
+/// Writes it, and commits nothing.
+pub(crate) fn write<S: Store>(
     store: &mut S,
     row: &mut Row,
     path: &Path,

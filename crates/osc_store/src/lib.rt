@@ -1,6 +1,7 @@
 //! The resources of a server in a file that sqlite3 reads, which outlive a power cut.
 #![tactic(auto)]
 
+mod belonging;
 mod error;
 mod files;
 mod finding;
@@ -10,15 +11,18 @@ pub mod laws;
 mod left;
 mod listing;
 mod loading;
+mod marking;
 mod opening;
 mod path;
+mod reading;
 mod rows;
 mod starting;
 
 pub use error::{KeepError, OpenError};
 pub use files::open_files;
-pub use keeper::{Forgetful, Keeper, Keeping};
+pub use keeper::{FileKeeper, Forgetful, Keeper, Keeping};
 pub use keeping::keep;
 pub use left::Left;
-pub use path::open;
+pub use path::{draw_mark, open};
+pub use reading::read_store;
 pub use sqlite_std_file::{Start, Unknown, Wary};

@@ -1,8 +1,9 @@
 //! The store at a path.
-ghost use Rattle.std.specs.Prelude.{◌≡◌, true, false, None, IfOk, IfErr, IfSome, IsTrue};
+ghost use Rattle.std.specs.Prelude.{◌≡◌, ⊤, true, false, None, IfOk, IfErr, IfSome, IsTrue};
 ghost use Rattle.sqlite_std_file.specs.File.{IsFresh, file_is_usable};
 ghost use Rattle.sqlite_store.specs.FileStore.{recovers, view};
 ghost use Rattle.sqlite_wal.specs.Files.{image_at};
+ghost use Rattle.osc_store.specs.Belonging.{BelongTogether, Refuses};
 ghost use Rattle.osc_store.specs.Causes.{is_of_content};
 ghost use Rattle.osc_store.specs.Keeping.{Keeps};
 ghost use Rattle.osc_store.specs.Starting.{FindsTree, IsStore, IsUnmade, Leaves};
@@ -25,8 +26,8 @@ const EMPTY_LOG: u64 = 56;
 
 /// Opens the store in the file at this path and in its log beside it (the path with `-wal`), with the tree that it holds, or makes one
 /// without a resource where there is no file yet. `S` stands for what the files hold, and says how a crash is read: `Wary` supposes nothing
-/// of a torn write. As long as the store is open, no other process opens it. A file that is no store, or one of another version, is left as
-/// it is, with nothing beside it that wasn't there. An error of the files' content has its cause, and comes with what is left of them. Why
+/// of a torn write. As long as the store is open, no other process opens it. A file that is no store, one of another version, and one that
+/// doesn't belong to what stands beside it is left as it is, with nothing beside it that wasn't there. An error of the files' content has its cause, and comes with what is left of them. Why
 /// the system doesn't open a file no clause says: then nothing comes with the error.
 pub fn open<S: Start>(
     rt: &HostRuntime,
@@ -41,6 +42,8 @@ pub fn open<S: Start>(
         × (IsCleanLeft left → WhyNotOpened (Fault files left) (IsFullLeft left) (IsStore (image_at S.Start)) (IsOtherVersion (image_at S.Start)) e.0))) }
     ensures unharmed { IfErr result (λ e. IfSome e.1 (λ left. IsCleanLeft left
         → (tree : AnyTree) → FindsTree (image_at S.Start) tree → Leaves (outcomes_left left) tree)) }
+    ensures belong { IfOk result (λ opened. IsTrue (view opened.0).is_clean → BelongTogether (image_at S.Start)) }
+    ensures refused { IfErr result (λ e. IfSome e.1 (λ left. IsCleanLeft left → Refuses (image_at S.Start) ⊤ e.0)) }
 {
     let seed = match draw(rt) {
         Ok(seed) => seed,
@@ -50,6 +53,7 @@ pub fn open<S: Start>(
         Ok(log) => log,
         Err(error) => return Err((error, None)),
     };
+    let is_new = is_missing(rt, path);
     let files = match open_pair(rt, path, start) {
         Ok(files) => files,
         Err(error) => return Err((error, None)),
@@ -57,8 +61,13 @@ pub fn open<S: Start>(
     match open_files(rt.alloc(), files, seed) {
         Ok(opened) => Ok(opened),
         Err((error, left)) => {
-            if matches!(error, OpenError::NoStore | OpenError::OtherVersion) {
-                remove_empty(rt, log);
+            if is_left(error) {
+                if let Some(log) = log {
+                    remove_short(rt, log.as_str(), EMPTY_LOG);
+                }
+                if is_new {
+                    remove_short(rt, path, 1);
+                }
             }
             Err((error, Some(left)))
         }
@@ -72,6 +81,16 @@ fn draw(rt: &HostRuntime) -> Result<u64, OpenError>
     match RandomState::new(rt) {
         Ok(random) => Ok(random.hash_one(&0u8)),
         Err(_) => Err(OpenError::Failed),
+    }
+}
+
+/// A mark for a store that is opened, which no other has but by chance.
+pub fn draw_mark(rt: &HostRuntime) -> Result<u32, OpenError>
+    ensures { IfErr result (λ e. is_of_content e ≡ false) }
+{
+    match draw(rt) {
+        Ok(drawn) => Ok((drawn >> 32) as u32),
+        Err(error) => Err(error),
     }
 }
 
@@ -114,15 +133,27 @@ fn missing_log(rt: &HostRuntime, path: &str) -> Result<Option<String>, OpenError
     }
 }
 
-// Removes a log that was made beside a file that is no store. The files are still locked.
-fn remove_empty(rt: &HostRuntime, log: Option<String>) {
-    let Some(log) = log else {
+// Whether the files are left as they are, with nothing beside them that wasn't there.
+fn is_left(error: OpenError) -> bool {
+    matches!(
+        error,
+        OpenError::NoStore | OpenError::OtherVersion | OpenError::EmptyFile | OpenError::NoLog
+    )
+}
+
+fn is_missing(rt: &HostRuntime, path: &str) -> bool {
+    match fs::symlink_metadata(rt, path) {
+        Ok(_) => false,
+        Err(error) => error.kind() == ErrorKind::NotFound,
+    }
+}
+
+// Removes a file that was made beside what is no store, where it has fewer bytes than this. The files are still locked.
+fn remove_short(rt: &HostRuntime, path: &str, most: u64) {
+    let Ok(found) = fs::symlink_metadata(rt, path) else {
         return;
     };
-    let Ok(found) = fs::symlink_metadata(rt, log.as_str()) else {
-        return;
-    };
-    if found.is_file() && found.len() < EMPTY_LOG {
-        let _ = fs::remove_file(rt, log.as_str());
+    if found.is_file() && found.len() < most {
+        let _ = fs::remove_file(rt, path);
     }
 }

@@ -56,6 +56,7 @@ fn parts(alloc: Global, tree: Tree) -> Result<ServerParts, AllocError> {
         audience: Audience::new(alloc, "s")?,
         revoked: None,
         context_seconds: None,
+        subtrees: true,
     })
 }
 

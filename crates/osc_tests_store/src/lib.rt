@@ -16,3 +16,5 @@ mod disks;
 mod foreign;
 #[cfg(test)]
 mod paths;
+#[cfg(test)]
+mod wholes;

@@ -54,3 +54,9 @@ returns-in-Err-adopt-clause-spares g c clean =
           let is : read.0 ≡ (view first).committed = settled_at first g.met.D.Disk.seen_may_stay read.0 over.ready.is_open (e.undone.outcomes read.0 read.1) in
           inl (read.0, read.2, subst ListsTable (sym is) over.lists, subst (λ db. Holds db tree) (sym is) holds)));
     }
+
+pub returns-in-Ok-adopt-clause-honest : goal.returns-in-Ok-adopt-clause-honest
+returns-in-Ok-adopt-clause-honest g c clean =
+    let e = c.in-Ok-adopt.ensures in
+    let early = clean_of _ (clean_before (view c.in-Ok.store) (view c.in-Ok-adopt.opened.0) e.quiet.clean (no_doubt _ clean)) in
+    (c.in-Ok.ensures.gives early).honest

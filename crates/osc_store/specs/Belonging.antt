@@ -1,0 +1,36 @@
+-- Whether a database file and what stands beside it as its log belong together, as far as their bytes tell.
+use Rattle.std.specs.Prelude.{◌≡◌, ◌≤◌, ◌<◌, ◌/◌, ◌^◌, ℕ, List, length, nat_lt, if◌then◌else◌}
+use Rattle.sqlite_wal.specs.Format.{be32}
+use Rattle.sqlite_wal.specs.Recovery.{Image}
+use Rattle.osc_store.specs.declared.error.OpenError.{OpenError}
+use Rattle.osc_store.specs.declared.error.OpenError.TheVariants.{EmptyFile, NoLog}
+
+-- the user version of a database file: bytes 60 to 63 of its header
+abbrev pub version_in : List ℕ → ℕ
+version_in db = if nat_lt (length db) 64 then 0 else be32 db 60
+
+-- A user version that is a mark: changes may stand in the log alone. It begins with twelve bits that are the same in all marks, and goes on
+-- with twenty of its own.
+abbrev pub IsMark : ℕ → Type 0
+IsMark version = version / 2 ^ 20 ≡ 0x05c
+
+-- the file says that a log belongs to it, and there is none: what stands there is shorter than the 32 bytes of a log's header
+pub record LacksLog (image : Image) : Type 0 where
+  pub marked : IsMark (version_in image.db)
+  pub missing : length image.log < 32
+
+-- the file has nothing, or its first byte, beside a log with room for a frame, which has 24 bytes before its page
+pub record IsHollow (image : Image) : Type 0 where
+  pub empty : length image.db ≤ 1
+  pub logged : 56 ≤ length image.log
+
+-- what a start takes for one store
+pub record BelongTogether (image : Image) : Type 0 where
+  pub log : ¬ LacksLog image
+  pub file : ¬ IsHollow image
+
+-- why the two are refused, where `other` is said of each error that tells something else
+abbrev pub Refuses : Image → Type 0 → OpenError → Type 0
+Refuses image other EmptyFile = IsHollow image
+Refuses image other NoLog = LacksLog image
+Refuses image other _ = other

@@ -1,0 +1,101 @@
+//! Whether a database file and its log belong together. It is looked at before the two are recovered, which would take a log that is missing
+//! for none; nothing is written.
+ghost use Rattle.std.specs.Prelude.{◌≡◌, ◌≤◌, ◌↔◌, ◌+◌, ⊤, IfOk, IfErr, OnOk, IsTrue};
+ghost use Rattle.sqlite_disk.specs.Disk.{CountsFault, MoreFaults};
+ghost use Rattle.sqlite_wal.specs.Format.{be32};
+ghost use Rattle.sqlite_wal.specs.Reads.{AreClean, IsClean, OnlyReads};
+ghost use Rattle.osc_store.specs.Belonging.{BelongTogether, IsMark, Refuses, version_in};
+ghost use Rattle.osc_store.specs.Opening.{faults_of, image_of};
+
+use crate::error::OpenError;
+use sqlite_disk::{Disk, Files};
+use std::io;
+
+/// How many bytes the header of a log has.
+const LOG_HEADER: usize = 32;
+
+/// How many bytes a log has at least that has a frame: its header, and what stands before the frame's page.
+const FRAMED_LOG: usize = 56;
+
+/// Where the user version is in the header of a database file, which has four bytes.
+const VERSION_AT: usize = 60;
+
+/// What every mark begins with, and what it has of its own below that.
+const TAG: u32 = 0x05c;
+
+const OWN: u32 = 1 << 20;
+
+/// Refuses a database file without a byte beside a log, and one that says that a log belongs to it, beside none.
+pub(crate) fn check_pair<D: Disk>(files: &mut Files<D>) -> Result<(), OpenError>
+    requires log { IsTrue (D.Disk.is_usable files.old.log) }
+    requires db { IsTrue (D.Disk.is_usable files.old.db) }
+    ensures ok { OnOk result (AreClean D.Disk files.new.log files.new.db → BelongTogether (image_of D.Disk files.old)) }
+    ensures cause { IfErr result (λ e. AreClean D.Disk files.new.log files.new.db
+        → Refuses (image_of D.Disk files.old) ((e ≡ OpenError.Failed) × MoreFaults (faults_of D.Disk files.old) (faults_of D.Disk files.new)) e) }
+    ensures counts { faults_of D.Disk files.old ≤ faults_of D.Disk files.new }
+    ensures log { OnlyReads D.Disk files.old.log files.new.log }
+    ensures db { OnlyReads D.Disk files.old.db files.new.db }
+{
+    let Ok(log) = files.log.len() else {
+        return Err(OpenError::Failed);
+    };
+    let Ok(db) = files.db.len() else {
+        return Err(OpenError::Failed);
+    };
+    if db <= 1 && log >= FRAMED_LOG {
+        return Err(OpenError::EmptyFile);
+    }
+    if log >= LOG_HEADER {
+        return Ok(());
+    }
+    match version_of(&mut files.db) {
+        Ok(version) if is_mark(version) => Err(OpenError::NoLog),
+        Ok(_) => Ok(()),
+        Err(_) => Err(OpenError::Failed),
+    }
+}
+
+/// A mark with these bits of its own, of which twenty count.
+pub(crate) fn mark_of(own: u32) -> u32
+    ensures { IsMark result }
+{
+    TAG * OWN + own % OWN
+}
+
+/// The user version of the commits in the log that belongs to a file with the mark of the same bits: no mark, so that a file whose log another
+/// program carried in is a store alone.
+pub(crate) fn logged_of(own: u32) -> u32
+    ensures { ¬ IsMark result }
+{
+    (TAG + 1) * OWN + own % OWN
+}
+
+fn is_mark(version: u32) -> bool
+    ensures { IsTrue result ↔ IsMark version }
+{
+    version / OWN == TAG
+}
+
+// The user version of a database file.
+fn version_of<D: Disk>(db: &mut D) -> io::Result<u32>
+    requires { IsTrue (D.Disk.is_usable db.old) }
+    ensures version { IfOk result (λ n. IsClean D.Disk db.new → n ≡ version_in (D.Disk.seen db.old)) }
+    ensures faults { CountsFault result (D.Disk.faults db.old) (D.Disk.faults db.new) }
+    ensures same { OnlyReads D.Disk db.old db.new }
+{
+    if db.len()? < VERSION_AT + 4 {
+        return Ok(0);
+    }
+    let mut field = [0; 4];
+    db.read_at(VERSION_AT, &mut field)?;
+    Ok(number(&field))
+}
+
+fn number(field: &[u8; 4]) -> u32
+    ensures { result ≡ be32 field.now 0 }
+{
+    field[0] as u32 * 0x100_0000
+        + field[1] as u32 * 0x1_0000
+        + field[2] as u32 * 0x100
+        + field[3] as u32
+}

@@ -1,0 +1,245 @@
+//! A database file that holds the whole store, one that says that a log belongs to it, and what isn't taken for one store.
+use crate::changes::{CHANGES, is_after, path_of, resource_of};
+use crate::disks::{pair, start};
+use osc_store::{FileKeeper, Keeping, OpenError, open_files};
+use sqlite_disk::{Files, Fuse, Memory};
+use std::alloc::Global;
+use std::test::Fail;
+
+const NEVER: u64 = 1 << 40;
+
+// More calls than all of it makes of the log, and of the database file.
+const LOG_CALLS: u64 = 140;
+
+const DB_CALLS: u64 = 70;
+
+// How many changes are kept.
+const MANY: usize = 3;
+
+// Of so many bytes of a write, one is the last that is written; and of the first, where the header is, one of so many.
+const STEP: usize = 509;
+
+const FIRST: usize = 7;
+
+// The file is made whole before this change, too.
+const MIDDLE: usize = 2;
+
+// The contents of the two files, and how many of the changes were kept.
+struct Cut {
+    log: Vec<u8>,
+    db: Vec<u8>,
+    kept: usize,
+}
+
+impl Drop for Cut {
+    fn drop(self) {
+        let Cut {
+            log: _,
+            db: _,
+            kept: _,
+        } = self;
+    }
+}
+
+fn cut_of(alloc: Global, files: Files<Fuse<Memory>>, kept: usize) -> Result<Cut, Fail> {
+    let log = Vec::from_slice(alloc, files.log.inner().bytes())?;
+    let db = Vec::from_slice(alloc, files.db.inner().bytes())?;
+    Ok(Cut { log, db, kept })
+}
+
+// Keeps so many of the changes, from a file that is made whole, and whole again on the way; gives how many were kept.
+fn keep_some(
+    alloc: Global,
+    keeper: &mut FileKeeper<Fuse<Memory>>,
+    many: usize,
+) -> Result<usize, Fail> {
+    for (at, change) in CHANGES.iter().enumerate() {
+        if at == many || (at % MIDDLE == 0 && keeper.make_whole().is_err()) {
+            return Ok(at);
+        }
+        let path = path_of(alloc, change.0)?;
+        let resource = resource_of(alloc, change.1)?;
+        if keeper.keep(&path, resource.as_ref()).is_err() {
+            return Ok(at);
+        }
+    }
+    Ok(CHANGES.len())
+}
+
+// A first start and so many changes, over disks that freeze after so many calls.
+fn run(alloc: Global, log_calls: u64, db_calls: u64, many: usize) -> Result<Cut, Fail> {
+    let files = Files {
+        log: Fuse::new(Memory::new(alloc), log_calls),
+        db: Fuse::new(Memory::new(alloc), db_calls),
+    };
+    match open_files(alloc, files, 7) {
+        Ok((store, _tree)) => {
+            let mut keeper = FileKeeper::new(alloc, store, 0x0102_0304);
+            let kept = keep_some(alloc, &mut keeper, many)?;
+            cut_of(alloc, keeper.into_store().close(), kept)
+        }
+        Err((_error, left)) => cut_of(alloc, left.into_files(), 0),
+    }
+}
+
+// The next start finds the tree of what was kept, with the change that was under way or without.
+fn is_found(alloc: Global, log: &[u8], db: &[u8], kept: usize) -> Result<bool, Fail> {
+    match start(alloc, log, db)? {
+        Ok(tree) => Ok(
+            is_after(alloc, &tree, kept)? || is_after(alloc, &tree, kept.saturating_add(1))?,
+        ),
+        Err(_) => Ok(false),
+    }
+}
+
+// The file that a write leaves which is cut off after byte `at`.
+fn torn(alloc: Global, before: &[u8], after: &[u8], at: usize) -> Result<Vec<u8>, Fail> {
+    let mut torn = Vec::new(alloc);
+    for i in 0..after.len().max(before.len()) {
+        if i <= at && i < after.len() {
+            torn.push(after[i])?;
+        } else if i < before.len() {
+            torn.push(before[i])?;
+        }
+    }
+    Ok(torn)
+}
+
+fn is_last(before: &[u8], after: &[u8], at: usize) -> bool {
+    let is_tried = at % STEP == 0 || (at < 104 && at % FIRST == 0);
+    is_tried && at < after.len() && (at >= before.len() || before[at] != after[at])
+}
+
+#[test]
+fn cut_at_each_call_of_the_log(rt: HostRuntime) -> Result<(), Fail> {
+    let alloc = rt.alloc();
+    for calls in 0..LOG_CALLS {
+        let cut = run(alloc, calls, NEVER, MANY)?;
+        assert!(&rt; is_found(alloc, &cut.log, &cut.db, cut.kept)?, "{calls}");
+    }
+    assert_eq!(&rt; run(alloc, LOG_CALLS, NEVER, MANY)?.kept, MANY);
+    Ok(())
+}
+
+#[test]
+fn cut_at_each_call_of_the_database(rt: HostRuntime) -> Result<(), Fail> {
+    let alloc = rt.alloc();
+    for calls in 0..DB_CALLS {
+        let cut = run(alloc, NEVER, calls, MANY)?;
+        assert!(&rt; is_found(alloc, &cut.log, &cut.db, cut.kept)?, "{calls}");
+    }
+    assert_eq!(&rt; run(alloc, NEVER, DB_CALLS, MANY)?.kept, MANY);
+    Ok(())
+}
+
+#[test]
+fn cut_inside_each_write_of_the_log(rt: HostRuntime) -> Result<(), Fail> {
+    let alloc = rt.alloc();
+    let mut before = run(alloc, 0, NEVER, MANY)?;
+    for calls in 1..LOG_CALLS {
+        let after = run(alloc, calls, NEVER, MANY)?;
+        for at in 0..after.log.len() {
+            if is_last(&before.log, &after.log, at) {
+                let log = torn(alloc, &before.log, &after.log, at)?;
+                assert!(&rt;
+                    is_found(alloc, &log, &before.db, before.kept)?,
+                    "{calls} {at}"
+                );
+            }
+        }
+        before = after;
+    }
+    Ok(())
+}
+
+#[test]
+fn cut_inside_each_write_of_the_database(rt: HostRuntime) -> Result<(), Fail> {
+    let alloc = rt.alloc();
+    let mut before = run(alloc, NEVER, 0, MANY)?;
+    for calls in 1..DB_CALLS {
+        let after = run(alloc, NEVER, calls, MANY)?;
+        for at in 0..after.db.len() {
+            if is_last(&before.db, &after.db, at) {
+                let db = torn(alloc, &before.db, &after.db, at)?;
+                assert!(&rt;
+                    is_found(alloc, &before.log, &db, before.kept)?,
+                    "{calls} {at}"
+                );
+            }
+        }
+        before = after;
+    }
+    Ok(())
+}
+
+// A start over these bytes is refused so, and leaves both files as they are.
+fn is_refused(alloc: Global, log: &[u8], db: &[u8], want: OpenError) -> Result<bool, Fail> {
+    match open_files(alloc, pair(alloc, log, db)?, 7) {
+        Ok(_) => Ok(false),
+        Err((error, left)) => {
+            let files = left.into_files();
+            Ok(error == want && files.db.bytes() == db && files.log.bytes() == log)
+        }
+    }
+}
+
+#[test]
+fn a_whole_file_is_a_store_alone(rt: HostRuntime) -> Result<(), Fail> {
+    let alloc = rt.alloc();
+    for many in 0..CHANGES.len() {
+        let files = pair(alloc, &[], &[])?;
+        let (store, _tree) = match open_files(alloc, files, 7) {
+            Ok(opened) => opened,
+            Err((error, _left)) => return Err(Fail::from(error)),
+        };
+        let mut keeper = FileKeeper::new(alloc, store, 5);
+        for (at, change) in CHANGES.iter().enumerate() {
+            if at < many {
+                let path = path_of(alloc, change.0)?;
+                let resource = resource_of(alloc, change.1)?;
+                keeper.keep(&path, resource.as_ref())?;
+            }
+        }
+        keeper.make_whole()?;
+        let files = keeper.into_store().close();
+        match start(alloc, &[], files.db.bytes())? {
+            Ok(tree) => assert!(&rt; is_after(alloc, &tree, many)?, "{many}"),
+            Err(error) => return Err(Fail::from(error)),
+        }
+    }
+    Ok(())
+}
+
+#[test]
+fn a_file_without_its_log_is_refused(rt: HostRuntime) -> Result<(), Fail> {
+    let alloc = rt.alloc();
+    for many in 1..CHANGES.len() {
+        let cut = run(alloc, NEVER, NEVER, many)?;
+        for short in [0usize, 1, 31] {
+            let log = cut.log.get(..short).ok_or("a log")?;
+            assert!(&rt;
+                is_refused(alloc, log, &cut.db, OpenError::NoLog)?,
+                "{many} {short}"
+            );
+        }
+        match start(alloc, &cut.log, &cut.db)? {
+            Ok(tree) => assert!(&rt; is_after(alloc, &tree, many)?, "{many}"),
+            Err(error) => return Err(Fail::from(error)),
+        }
+    }
+    Ok(())
+}
+
+#[test]
+fn an_empty_file_beside_a_log_is_refused(rt: HostRuntime) -> Result<(), Fail> {
+    let alloc = rt.alloc();
+    let cut = run(alloc, NEVER, NEVER, 3)?;
+    for db in [&[][..], &[0][..], &[83][..]] {
+        assert!(&rt; is_refused(alloc, &cut.log, db, OpenError::EmptyFile)?);
+    }
+    match start(alloc, cut.log.get(..41).ok_or("a log")?, &[])? {
+        Ok(tree) => assert!(&rt; is_after(alloc, &tree, 0)?),
+        Err(error) => return Err(Fail::from(error)),
+    }
+    Ok(())
+}
