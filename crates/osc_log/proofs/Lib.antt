@@ -4,4 +4,5 @@ pub mod Counts
 pub mod NoFloats
 pub mod Printing
 pub mod Sent
+pub mod Served
 pub mod Telling

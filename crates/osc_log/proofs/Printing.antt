@@ -2,8 +2,8 @@
 use Rattle.std.proofs.Common.{◌≡◌, ℕ, List, ◌++◌, append_assoc, codes}
 use Rattle.osc_log.specs.Code.{line}
 
-pub left_out_pieces : (ms count : List ℕ) → ms ++ (codes " left out " ++ (count ++ codes " refusals\n")) ≡ line (ms ++ codes " left out " ++ count ++ codes " refusals")
-left_out_pieces ms count = simp append_assoc
+pub left_out_pieces : (ms count words words-is : List ℕ) → words ≡ words-is → ms ++ (codes " left out " ++ (count ++ (codes " " ++ (words ++ codes "\n")))) ≡ line (ms ++ codes " left out " ++ count ++ codes " " ++ words-is)
+left_out_pieces ms count words words-is e = rw e (simp append_assoc)
 
 pub refused_pieces : (code why why-is : List ℕ) → why ≡ why-is → codes "refused " ++ (code ++ (codes ": " ++ why)) ≡ codes "refused " ++ code ++ codes ": " ++ why-is
 refused_pieces code why why-is e = rw e (simp append_assoc)

@@ -11,9 +11,11 @@ use Rattle.osc_model.specs.declared.step.Entry.{Entry}
 use Rattle.osc_model.specs.declared.step.RefusedRequest.{RefusedRequest}
 use Rattle.osc_options.specs.{read_request}
 use Rattle.osc_log.specs.Code.{code_text}
+use Rattle.osc_log.specs.Kinds.{kind_level, kind_words}
 use Rattle.osc_log.specs.Line.{begun_members, object_line}
 use Rattle.osc_log.specs.Turns.{Telling, Turn, code_in}
 use Rattle.osc_log.specs.Words.{method_text, path_text, peer_text, why_words}
+use Rattle.osc_log.specs.declared.kind.Kind.{Kind}
 
 -- "level", "peer" and "time"
 abbrev pub to_peer : List ℕ → List ℕ → Peer → Members
@@ -54,6 +56,7 @@ what_members telling datagram None None = with_code (code_in datagram.bytes) (to
 abbrev pub line_text : Telling → Turn → Datagram → List ℕ
 line_text telling turn datagram = object_line (what_members telling datagram turn.step.notes.refused turn.step.notes.served)
 
--- "left_out": how many refusals were
-abbrev pub left_out_text : List ℕ → ℕ → List ℕ
-left_out_text time count = object_line (put (codes "left_out") (number (unsigned count)) (begun_members time (codes "refused")))
+-- "left_out": how many lines were, and "what": of which kind
+abbrev pub left_out_text : List ℕ → Kind → ℕ → List ℕ
+left_out_text time kind count =
+    object_line (put (codes "what") (string (kind_words kind)) (put (codes "left_out") (number (unsigned count)) (begun_members time (kind_level kind))))

@@ -8,15 +8,18 @@ pub mod Holders
 pub mod Text
 pub mod Json
 pub mod Counters
-pub mod Refusals
+pub mod Kinds
+pub mod Limits
 pub mod Faults
 pub mod Sent
 pub mod Log
+pub mod Served
 pub mod Inner
 pub use Counters.{after_turn, are_due, counted_text, with_lost, with_turn}
 pub use Faults.{IsUnreadText, fault_text, lost_text, unsaid_text, untold_text}
 pub use Holders.{IsTokenId, Learns, token_of}
 pub use Log.{Event, Says, SaysOf, Tells, Told, Writes, counted_by, lost, missed, told, turned, unseen, untold}
+pub use Served.{AreStrangers, IsTold, Serves, lines_of}
 pub use Time.{IsTime}
 pub use Sent.{line_text, seen_after, turn_text}
 pub use Turns.{Turn}

@@ -5,7 +5,7 @@ use Rattle.osc_model.specs.declared.node.Moment.{Moment}
 use Rattle.osc_log.specs.Counters.{after_turn, no_counters, with_lost}
 use Rattle.osc_log.specs.Faults.{lost_text, untold_text}
 use Rattle.osc_log.specs.Holders.{Learns}
-use Rattle.osc_log.specs.Refusals.{no_refusals}
+use Rattle.osc_log.specs.Limits.{none_told}
 use Rattle.osc_log.specs.Time.{IsTime}
 use Rattle.osc_log.specs.Sent.{seen_after, turn_text}
 use Rattle.osc_log.specs.Turns.{Turn}
@@ -27,7 +27,7 @@ pub data Event : Type 0 where
 
 -- nothing was seen yet
 abbrev pub nothing_seen : Seen
-nothing_seen = record { refusals = no_refusals; counters = no_counters; holders = [] }
+nothing_seen = record { limits = none_told 0; counters = no_counters; holders = [] }
 
 -- what is said of an event by a log that has seen this much, and what it has seen then. There may be no memory for the lines of a turn.
 pub data SaysOf (form : Form) (seen : Seen) : Event → List ℕ → Seen → Type 0 where

@@ -10,8 +10,10 @@ use Rattle.osc_model.specs.declared.step.Entry.{Entry}
 use Rattle.osc_model.specs.declared.step.RefusedRequest.{RefusedRequest}
 use Rattle.osc_options.specs.{read_request}
 use Rattle.osc_log.specs.Code.{code_text, line}
+use Rattle.osc_log.specs.Kinds.{kind_words}
 use Rattle.osc_log.specs.Turns.{Turn, code_in}
 use Rattle.osc_log.specs.Words.{code_words, method_text, path_text, peer_text, reason_words}
+use Rattle.osc_log.specs.declared.kind.Kind.{Kind}
 
 -- WHY (NUMBER), or WHY where the code tells it
 abbrev pub why_text : Code → Option ℕ → List ℕ
@@ -45,6 +47,6 @@ who_text now peer = decimal now.ms ++ codes " " ++ peer_text peer ++ codes " "
 abbrev pub line_text : Turn → Datagram → List ℕ
 line_text turn datagram = line (who_text turn.now datagram.to ++ what_text turn.step.notes.refused turn.step.notes.served datagram.bytes)
 
--- MOMENT left out N refusals
-abbrev pub left_out_text : Moment → ℕ → List ℕ
-left_out_text now count = line (decimal now.ms ++ codes " left out " ++ decimal count ++ codes " refusals")
+-- MOMENT left out N KIND
+abbrev pub left_out_text : Moment → Kind → ℕ → List ℕ
+left_out_text now kind count = line (decimal now.ms ++ codes " left out " ++ decimal count ++ codes " " ++ kind_words kind)

@@ -6,6 +6,7 @@ ghost use Rattle.osc_log.specs.Json as spec;
 ghost use Rattle.osc_log.specs.Turns.{code_in as code_of};
 
 use crate::code::CodeText;
+use crate::kind::Kind;
 use crate::object::Object;
 use crate::turn::{Telling, Turn};
 use crate::words::{method_text, path_text, peer_text, why_words};
@@ -138,11 +139,17 @@ fn with_reason(alloc: Global, o: Object, reason: Option<u8>) -> Result<Object, A
     }
 }
 
-/// The object of how many refusals were left out.
-pub(crate) fn left_out_text(alloc: Global, time: &str, count: u64) -> Result<Vec<u8>, AllocError>
-    ensures { IfOk result (λ text. text.items ≡ spec.left_out_text time.now count) }
+/// The object of how many lines of a kind were left out.
+pub(crate) fn left_out_text(
+    alloc: Global,
+    time: &str,
+    kind: Kind,
+    count: u64,
+) -> Result<Vec<u8>, AllocError>
+    ensures { IfOk result (λ text. text.items ≡ spec.left_out_text time.now kind count) }
 {
-    Object::begun(alloc, time, "refused")?
+    Object::begun(alloc, time, kind.level())?
         .with_number(alloc, "left_out", count)?
+        .with_text(alloc, "what", kind.words())?
         .line(alloc)
 }

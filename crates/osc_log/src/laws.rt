@@ -1,10 +1,24 @@
 //! Laws of the definitions, for the crates above. These functions do nothing: whoever calls one has its clauses for a proof.
 
-ghost use Rattle.std.specs.Prelude.{List, [], ◌++◌};
-ghost use Rattle.osc_log.specs.Log.{Event, Tells, Told as AnyLog};
+ghost use Rattle.std.specs.Prelude.{◌≡◌, ℕ, List, [], ◌∷◌, ◌++◌};
+ghost use Rattle.osc_log.specs.Log.{Event, Says, Tells, Told as AnyLog, turned};
+ghost use Rattle.osc_log.specs.Served.{AreStrangers, IsTold, Serves};
+ghost use Rattle.osc_log.specs.Turns.{Turn as AnyTurn};
+ghost use Rattle.osc_log.specs.declared.form.Form.{Form as AnyForm};
+ghost use Rattle.osc_log.specs.declared.held.Held.{Held as AnyHeld};
+ghost use Rattle.osc_log.specs.declared.seen.Seen.{Seen as AnySeen};
 
 /// What a log told of some events and then of more, it told of all of them.
 pub fn telling_goes_on()
     ensures none { (log : AnyLog) → Tells log log [] }
     ensures more { (first between last : AnyLog) (some more : List Event) → Tells first between some → Tells between last more → Tells first last (some ++ more) }
+{}
+
+/// The lines of what is served stand in what a log said, whatever it was told before, and however much: each datagram of such a turn has its line, unless
+/// there was no memory for it. Strangers don't change what it says, which is by whom posts have made contexts.
+pub fn what_is_served_is_told()
+    ensures told { (form : AnyForm) (first last : AnySeen) (before after : List Event) (turn : AnyTurn) (held : AnyHeld) (text : List ℕ)
+        → Serves turn → Says form first (before ++ turned turn held ∷ after) text last → IsTold form first before turn text }
+    ensures strangers { (form : AnyForm) (first last : AnySeen) (events : List Event) (text : List ℕ)
+        → AreStrangers events → Says form first events text last → last.holders ≡ first.holders }
 {}

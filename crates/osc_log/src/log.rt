@@ -24,7 +24,7 @@ pub trait Log {
     ghost told: { Self → Told };
 
     /// Tells of a turn of this node, by a line for each datagram that it sent, and by one of counters where these are due; or, by one line,
-    /// that there was no memory for them. It may leave lines of refusals out where there are many. What can't be written is nobody's failure.
+    /// that there was no memory for them. It may leave lines out where there are many of their kind, but none of what was served. What can't be written is nobody's failure.
     fn turn<N: Holds>(&mut self, alloc: Global, turn: &Turn<'_>, node: &N)
         ensures { spec.Tells (told self.old) (told self.new) (spec.turned turn.entry.now (N.held node.now) ∷ []) };
 
@@ -88,9 +88,10 @@ impl<W: Write + Drop> Log for Faults<W> {
     }
 }
 
-/// Tells by lines of one form. Of the refusals of one second the first 20 are told, and the others counted: how many they were is told by a
-/// line of its own, before the next line of a later second. Each hour a line has counters of all turns so far. Lines that can't be written are
-/// counted too, and told of once something can be written again.
+/// Tells by lines of one form. What is served has its line each time. Of other lines the first 20 of each kind in one second are told, and the
+/// others counted: how many they were is told by a line for each kind, before the next line of a later second. The kinds are refusals for which
+/// no security context was found, refusals of requests whose context was found, and what else was sent. Each hour a line has counters of all turns
+/// so far. Lines that can't be written are counted too, and told of once something can be written again.
 #[derive(Drop)]
 pub struct Lines<W: Write + Drop> {
     form: Form,

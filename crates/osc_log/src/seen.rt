@@ -4,14 +4,14 @@ ghost use Rattle.osc_log.specs.Log.{nothing_seen};
 
 use crate::counters::Counters;
 use crate::holders::Holders;
-use crate::refusals::Refusals;
+use crate::limits::Limits;
 use std::alloc::Global;
 
 /// What a log of lines has seen.
 #[derive(Drop)]
 pub(crate) struct Seen {
-    /// The refusals of the newest second.
-    pub refusals: Refusals,
+    /// The lines of the newest second, by their kind.
+    pub limits: Limits,
     /// What was counted.
     pub counters: Counters,
     /// Whose token made which context.
@@ -24,7 +24,7 @@ impl Seen {
         ensures { result ≡ nothing_seen }
     {
         Seen {
-            refusals: Refusals::none(),
+            limits: Limits::none(0),
             counters: Counters::none(),
             holders: Holders::new(alloc),
         }

@@ -4,6 +4,7 @@ ghost use Rattle.osc_options.specs.{read_request};
 ghost use Rattle.osc_log.specs.Text as spec;
 
 use crate::code::CodeText;
+use crate::kind::Kind;
 use crate::turn::Turn;
 use crate::words::{code_words, method_text, path_text, peer_text, reason_words};
 use osc_model::{Code, Datagram, Entry, Moment, Peer, RefusedRequest, Request};
@@ -121,17 +122,23 @@ fn why_text(alloc: Global, why: Code, reason: Option<u8>) -> Result<String, Allo
 
 // ---- what was left out
 
-/// `MOMENT left out N refusals`.
-pub(crate) fn left_out_text(alloc: Global, now: Moment, count: u64) -> Result<Vec<u8>, AllocError>
-    ensures { IfOk result (λ text. text.items ≡ spec.left_out_text now count) }
+/// `MOMENT left out N KIND`.
+pub(crate) fn left_out_text(
+    alloc: Global,
+    now: Moment,
+    kind: Kind,
+    count: u64,
+) -> Result<Vec<u8>, AllocError>
+    ensures { IfOk result (λ text. text.items ≡ spec.left_out_text now kind count) }
 {
-    let line = left_out_line(alloc, now, count)?;
+    let line = left_out_line(alloc, now, kind, count)?;
     Vec::from_slice(alloc, line.as_bytes())
 }
 
-fn left_out_line(alloc: Global, now: Moment, count: u64) -> Result<String, AllocError>
-    ensures { IfOk result (λ text. string_bytes text ≡ spec.left_out_text now count) }
+fn left_out_line(alloc: Global, now: Moment, kind: Kind, count: u64) -> Result<String, AllocError>
+    ensures { IfOk result (λ text. string_bytes text ≡ spec.left_out_text now kind count) }
 {
     let ms = now.ms;
-    format!(in alloc; "{ms} left out {count} refusals\n")
+    let words = kind.words();
+    format!(in alloc; "{ms} left out {count} {words}\n")
 }

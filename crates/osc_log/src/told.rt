@@ -1,7 +1,7 @@
-//! What is told of a turn: its lines, but for some refusals where there are many, and counters where they are due.
+//! What is told of a turn: its lines, but for some lines where there are many of their kind, and counters where they are due.
 ghost use Rattle.std.specs.Prelude.{◌≡◌, ◌++◌, IfOk, List, OnErr, OnOk, ℕ};
 ghost use Rattle.osc_log.specs.Holders.{Learns};
-ghost use Rattle.osc_log.specs.Refusals.{after_line};
+ghost use Rattle.osc_log.specs.Limits.{after_line};
 ghost use Rattle.osc_log.specs.Time.{IsTime};
 ghost use Rattle.osc_log.specs.Sent as spec;
 ghost use Rattle.osc_log.specs.declared.holders.Holder.{Holder as AnyHolder};
@@ -9,7 +9,8 @@ ghost use Rattle.osc_log.specs.declared.holders.Holder.{Holder as AnyHolder};
 use crate::counting::hourly_text;
 use crate::form::Form;
 use crate::held::Holds;
-use crate::refusals::Refusals;
+use crate::kind::Kind;
+use crate::limits::{Limits, Tally};
 use crate::seen::Seen;
 use crate::time::time_text;
 use crate::turn::{Telling, Turn};
@@ -28,12 +29,12 @@ pub(crate) fn told_text<N: Holds>(
     ensures ok { IfOk result (λ told. (time : List ℕ) × (holders : List AnyHolder) × IsTime turn.entry.now.now time
         × Learns turn.entry.now.step.notes seen.old.holders holders
         × (told.items ≡ spec.turn_text form time seen.old turn.entry.now (N.held node.now))
-        × (seen.new ≡ record { refusals = spec.after_lines turn.entry.now seen.old.refusals turn.entry.now.step.out; counters = seen.old.counters; holders = holders })) }
+        × (seen.new ≡ record { limits = spec.after_lines turn.entry.now seen.old.limits turn.entry.now.step.out; counters = seen.old.counters; holders = holders })) }
     ensures err { OnErr result (seen.new ≡ seen.old) }
 {
     let text = text_of(alloc, form, turn, node, seen)?;
     seen.holders.learn(alloc, turn.notes())?;
-    seen.refusals = after_lines(turn, seen.refusals);
+    seen.limits = after_lines(turn, seen.limits);
     Ok(text)
 }
 
@@ -67,7 +68,7 @@ fn text_at<N: Holds>(
         time,
         token: seen.holders.token_served(turn.served()),
     };
-    let mut text = told_by(alloc, &telling, turn, seen.refusals)?;
+    let mut text = told_by(alloc, &telling, turn, seen.limits)?;
     add(
         &mut text,
         &hourly_text(alloc, &telling, turn, seen.counters, node)?,
@@ -86,12 +87,12 @@ fn told_by(
     alloc: Global,
     telling: &Telling<'_>,
     turn: &Turn<'_>,
-    refusals: Refusals,
+    limits: Limits,
 ) -> Result<Vec<u8>, AllocError>
-    ensures { IfOk result (λ told. told.items ≡ spec.told_by telling.entry.now turn.entry.now refusals turn.entry.now.step.out) }
+    ensures { IfOk result (λ told. told.items ≡ spec.told_by telling.entry.now turn.entry.now limits turn.entry.now.step.out) }
 {
     let mut text = Vec::new(alloc);
-    let mut counted = refusals;
+    let mut counted = limits;
     for datagram in turn.sent() {
         add(
             &mut text,
@@ -102,31 +103,31 @@ fn told_by(
     Ok(text)
 }
 
-// The refusals after the lines of a turn.
-fn after_lines(turn: &Turn<'_>, refusals: Refusals) -> Refusals
-    ensures { result ≡ spec.after_lines turn.entry.now refusals turn.entry.now.step.out }
+// How many lines of each kind were told and left out after those of a turn.
+fn after_lines(turn: &Turn<'_>, limits: Limits) -> Limits
+    ensures { result ≡ spec.after_lines turn.entry.now limits turn.entry.now.step.out }
 {
-    let mut counted = refusals;
+    let mut counted = limits;
     for _datagram in turn.sent() {
         counted = counted.after_line(turn);
     }
     counted
 }
 
-// What is told of a datagram that a turn sent: how many refusals were left out before, if it is time to tell, and its line, if that isn't left out.
+// What is told of a datagram that a turn sent: how many lines were left out before, if it is time to tell, and its line, if that isn't left out.
 fn told_of(
     alloc: Global,
     telling: &Telling<'_>,
     turn: &Turn<'_>,
-    refusals: Refusals,
+    limits: Limits,
     datagram: &Datagram,
 ) -> Result<Vec<u8>, AllocError>
-    ensures { IfOk result (λ text. text.items ≡ spec.told_of telling.entry.now turn.entry.now refusals datagram.now) }
+    ensures { IfOk result (λ text. text.items ≡ spec.told_of telling.entry.now turn.entry.now limits datagram.now) }
 {
-    let mut text = ended_text(alloc, telling, turn.moment(), refusals)?;
+    let mut text = ended_text(alloc, telling, turn.moment(), limits)?;
     add(
         &mut text,
-        &line_told(alloc, telling, turn, refusals, datagram)?,
+        &line_told(alloc, telling, turn, limits, datagram)?,
     )?;
     Ok(text)
 }
@@ -136,12 +137,12 @@ fn line_told(
     alloc: Global,
     telling: &Telling<'_>,
     turn: &Turn<'_>,
-    refusals: Refusals,
+    limits: Limits,
     datagram: &Datagram,
 ) -> Result<Vec<u8>, AllocError>
-    ensures { IfOk result (λ text. text.items ≡ spec.line_told telling.entry.now turn.entry.now datagram.now refusals) }
+    ensures { IfOk result (λ text. text.items ≡ spec.line_told telling.entry.now turn.entry.now datagram.now limits) }
 {
-    if refusals.at(turn.moment()).tell(turn.refused()) {
+    if limits.at(turn.moment()).tell(Kind::of(turn)) {
         line_text(alloc, telling, turn, datagram)
     } else {
         Ok(Vec::new(alloc))
@@ -162,31 +163,74 @@ fn line_text(
     }
 }
 
-// How many refusals were left out, where a new second begins.
+// How many lines were left out, where a new second begins.
 fn ended_text(
     alloc: Global,
     telling: &Telling<'_>,
     now: Moment,
-    refusals: Refusals,
+    limits: Limits,
 ) -> Result<Vec<u8>, AllocError>
-    ensures { IfOk result (λ text. text.items ≡ spec.ended_text telling.entry.now now refusals) }
+    ensures { IfOk result (λ text. text.items ≡ spec.ended_text telling.entry.now now limits) }
 {
-    if now.ms / 1000 == refusals.second || refusals.left_out == 0 {
+    if now.ms / 1000 == limits.second {
         return Ok(Vec::new(alloc));
     }
-    left_out_text(alloc, telling, now, refusals.left_out)
+    all_left_out(alloc, telling, now, limits)
+}
+
+fn all_left_out(
+    alloc: Global,
+    telling: &Telling<'_>,
+    now: Moment,
+    limits: Limits,
+) -> Result<Vec<u8>, AllocError>
+    ensures { IfOk result (λ text. text.items ≡ spec.all_left_out telling.entry.now now limits) }
+{
+    let mut text = left_out_of(alloc, telling, now, Kind::NoContext, limits.no_context)?;
+    add(
+        &mut text,
+        &left_out_of(
+            alloc,
+            telling,
+            now,
+            Kind::UnderContext,
+            limits.under_context,
+        )?,
+    )?;
+    add(
+        &mut text,
+        &left_out_of(alloc, telling, now, Kind::Sent, limits.sent)?,
+    )?;
+    Ok(text)
+}
+
+// How many lines of this kind were left out, where any was.
+fn left_out_of(
+    alloc: Global,
+    telling: &Telling<'_>,
+    now: Moment,
+    kind: Kind,
+    tally: Tally,
+) -> Result<Vec<u8>, AllocError>
+    ensures { IfOk result (λ text. text.items ≡ spec.left_out_of telling.entry.now now kind tally) }
+{
+    if tally.left_out == 0 {
+        return Ok(Vec::new(alloc));
+    }
+    left_out_text(alloc, telling, now, kind, tally.left_out)
 }
 
 fn left_out_text(
     alloc: Global,
     telling: &Telling<'_>,
     now: Moment,
+    kind: Kind,
     count: u64,
 ) -> Result<Vec<u8>, AllocError>
-    ensures { IfOk result (λ text. text.items ≡ spec.left_out_by telling.entry.now.form telling.entry.now.time now count) }
+    ensures { IfOk result (λ text. text.items ≡ spec.left_out_by telling.entry.now.form telling.entry.now.time now kind count) }
 {
     match telling.form() {
-        Form::Text => text::left_out_text(alloc, now, count),
-        Form::Json => json::left_out_text(alloc, telling.time(), count),
+        Form::Text => text::left_out_text(alloc, now, kind, count),
+        Form::Json => json::left_out_text(alloc, telling.time(), kind, count),
     }
 }

@@ -4,7 +4,7 @@ use Rattle.osc_log.proofs.Sent.{counts_next, counts_last}
 use Rattle.osc_log.proofs.told.after_lines.Goals as goal
 
 pub loop-datagram-init : goal.loop-datagram-init
-loop-datagram-init c = ap (λ all. after_lines c.args.turn.now c.args.refusals (drop 0 all)) c.sent-datagram-items.ensures
+loop-datagram-init c = ap (λ all. after_lines c.args.turn.now c.args.limits (drop 0 all)) c.sent-datagram-items.ensures
 
 pub loop-datagram-preserved : goal.loop-datagram-preserved
 loop-datagram-preserved c =

@@ -8,8 +8,8 @@ loop-datagram-init c =
     let telling = c.args.telling.now in
     let turn = c.args.turn.now in
     let out = c.sent-datagram-items in
-    ap (λ text. text ++ told_by telling turn c.args.refusals (drop 0 out.result.now)) c.new-text.ensures.items
-    ∙ ap (λ all. told_by telling turn c.args.refusals (drop 0 all)) out.ensures
+    ap (λ text. text ++ told_by telling turn c.args.limits (drop 0 out.result.now)) c.new-text.ensures.items
+    ∙ ap (λ all. told_by telling turn c.args.limits (drop 0 all)) out.ensures
 
 pub loop-datagram-preserved : goal.loop-datagram-preserved
 loop-datagram-preserved c =
