@@ -1,4 +1,5 @@
 pub mod Addresses
+pub mod Few
 pub mod Hexadecimal
 pub mod Keys
 pub mod Listed
@@ -6,3 +7,4 @@ pub mod NoSettings
 pub mod Parts
 pub mod Spelled
 pub mod Resources
+pub mod Ids

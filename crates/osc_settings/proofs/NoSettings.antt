@@ -1,7 +1,7 @@
 -- A document that is at fault stands for no settings.
-use Rattle.std.proofs.Common.{◌≡◌, ◌≢◌, ℕ, zero, suc, List, [], ◌∷◌, Option, Some, None, refl, inl, inr, sym, ◌∙◌, subst}
-use Rattle.toml.specs.Data.{Data, Items, Members, no_items, item, array, get_member}
-use Rattle.osc_settings.specs.{IsPortAt, IsSecondsAt, ListedAt, MayBeSecondsAt, MaySpellAt, SpelledAt, StandForEach, other_key, IsArrayAt, IsClientFault, IsFaultAt, IsFaultOfProxy, IsFirstFault, IsItemFault, IsKeyFault, IsOriginFault, IsOther, IsServerFault, IsTargetFault, IsTextAt, IsWrongAt, name_of, AreClientSettings, AreProxySettings, AreServerSettings, IsOrigin, IsPathText, IsTarget, IsTargetTable, client_keys, proxy_keys, server_keys, target_keys, IsAddress, IsFileName, IsHost, IsOpenAddress, IsRevocationPath, SpellsBytes, SpellsHex}
+use Rattle.std.proofs.Common.{◌≡◌, ◌≢◌, ℕ, Bool, zero, suc, List, [], ◌∷◌, Option, Some, None, refl, inl, inr, sym, ◌∙◌, subst}
+use Rattle.toml.specs.Data.{Data, Items, Members, no_items, item, array, string, get_member}
+use Rattle.osc_settings.specs.{IsBooleanAt, IsPortAt, IsSecondsAt, ListedAt, MayBeSecondsAt, MaySpellAt, SpelledAt, StandForEach, other_key, IsArrayAt, IsClientFault, IsFaultAt, IsFaultOfProxy, IsFirstFault, IsItemFault, IsKeyFault, IsOriginFault, IsOther, IsRevokedIdsFault, IsServerFault, IsTargetFault, IsTextAt, IsWrongAt, name_of, AreClientSettings, AreProxySettings, AreRevokedIds, AreRevokedIdsAt, AreServerSettings, IsOrigin, IsPathText, IsSubtrees, IsTarget, IsTargetTable, client_keys, proxy_keys, server_keys, target_keys, IsAddress, IsFileName, IsHost, IsOpenAddress, IsRevocationPath, SpellsBytes, SpellsHex}
 use Rattle.osc_settings.specs.declared.client.ClientSettings.{ClientSettings}
 use Rattle.osc_settings.specs.declared.error.KeyFault.{KeyFault}
 use Rattle.osc_settings.specs.declared.error.SettingsError.{SettingsError}
@@ -53,6 +53,30 @@ no_seconds : (key : SettingsKey) (document : Members) (fault : KeyFault) (o : Op
 no_seconds key document fault None h a = some_there (get_member (name_of key) document) h.0 a
 no_seconds key document fault (Some seconds) h a = h.1 seconds a
 
+one_text : (found : Option Data) (text other : List ℕ) → found ≡ Some (string text) → found ≡ Some (string other) → other ≡ text
+one_text found text other e f = cc
+
+-- a revocation path is its text, so there is one at most
+one_root : (document : Members) (a b : List ℕ) → SpelledAt (name_of key.Revoked) IsRevocationPath document a → SpelledAt (name_of key.Revoked) IsRevocationPath document b → a ≡ b
+one_root document a b h k = h.2.0 ∙ (sym (one_text (get_member (name_of key.Revoked) document) h.0 k.0 h.1 k.1) ∙ sym k.2.0)
+
+no_ids : (document : Members) (fault : KeyFault) (root : Option (List ℕ)) (ids : List (List ℕ))
+    → IsRevokedIdsFault document fault → MaySpellAt (name_of key.Revoked) IsRevocationPath document root → AreRevokedIds root document ids → ⊥
+no_ids document fault None ids h r a = elim h [
+  | inl rootless ↦ some_there (get_member (name_of key.RevokedIds) document) rootless.1 a.0
+  | inr rooted ↦ there_not (get_member (name_of key.Revoked) document) _ rooted.1.1 r
+]
+no_ids document fault (Some root) ids h r a = elim h [
+  | inl rootless ↦ there_not (get_member (name_of key.Revoked) document) _ r.1 rootless.0
+  | inr rooted ↦ elim a [
+    | inl there ↦ rooted.2.1 ids (subst (λ path. AreRevokedIdsAt path (name_of key.RevokedIds) document ids) (one_root document root rooted.0 r rooted.1) there)
+    | inr out ↦ some_there (get_member (name_of key.RevokedIds) document) rooted.2.0 out.0
+  ]
+]
+
+no_subtrees : (document : Members) (fault : KeyFault) (may : Bool) → IsWrongAt key.Subtrees IsBooleanAt document fault → IsSubtrees document may → ⊥
+no_subtrees document fault may h a = elim a [ inl there ↦ h.1 may there | inr out ↦ some_there (get_member (name_of key.Subtrees) document) h.0 out.0 ]
+
 server_fault : (document : Members) (fault : KeyFault) (s : ServerSettings) → IsServerFault document fault → AreServerSettings document s → ⊥
 server_fault document fault s h a = elim h [
   | inl other ↦ no_other server_keys document fault other a.keys
@@ -69,12 +93,21 @@ server_fault document fault s h a = elim h [
             | inr listed ↦ elim listed.1 [
               | inl revoked ↦ no_may key.Revoked IsRevocationPath document fault s.revoked revoked a.revoked
               | inr taken ↦ elim taken.1 [
-                | inl seconds ↦ no_seconds key.ContextSeconds document fault s.context_seconds seconds a.context_seconds
-                | inr timed ↦ elim timed.1 [
-                  | inl store ↦ no_may key.Store IsFileName document fault s.store store a.store
-                  | inr kept ↦ elim a.resources [
-                    | inl there ↦ kept.1.1 s.resources.items there
-                    | inr out ↦ some_there (get_member (name_of key.Resource) document) kept.1.0 out.0
+                | inl ids ↦ no_ids document fault s.revoked s.revoked_ids.items ids a.revoked a.revoked_ids
+                | inr gone ↦ elim gone.1 [
+                  | inl seconds ↦ no_seconds key.ContextSeconds document fault s.context_seconds seconds a.context_seconds
+                  | inr timed ↦ elim timed.1 [
+                    | inl reserved ↦ no_may key.ReservedId (SpellsBytes 0 64) document fault s.reserved_id reserved a.reserved_id
+                    | inr placed ↦ elim placed.1 [
+                      | inl subtrees ↦ no_subtrees document fault s.subtrees subtrees a.subtrees
+                      | inr reached ↦ elim reached.1 [
+                        | inl store ↦ no_may key.Store IsFileName document fault s.store store a.store
+                        | inr kept ↦ elim a.resources [
+                          | inl there ↦ kept.1.1 s.resources.items there
+                          | inr out ↦ some_there (get_member (name_of key.Resource) document) kept.1.0 out.0
+                        ]
+                      ]
+                    ]
                   ]
                 ]
               ]

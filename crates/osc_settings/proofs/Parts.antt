@@ -1,10 +1,10 @@
 -- What is at fault in a part is at fault in the whole.
-use Rattle.std.proofs.Common.{◌≡◌, ◌≢◌, ◌⊎◌, ℕ, true, Option, Some, None, Result, Ok, Err, List, refl, sym, subst, inl, inr, IfErr, MatchResult}
+use Rattle.std.proofs.Common.{◌≡◌, ◌≢◌, ◌⊎◌, ℕ, Bool, true, Option, Some, None, Result, Ok, Err, List, refl, sym, subst, inl, inr, IfErr, MatchResult}
 use Rattle.std.specs.Option.{IsSomeAnd, is_some}
 use Rattle.toml.specs.Data.{Members, get_member}
 use Rattle.toml.specs.Parse.{parse_document}
 use Rattle.osc_model.specs.declared.node.Peer.{Peer}
-use Rattle.osc_settings.specs.{IsLeftOut, IsPortAt, IsSecondsAt, MayBeSecondsAt, MaySpellAt, SpelledAt, StandsFor, other_key, IsFaultAt, IsFaultOfProxy, IsKeyFault, IsOriginFault, IsProxyFault, IsWrongAt, Lacks, name_of, IsOriginPort, IsSalt, proxy_keys, IsAddress, IsHost, SpellsBytes}
+use Rattle.osc_settings.specs.{IsBooleanAt, IsLeftOut, IsPortAt, IsSecondsAt, MayBeSecondsAt, MaySpellAt, SpelledAt, StandsFor, other_key, IsFaultAt, IsFaultOfProxy, IsKeyFault, IsOriginFault, IsProxyFault, IsWrongAt, Lacks, name_of, IsOriginPort, IsSalt, IsSubtrees, proxy_keys, IsAddress, IsHost, SpellsBytes}
 use Rattle.osc_settings.specs.Inner.Reading.{AreTargetsRefused, IsNoDocument}
 use Rattle.osc_settings.specs.declared.error.KeyFault.{KeyFault}
 use Rattle.osc_settings.specs.declared.error.SettingsError.{SettingsError}
@@ -54,6 +54,10 @@ pub seconds_found : (key : SettingsKey) (document : Members) (o : Option ℕ) �
     → ((seconds : ℕ) × IsSecondsAt (name_of key) document seconds) ⊎ IsLeftOut (name_of key) document
 seconds_found key document None h = inr h
 seconds_found key document (Some seconds) h = inl (seconds, h)
+
+pub subtrees_found : (document : Members) (may : Bool) → IsSubtrees document may
+    → ((is : Bool) × IsBooleanAt (name_of key.Subtrees) document is) ⊎ IsLeftOut (name_of key.Subtrees) document
+subtrees_found document may h = elim h [ inl there ↦ inl (may, there) | inr out ↦ inr out.0 ]
 
 -- ---- an origin
 

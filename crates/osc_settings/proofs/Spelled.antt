@@ -1,8 +1,8 @@
 -- What is at a key, and what it spells.
-use Rattle.std.proofs.Common.{◌≡◌, ℕ, ℤ, List, Option, Some, None, Result, Ok, Err, refl, sym, ap, subst, ◌∙◌, inl, inr, if◌then◌else◌, MatchResult}
+use Rattle.std.proofs.Common.{◌≡◌, ℕ, ℤ, Bool, List, Option, Some, None, Result, Ok, Err, refl, sym, ap, subst, ◌∙◌, inl, inr, if◌then◌else◌, MatchResult}
 use Rattle.std.specs.Option.{is_some, option_and_then}
-use Rattle.toml.specs.Data.{Data, Items, Members, string, integer, array, table, as_str, as_integer, as_array, as_table, get_member}
-use Rattle.osc_settings.specs.{SpelledAt, IsPathText, IsTarget, IsTargetTable, IsFaultAt, IsItemFault, IsKeyFault, IsTargetFault, IsTextAt, name_of}
+use Rattle.toml.specs.Data.{Data, Items, Members, string, integer, boolean, array, table, as_str, as_integer, as_bool, as_array, as_table, get_member}
+use Rattle.osc_settings.specs.{IsBooleanAt, SpelledAt, IsPathText, IsTarget, IsTargetTable, IsFaultAt, IsItemFault, IsKeyFault, IsTargetFault, IsTextAt, name_of}
 use Rattle.osc_settings.specs.Inner.Reading.{IsRefusal, SpellsPath, read_at, text_at, untyped_at}
 use Rattle.osc_settings.specs.declared.proxy.TargetSetting.{TargetSetting}
 use Rattle.osc_settings.specs.declared.error.KeyFault.TheVariants.{Missing, Wrong}
@@ -123,6 +123,19 @@ pub no_number_there : {X : Type 0} (key : SettingsKey) (Numbers : ℤ → X → 
     → option_and_then as_integer (get_member (name_of key) document) ≡ None → error ≡ untyped_at key document → IsKeyFault (IsFaultAt key (NumberedAt Numbers) document) error
 no_number_there key Numbers document error none is =
     untyped_as key (NumberedAt Numbers) document error is (λ x s. not_there as_integer integer (get_member (name_of key) document) (λ n. refl) none s.0 s.1)
+
+-- ---- booleans
+
+is_boolean : (d : Data) (b : Bool) → as_bool d ≡ Some b → d ≡ boolean b
+is_boolean (boolean a) b e = ap boolean cc
+is_boolean d b e = absurd cc
+
+pub boolean_there : (key : List ℕ) (document : Members) (b : Bool) → option_and_then as_bool (get_member key document) ≡ Some b → IsBooleanAt key document b
+boolean_there key document b e = there as_bool boolean (get_member key document) b is_boolean e
+
+pub no_boolean : (key : SettingsKey) (document : Members) (error : SettingsError)
+    → option_and_then as_bool (get_member (name_of key) document) ≡ None → error ≡ untyped_at key document → IsKeyFault (IsFaultAt key IsBooleanAt document) error
+no_boolean key document error none is = untyped_as key IsBooleanAt document error is (not_there as_bool boolean (get_member (name_of key) document) (λ b. refl) none)
 
 -- ---- arrays
 

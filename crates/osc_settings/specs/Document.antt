@@ -1,8 +1,8 @@
 -- What is in a document of TOML, key by key.
-use Rattle.std.specs.Prelude.{◌≡◌, ℕ, ℤ, if◌then◌else◌, List, [], ◌∷◌, Option, Some, None, IsSomeAnd}
+use Rattle.std.specs.Prelude.{◌≡◌, ℕ, ℤ, Bool, if◌then◌else◌, List, [], ◌∷◌, Option, Some, None, IsSomeAnd}
 use Rattle.std.specs.List.{list_any}
 use Rattle.std.specs.Str.{bytes_eq}
-use Rattle.toml.specs.Data.{Data, Items, Members, no_members, member, no_items, item, string, integer, array, get_member}
+use Rattle.toml.specs.Data.{Data, Items, Members, no_members, member, no_items, item, string, integer, boolean, array, get_member}
 use Rattle.toml.specs.Parse.{parse_document}
 use Rattle.osc_model.specs.declared.algorithm.Algorithm.{Algorithm}
 use Rattle.osc_settings.specs.Keys.{name_of}
@@ -47,6 +47,10 @@ IsSecondsAt key document seconds = (number : ℤ) × (get_member key document �
 abbrev pub MayBeSecondsAt : List ℕ → Members → Option ℕ → Type 0
 MayBeSecondsAt key document None = IsLeftOut key document
 MayBeSecondsAt key document (Some seconds) = IsSecondsAt key document seconds
+
+-- this boolean is at the key
+abbrev pub IsBooleanAt : List ℕ → Members → Bool → Type 0
+IsBooleanAt key document is = get_member key document ≡ Some (boolean is)
 
 -- each item stands for one of these, in this order
 abbrev pub StandForEach : {X : Type 0} → (Data → X → Type 0) → Items → List X → Type 0

@@ -4,9 +4,9 @@ use Rattle.std.specs.Prelude.{◌≡◌, ◌⊎◌, ℕ, zero, suc, true, List, 
 use Rattle.toml.specs.Data.{Data, Items, Members, no_items, item, array, table, string, get_member}
 use Rattle.toml.specs.Parse.{parse_document}
 use Rattle.osc_model.specs.declared.node.Peer.{Peer}
-use Rattle.osc_settings.specs.Document.{other_key, IsLeftOut, SpelledAt, IsAlgorithmAt, IsPortAt, IsSecondsAt, ListedAt}
+use Rattle.osc_settings.specs.Document.{other_key, IsLeftOut, SpelledAt, MaySpellAt, IsAlgorithmAt, IsBooleanAt, IsPortAt, IsSecondsAt, ListedAt}
 use Rattle.osc_settings.specs.Keys.{name_of}
-use Rattle.osc_settings.specs.Settings.{server_keys, proxy_keys, target_keys, client_keys, AreResourcesAt, IsOrigin, IsPathText, IsTargetTable}
+use Rattle.osc_settings.specs.Settings.{server_keys, proxy_keys, target_keys, client_keys, AreResourcesAt, AreRevokedIds, AreRevokedIdsAt, IsOrigin, IsPathText, IsTargetTable}
 use Rattle.osc_settings.specs.Values.{IsAddress, IsFileName, IsHost, IsOpenAddress, IsRevocationPath, SpellsHex, SpellsBytes}
 use Rattle.osc_settings.specs.declared.error.KeyFault.{KeyFault}
 use Rattle.osc_settings.specs.declared.error.KeyFault.TheVariants.{Unknown, Missing, Wrong}
@@ -51,6 +51,16 @@ MayThen {X} key Stands document Later fault =
 abbrev pub IsTextAt : List ℕ → Members → List ℕ → Type 0
 IsTextAt key document text = get_member key document ≡ Some (string text)
 
+-- ids without a revocation path lack that; with one they are to be ids whose tokens are revoked below it
+abbrev pub IsRevokedIdsFault : Members → KeyFault → Type 0
+IsRevokedIdsFault document fault =
+    (IsLeftOut (name_of key.Revoked) document × (is_some (get_member (name_of key.RevokedIds) document) ≡ true) × (fault ≡ Missing key.Revoked))
+    ⊎ ((root : List ℕ) × SpelledAt (name_of key.Revoked) IsRevocationPath document root × IsWrongAt key.RevokedIds (AreRevokedIdsAt root) document fault)
+
+abbrev pub RevokedIdsThen : Members → (KeyFault → Type 0) → KeyFault → Type 0
+RevokedIdsThen document Later fault = IsRevokedIdsFault document fault
+    ⊎ (((root : Option (List ℕ)) × (ids : List (List ℕ)) × MaySpellAt (name_of key.Revoked) IsRevocationPath document root × AreRevokedIds root document ids) × Later fault)
+
 abbrev pub IsServerFault : Members → KeyFault → Type 0
 IsServerFault document =
     OnlyThen server_keys document
@@ -60,9 +70,12 @@ IsServerFault document =
     (KeyThen key.Audience IsTextAt document
     (KeyThen key.Open (λ key. ListedAt key IsPathText) document
     (MayThen key.Revoked (λ key. SpelledAt key IsRevocationPath) document
+    (RevokedIdsThen document
     (MayThen key.ContextSeconds IsSecondsAt document
+    (MayThen key.ReservedId (λ key. SpelledAt key (SpellsBytes 0 64)) document
+    (MayThen key.Subtrees IsBooleanAt document
     (MayThen key.Store (λ key. SpelledAt key IsFileName) document
-    (IsWrongAt key.Resource AreResourcesAt document)))))))))
+    (IsWrongAt key.Resource AreResourcesAt document))))))))))))
 
 -- ---- of a proxy
 

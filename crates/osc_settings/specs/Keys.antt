@@ -1,7 +1,7 @@
 -- The keys of settings: their names, and what should be at each, in words.
 use Rattle.std.specs.Prelude.{ℕ, List, codes}
 use Rattle.osc_settings.specs.declared.key.SettingsKey.{SettingsKey}
-use Rattle.osc_settings.specs.declared.key.SettingsKey.TheVariants.{Alg, Audience, Bind, Context, ContextSeconds, Format, Hex, Host, Key, OldKey, Open, Path, Peer, Port, Resource, Revoked, Salt, Secret, Store, Target, Text, To, Token}
+use Rattle.osc_settings.specs.declared.key.SettingsKey.TheVariants.{Alg, Audience, Bind, Context, ContextSeconds, Format, Hex, Host, Key, OldKey, Open, Path, Peer, Port, ReservedId, Resource, Revoked, RevokedIds, Salt, Secret, Store, Subtrees, Target, Text, To, Token}
 
 abbrev pub name_of : SettingsKey → List ℕ
 name_of Alg = codes "alg"
@@ -18,11 +18,14 @@ name_of Open = codes "open"
 name_of Path = codes "path"
 name_of Peer = codes "peer"
 name_of Port = codes "port"
+name_of ReservedId = codes "reserved_id"
 name_of Resource = codes "resource"
 name_of Revoked = codes "revoked"
+name_of RevokedIds = codes "revoked_ids"
 name_of Salt = codes "salt"
 name_of Secret = codes "secret"
 name_of Store = codes "store"
+name_of Subtrees = codes "subtrees"
 name_of Target = codes "target"
 name_of Text = codes "text"
 name_of To = codes "to"
@@ -43,11 +46,14 @@ form_of Open = codes "an array of paths, as ['/e', '/log']"
 form_of Path = codes "a path, as '/e'"
 form_of Peer = codes "a text of an address and a port, as 127.0.0.1:5683"
 form_of Port = codes "a number from 1 to 65535"
+form_of ReservedId = codes "a text of at most 64 bytes in hexadecimal"
 form_of Resource = codes "at most 1024 tables [[resource]] of path, format where it has one, and text or hex, of at most 512 bytes"
 form_of Revoked = codes "a path of at most 4 segments, as '/revoked'"
+form_of RevokedIds = codes "an array of at most 64 ids, as ['01', '0a02'], each of at most 64 bytes in hexadecimal"
 form_of Salt = codes "a text of at most 64 bytes in hexadecimal"
 form_of Secret = codes "a text of 1 to 64 bytes in hexadecimal"
 form_of Store = codes "a text, the name of a file"
+form_of Subtrees = codes "true or false"
 form_of Target = codes "tables [[target]] of host, port and to"
 form_of Text = codes "a text"
 form_of To = codes "a text of an address and a port, as 127.0.0.1:5683"

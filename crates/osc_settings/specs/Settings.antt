@@ -1,11 +1,11 @@
 -- Which settings a document stands for, program by program. A key that isn't named here is in none of them.
-use Rattle.std.specs.Prelude.{◌≡◌, ◌⊎◌, ◌≤◌, ℕ, pos, List, [], ◌∷◌, length, Option, Some, None, codes}
+use Rattle.std.specs.Prelude.{◌≡◌, ◌⊎◌, ◌≤◌, ℕ, Bool, true, pos, List, [], ◌∷◌, length, Option, Some, None, codes}
 use Rattle.toml.specs.Data.{Data, Members, string, integer, table, get_member}
 use Rattle.osc_model.specs.{IsPath, longest_payload, most_resources}
 use Rattle.osc_model.specs.declared.algorithm.Algorithm.{Algorithm}
 use Rattle.osc_model.specs.declared.algorithm.Algorithm.TheVariants.{EightByteTag}
-use Rattle.osc_settings.specs.Document.{other_key, IsLeftOut, SpelledAt, MaySpellAt, IsAlgorithmAt, IsPortAt, MayBeSecondsAt, ListedAt}
-use Rattle.osc_settings.specs.Values.{IsAddress, IsFileName, IsHost, IsOpenAddress, IsRevocationPath, SpellsHex, SpellsBytes}
+use Rattle.osc_settings.specs.Document.{other_key, IsLeftOut, SpelledAt, MaySpellAt, IsAlgorithmAt, IsBooleanAt, IsPortAt, MayBeSecondsAt, ListedAt}
+use Rattle.osc_settings.specs.Values.{IsAddress, IsFileName, IsHost, IsIdBelow, IsOpenAddress, IsRevocationPath, SpellsHex, SpellsBytes}
 use Rattle.osc_settings.specs.declared.client.ClientSettings.{ClientSettings}
 use Rattle.osc_settings.specs.declared.key.SettingsKey.{SettingsKey}
 use Rattle.osc_settings.specs.declared.key.SettingsKey.TheVariants as key
@@ -17,7 +17,8 @@ use Rattle.osc_settings.specs.declared.server.ServerSettings.{ServerSettings}
 -- ---- of a server
 
 abbrev pub server_keys : List SettingsKey
-server_keys = key.Audience ∷ key.Bind ∷ key.ContextSeconds ∷ key.Key ∷ key.OldKey ∷ key.Open ∷ key.Resource ∷ key.Revoked ∷ key.Store ∷ []
+server_keys = key.Audience ∷ key.Bind ∷ key.ContextSeconds ∷ key.Key ∷ key.OldKey ∷ key.Open ∷ key.ReservedId ∷ key.Resource ∷ key.Revoked
+    ∷ key.RevokedIds ∷ key.Store ∷ key.Subtrees ∷ []
 
 abbrev pub resource_keys : List SettingsKey
 resource_keys = key.Format ∷ key.Hex ∷ key.Path ∷ key.Text ∷ []
@@ -61,6 +62,23 @@ AreResources document resources = AreResourcesAt (codes "resource") document res
 abbrev pub IsPathText : Data → List ℕ → Type 0
 IsPathText value path = (value ≡ string path) × IsPath path
 
+-- an id whose token is revoked below this path, as a text in hexadecimal
+abbrev pub IsRevokedId : List ℕ → Data → List ℕ → Type 0
+IsRevokedId root value id = (text : List ℕ) × (value ≡ string text) × IsIdBelow root text id
+
+-- as many as a server has places for token ids, at the key
+abbrev pub AreRevokedIdsAt : List ℕ → List ℕ → Members → List (List ℕ) → Type 0
+AreRevokedIdsAt root name document ids = ListedAt name (IsRevokedId root) document ids × (length ids ≤ 64)
+
+-- The ids that are revoked at each start; they may be left out. Without a revocation path they are.
+abbrev pub AreRevokedIds : Option (List ℕ) → Members → List (List ℕ) → Type 0
+AreRevokedIds None document ids = IsLeftOut (codes "revoked_ids") document × (ids ≡ [])
+AreRevokedIds (Some root) document ids = AreRevokedIdsAt root (codes "revoked_ids") document ids ⊎ (IsLeftOut (codes "revoked_ids") document × (ids ≡ []))
+
+-- tokens may reach what is below their paths where this is left out
+abbrev pub IsSubtrees : Members → Bool → Type 0
+IsSubtrees document may = IsBooleanAt (codes "subtrees") document may ⊎ (IsLeftOut (codes "subtrees") document × (may ≡ true))
+
 pub record AreServerSettings (document : Members) (settings : ServerSettings) : Type 0 where
   pub keys : other_key server_keys document ≡ None
   pub bind : SpelledAt (codes "bind") IsAddress document settings.bind
@@ -69,7 +87,10 @@ pub record AreServerSettings (document : Members) (settings : ServerSettings) : 
   pub audience : get_member (codes "audience") document ≡ Some (string settings.audience)
   pub open_paths : ListedAt (codes "open") IsPathText document settings.open.items
   pub revoked : MaySpellAt (codes "revoked") IsRevocationPath document settings.revoked
+  pub revoked_ids : AreRevokedIds settings.revoked document settings.revoked_ids.items
   pub context_seconds : MayBeSecondsAt (codes "context_seconds") document settings.context_seconds
+  pub reserved_id : MaySpellAt (codes "reserved_id") (SpellsBytes 0 64) document settings.reserved_id
+  pub subtrees : IsSubtrees document settings.subtrees
   pub store : MaySpellAt (codes "store") IsFileName document settings.store
   pub resources : AreResources document settings.resources.items
 

@@ -1,8 +1,8 @@
 -- What the texts and the numbers of a document spell.
-use Rattle.std.specs.Prelude.{◌≡◌, ℕ, ◌≤◌, ℤ, pos, List, ◌++◌, length, codes, decimal, Ok}
+use Rattle.std.specs.Prelude.{◌≡◌, ℕ, ◌≤◌, ℤ, pos, List, ◌++◌, length, codes, decimal, Ok, Some}
 use Rattle.std.specs.Net.Grammar.{IsDotted}
 use Rattle.hex.specs.Hex.{decode_of}
-use Rattle.osc_model.specs.{algorithm_number, segments_of, IsPath}
+use Rattle.osc_model.specs.{algorithm_number, revoked_path, segments_of, IsPath}
 use Rattle.osc_model.specs.declared.algorithm.Algorithm.{Algorithm}
 use Rattle.osc_model.specs.declared.node.Peer.{Peer}
 
@@ -48,6 +48,10 @@ IsFileName text name = (name ≡ text) × (1 ≤ length name)
 -- has at most eight
 abbrev pub IsRevocationPath : List ℕ → List ℕ → Type 0
 IsRevocationPath text path = (path ≡ text) × IsPath path × (length (segments_of path) ≤ 4)
+
+-- an id of at most 64 bytes, whose digits make a path below this one
+abbrev pub IsIdBelow : List ℕ → List ℕ → List ℕ → Type 0
+IsIdBelow root text id = SpellsBytes 0 64 text id × ((path : List ℕ) × (revoked_path root id ≡ Some path))
 
 -- an integer that is the number of a port
 abbrev pub IsPort : ℤ → ℕ → Type 0

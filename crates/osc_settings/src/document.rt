@@ -3,11 +3,11 @@ ghost use Rattle.std.specs.Prelude.{◌≡◌, IfOk, MatchResult, None, Some, fi
 ghost use Rattle.std.specs.BTreeMap.{keys as keys_of};
 ghost use Rattle.std.specs.List.{list_any};
 ghost use Rattle.std.specs.Str.{bytes_eq};
-ghost use Rattle.toml.specs.Data.{as_array, as_integer, get_member};
+ghost use Rattle.toml.specs.Data.{as_array, as_bool, as_integer, get_member};
 ghost use Rattle.toml.specs.Parse.{parse_document};
 ghost use Rattle.toml.specs.View.{items_view, table_view, view};
 ghost use Rattle.osc_settings.specs.Document as spec;
-ghost use Rattle.osc_settings.specs.Document.{IsAlgorithmAt, IsPortAt, IsSecondsAt, SpelledAt};
+ghost use Rattle.osc_settings.specs.Document.{IsAlgorithmAt, IsBooleanAt, IsPortAt, IsSecondsAt, SpelledAt};
 ghost use Rattle.osc_settings.specs.Faults.{IsFaultAt, IsKeyFault, IsOther};
 ghost use Rattle.osc_settings.specs.Keys.{name_of};
 ghost use Rattle.osc_settings.specs.Inner.Reading as reading;
@@ -109,6 +109,13 @@ fn integer_at(key: SettingsKey, table: &Table) -> Option<i64>
     ensures { result ≡ option_and_then as_integer (get_member (name_of key) (table_view table.now)) }
 {
     value_at(key, table)?.as_integer()
+}
+
+// The boolean at a key.
+fn bool_at(key: SettingsKey, table: &Table) -> Option<bool>
+    ensures { result ≡ option_and_then as_bool (get_member (name_of key) (table_view table.now)) }
+{
+    value_at(key, table)?.as_bool()
 }
 
 /// The value that was read of what is at a key.
@@ -263,6 +270,16 @@ pub(crate) fn algorithm_at(key: SettingsKey, table: &Table) -> Result<Algorithm,
 {
     match integer_at(key, table) {
         Some(number) => read_at(key, values::algorithm(number)),
+        None => Err(untyped_at(key, table)),
+    }
+}
+
+/// Whether it is so, by the boolean at a key.
+pub(crate) fn boolean_at(key: SettingsKey, table: &Table) -> Result<bool, SettingsError>
+    ensures { MatchResult result (IsBooleanAt (name_of key) (table_view table.now)) (IsKeyFault (IsFaultAt key IsBooleanAt (table_view table.now))) }
+{
+    match bool_at(key, table) {
+        Some(value) => Ok(value),
         None => Err(untyped_at(key, table)),
     }
 }

@@ -19,11 +19,14 @@ pub enum SettingsKey {
     Path,
     Peer,
     Port,
+    ReservedId,
     Resource,
     Revoked,
+    RevokedIds,
     Salt,
     Secret,
     Store,
+    Subtrees,
     Target,
     Text,
     To,
@@ -50,11 +53,14 @@ impl SettingsKey {
             SettingsKey::Path => "path",
             SettingsKey::Peer => "peer",
             SettingsKey::Port => "port",
+            SettingsKey::ReservedId => "reserved_id",
             SettingsKey::Resource => "resource",
             SettingsKey::Revoked => "revoked",
+            SettingsKey::RevokedIds => "revoked_ids",
             SettingsKey::Salt => "salt",
             SettingsKey::Secret => "secret",
             SettingsKey::Store => "store",
+            SettingsKey::Subtrees => "subtrees",
             SettingsKey::Target => "target",
             SettingsKey::Text => "text",
             SettingsKey::To => "to",
@@ -72,7 +78,7 @@ impl SettingsKey {
             SettingsKey::Bind | SettingsKey::Peer | SettingsKey::To => {
                 "a text of an address and a port, as 127.0.0.1:5683"
             }
-            SettingsKey::Context | SettingsKey::Salt => {
+            SettingsKey::Context | SettingsKey::ReservedId | SettingsKey::Salt => {
                 "a text of at most 64 bytes in hexadecimal"
             }
             SettingsKey::ContextSeconds => "a whole number of seconds, 1 to 4294967295",
@@ -86,8 +92,12 @@ impl SettingsKey {
                 "at most 1024 tables [[resource]] of path, format where it has one, and text or hex, of at most 512 bytes"
             }
             SettingsKey::Revoked => "a path of at most 4 segments, as '/revoked'",
+            SettingsKey::RevokedIds => {
+                "an array of at most 64 ids, as ['01', '0a02'], each of at most 64 bytes in hexadecimal"
+            }
             SettingsKey::Secret => "a text of 1 to 64 bytes in hexadecimal",
             SettingsKey::Store => "a text, the name of a file",
+            SettingsKey::Subtrees => "true or false",
             SettingsKey::Target => "tables [[target]] of host, port and to",
             SettingsKey::Text => "a text",
             SettingsKey::Hex | SettingsKey::Token => "a text of bytes in hexadecimal",

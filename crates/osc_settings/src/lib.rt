@@ -7,6 +7,7 @@ mod error;
 mod key;
 mod proxy;
 mod resource;
+mod revoked;
 mod server;
 mod store_file;
 mod values;

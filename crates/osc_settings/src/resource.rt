@@ -1,5 +1,6 @@
 //! The resources that a server has at first.
 ghost use Rattle.std.specs.Prelude.{MatchResult, Some, None, codes, option_map};
+ghost use Rattle.osc_model.specs.{most_resources};
 ghost use Rattle.toml.specs.View.{items_view, table_view, view};
 ghost use Rattle.osc_settings.specs.Faults.{IsFaultAt, IsKeyFault, IsWrongAt};
 ghost use Rattle.osc_settings.specs.Inner.Reading.{IsRefusal, StandForAll, StandForFew};
@@ -66,8 +67,8 @@ fn listed(alloc: Global, table: &Table) -> Result<Vec<ResourceSetting>, Settings
 
 fn few(alloc: Global, values: &[Value]) -> Result<Vec<ResourceSetting>, ValueError>
     ensures { MatchResult result
-        (λ resources. StandForFew (items_view values.now) resources.items)
-        (IsRefusal (StandForFew (items_view values.now))) }
+        (λ resources. StandForFew most_resources IsResourceTable (items_view values.now) resources.items)
+        (IsRefusal (StandForFew most_resources IsResourceTable (items_view values.now))) }
 {
     if values.len() > MOST {
         return Err(ValueError::Bad);

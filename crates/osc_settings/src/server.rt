@@ -1,40 +1,44 @@
 //! Settings of a server.
 ghost use Rattle.std.specs.Prelude.{◌≢◌, IfErr, IfOk, MatchResult, codes};
 ghost use Rattle.toml.specs.View.{items_view, table_view, view};
-ghost use Rattle.osc_settings.specs.Document.{IsSecondsAt, ListedAt, MayBeSecondsAt, MaySpellAt, SpelledAt, StandForEach, StandsFor};
+ghost use Rattle.osc_settings.specs.Document.{IsBooleanAt, IsSecondsAt, ListedAt, MayBeSecondsAt, MaySpellAt, SpelledAt, StandForEach, StandsFor};
 ghost use Rattle.osc_settings.specs.Faults.{IsFaultAt, IsKeyFault, IsServerFault, IsTextAt, IsWrongAt, Lacks};
 ghost use Rattle.osc_settings.specs.Inner.Reading.{AllListedAt, IsRefusal, StandForAll};
-ghost use Rattle.osc_settings.specs.Settings.{AreServerSettings, IsPathText};
+ghost use Rattle.osc_settings.specs.Settings.{AreServerSettings, IsPathText, IsSubtrees};
 ghost use Rattle.osc_settings.specs.Values.{IsFileName, IsRevocationPath, SpellsBytes};
 ghost use Rattle.osc_settings.specs.declared.key.SettingsKey.TheVariants as AnyKey;
 ghost use Rattle.osc_settings.specs.declared.server.ServerSettings.{ServerSettings as AnySettings};
 
 use crate::document::{
-    address_at, array_at, document, has, items_at, only, read_at, revocation_path_at, seconds_at,
-    store_file_at, text_at, untyped_at,
+    address_at, array_at, boolean_at, bytes_within_at, document, has, items_at, only, read_at,
+    revocation_path_at, seconds_at, store_file_at, text_at, untyped_at,
 };
 use crate::error::{SettingsError, ValueError};
 use crate::key::SettingsKey;
 use crate::resource::{ResourceSetting, resources};
+use crate::revoked::revoked_ids;
 use crate::store_file::StoreFile;
-use crate::values;
-use osc_model::{Path, Peer};
+use crate::values::{self, LONGEST_ID};
+use osc_model::{Bytes, Path, Peer};
 use osc_token::Audience;
 use std::alloc::Global;
 use std::fmt;
 use toml::{Table, Value};
 
 /// The keys of its settings.
-const KEYS: [SettingsKey; 9] = [
+const KEYS: [SettingsKey; 12] = [
     SettingsKey::Audience,
     SettingsKey::Bind,
     SettingsKey::ContextSeconds,
     SettingsKey::Key,
     SettingsKey::OldKey,
     SettingsKey::Open,
+    SettingsKey::ReservedId,
     SettingsKey::Resource,
     SettingsKey::Revoked,
+    SettingsKey::RevokedIds,
     SettingsKey::Store,
+    SettingsKey::Subtrees,
 ];
 
 /// What a server is told.
@@ -54,9 +58,16 @@ pub struct ServerSettings {
     pub resources: Vec<ResourceSetting>,
     /// The path below which resources revoke tokens, by the tokens' ids: `revoked`, a text of at most 4 segments. It may be left out.
     pub revoked: Option<Path>,
+    /// The ids whose tokens are revoked at each start, by a resource below that path: `revoked_ids`, an array of at most 64 texts, each of at most 64
+    /// bytes in hexadecimal. It may be left out, and is where `revoked` is.
+    pub revoked_ids: Vec<Bytes>,
     /// How many seconds after the post that made it a security context counts no more: `context_seconds`, from 1 to 4294967295. Left out: as
     /// long as its token does.
     pub context_seconds: Option<u32>,
+    /// The id of a token for which a place is kept, that of the owner: `reserved_id`, at most 64 bytes in hexadecimal. It may be left out.
+    pub reserved_id: Option<Bytes>,
+    /// Whether the scope of a token may reach what is below its paths: `subtrees`, true or false. Left out: it may.
+    pub subtrees: bool,
     /// The file of its store: `store`, the name of a file. Left out: its resources end with the process.
     pub store: Option<StoreFile>,
 }
@@ -69,12 +80,12 @@ impl fmt::Debug for ServerSettings {
 }
 
 /// Reads the settings of a server: a document with the keys `bind`, `key`, `audience` and `open`, if need be with `old_key`,
-/// `revoked`, `context_seconds`, `store` and `resource`, and with no other. A resource has the keys `path`, and `text` or `hex`, if need be `format`, and no other.
+/// `revoked`, `revoked_ids` beside it, `context_seconds`, `reserved_id`, `subtrees`, `store` and `resource`, and with no other. A resource has the keys `path`, and `text` or `hex`, if need be `format`, and no other.
 ///
 /// # Errors
 ///
 /// The first fault where the text is no such document, `bind` before `key`, `old_key`, `audience`, `open`, `revoked`,
-/// `context_seconds`, `store` and `resource`, and `Memory` for lack of memory.
+/// `revoked_ids`, `context_seconds`, `reserved_id`, `subtrees`, `store` and `resource`, and `Memory` for lack of memory.
 pub fn read_server_settings(alloc: Global, text: &str) -> Result<ServerSettings, SettingsError>
     ensures read { IfOk result (StandsFor AreServerSettings text.now) }
     ensures lacks { IfErr result (Lacks (λ document. IsKeyFault (IsServerFault document)) text.now) }
@@ -88,14 +99,24 @@ fn settings_in(alloc: Global, table: &Table) -> Result<ServerSettings, SettingsE
     ensures { MatchResult result (AreServerSettings (table_view table.now)) (IsKeyFault (IsServerFault (table_view table.now))) }
 {
     only(alloc, &KEYS, table)?;
+    let bind = address_at(alloc, SettingsKey::Bind, table, 1)?;
+    let key = array_at(SettingsKey::Key, table)?;
+    let old_key = old_key(table)?;
+    let audience = audience(alloc, table)?;
+    let open = open_paths(alloc, table)?;
+    let revoked = revoked(alloc, table)?;
+    let revoked_ids = revoked_ids(alloc, revoked.as_ref(), table)?;
     Ok(ServerSettings {
-        bind: address_at(alloc, SettingsKey::Bind, table, 1)?,
-        key: array_at(SettingsKey::Key, table)?,
-        old_key: old_key(table)?,
-        audience: audience(alloc, table)?,
-        open: open_paths(alloc, table)?,
-        revoked: revoked(alloc, table)?,
+        bind,
+        key,
+        old_key,
+        audience,
+        open,
+        revoked,
+        revoked_ids,
         context_seconds: context_seconds(table)?,
+        reserved_id: reserved_id(alloc, table)?,
+        subtrees: subtrees(table)?,
         store: store(alloc, table)?,
         resources: resources(alloc, table)?,
     })
@@ -156,6 +177,28 @@ fn context_seconds(table: &Table) -> Result<Option<u32>, SettingsError>
         Ok(Some(seconds_at(SettingsKey::ContextSeconds, table)?))
     } else {
         Ok(None)
+    }
+}
+
+fn reserved_id(alloc: Global, table: &Table) -> Result<Option<Bytes>, SettingsError>
+    ensures { MatchResult result
+        (MaySpellAt (codes "reserved_id") (SpellsBytes 0 64) (table_view table.now))
+        (IsKeyFault (IsWrongAt AnyKey.ReservedId (λ name. SpelledAt name (SpellsBytes 0 64)) (table_view table.now))) }
+{
+    if has(SettingsKey::ReservedId, table) {
+        Ok(Some(bytes_within_at(alloc, SettingsKey::ReservedId, table, 0, LONGEST_ID)?))
+    } else {
+        Ok(None)
+    }
+}
+
+fn subtrees(table: &Table) -> Result<bool, SettingsError>
+    ensures { MatchResult result (IsSubtrees (table_view table.now)) (IsKeyFault (IsWrongAt AnyKey.Subtrees IsBooleanAt (table_view table.now))) }
+{
+    if has(SettingsKey::Subtrees, table) {
+        boolean_at(SettingsKey::Subtrees, table)
+    } else {
+        Ok(true)
     }
 }
 

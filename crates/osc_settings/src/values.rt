@@ -3,17 +3,20 @@ ghost use Rattle.std.specs.Prelude.{◌≡◌, ◌==◌, ◌↔◌, length, IfOk
 ghost use Rattle.std.specs.Net.Grammar.{IsSocketV4Text};
 ghost use Rattle.std.specs.Net.Text.{socket_v4_text};
 ghost use Rattle.osc_settings.specs.Inner.Reading.{IsRefusal, SpellsPath};
-ghost use Rattle.osc_settings.specs.Values.{IsAddressFrom, IsAlgorithm, IsFileName, IsHost, IsPort, IsRevocationPath, IsSeconds, SpellsBytes, SpellsHex};
+ghost use Rattle.osc_settings.specs.Values.{IsAddressFrom, IsAlgorithm, IsFileName, IsHost, IsIdBelow, IsPort, IsRevocationPath, IsSeconds, SpellsBytes, SpellsHex};
 
 use crate::error::ValueError;
 use crate::store_file::StoreFile;
 use hex::{FromHex, FromHexError};
-use osc_model::{Algorithm, Bytes, Path, Peer};
+use osc_model::{Algorithm, Bytes, Path, Peer, revoked_path};
 use std::alloc::{AllocError, Global};
 use std::net::SocketAddrV4;
 
 /// The most segments of a revocation path: with those of a token's id it isn't too long.
 const MOST_SEGMENTS: usize = 4;
+
+/// The most bytes of a token's id.
+pub(crate) const LONGEST_ID: usize = 64;
 
 /// The most bytes of a Uri-Host option (RFC 7252 section 5.10, table 4).
 const LONGEST_HOST: usize = 255;
@@ -135,6 +138,17 @@ pub(crate) fn revocation_path(alloc: Global, text: &str) -> Result<Path, ValueEr
         return Err(ValueError::Bad);
     }
     Ok(path)
+}
+
+/// An id, whose digits make a path below this one.
+pub(crate) fn id_below(alloc: Global, root: &Path, text: &str) -> Result<Bytes, ValueError>
+    ensures { MatchResult result (IsIdBelow root.now text.now) (IsRefusal (IsIdBelow root.now text.now)) }
+{
+    let id = bytes_within(alloc, text, 0, LONGEST_ID)?;
+    match revoked_path(alloc, root, id.as_slice())? {
+        Some(_) => Ok(id),
+        None => Err(ValueError::Bad),
+    }
 }
 
 /// The port of a number.

@@ -3,11 +3,10 @@ use Rattle.std.specs.Prelude.{◌≡◌, ◌≤◌, ℕ, suc, length, if◌then�
 use Rattle.std.specs.declared.alloc.Global.{Global}
 use Rattle.toml.specs.Data.{Data, Items, Members, get_member, as_str}
 use Rattle.toml.specs.Parse.{parse_document}
-use Rattle.osc_model.specs.{IsPath, most_resources}
+use Rattle.osc_model.specs.{IsPath}
 use Rattle.osc_settings.specs.Document.{ListedAt, StandForEach}
 use Rattle.osc_settings.specs.Faults.{IsArrayAt, IsFaultAt, IsFirstFault, IsKeyFault}
 use Rattle.osc_settings.specs.Keys.{name_of}
-use Rattle.osc_settings.specs.Settings.{IsResourceTable}
 use Rattle.osc_settings.specs.declared.error.KeyFault.{KeyFault}
 use Rattle.osc_settings.specs.declared.error.KeyFault.TheVariants.{Missing, Wrong}
 use Rattle.osc_settings.specs.declared.error.SettingsError.{SettingsError}
@@ -16,7 +15,6 @@ use Rattle.osc_settings.specs.declared.error.ValueError.{ValueError}
 use Rattle.osc_settings.specs.declared.error.ValueError.TheVariants.{Bad, Memory}
 use Rattle.osc_settings.specs.declared.key.SettingsKey.{SettingsKey}
 use Rattle.osc_settings.specs.declared.key.SettingsKey.TheVariants as key
-use Rattle.osc_settings.specs.declared.resource.ResourceSetting.{ResourceSetting}
 
 -- the text is no document, or there was no memory
 abbrev pub IsNoDocument : List ℕ → SettingsError → Type 0
@@ -78,9 +76,9 @@ StandForAll Stands items xs = StandForEach Stands items xs.items
 abbrev pub AllListedAt : {X : Type 0} → List ℕ → (Data → X → Type 0) → Members → Vec X Global → Type 0
 AllListedAt key Stands document xs = ListedAt key Stands document xs.items
 
--- each item stands for one of these, and they are few
-abbrev pub StandForFew : Items → List ResourceSetting → Type 0
-StandForFew items resources = StandForEach IsResourceTable items resources × (length resources ≤ most_resources)
+-- each item stands for one of these, and they are at most so many
+abbrev pub StandForFew : {X : Type 0} → ℕ → (Data → X → Type 0) → Items → List X → Type 0
+StandForFew most Stands items xs = StandForEach Stands items xs × (length xs ≤ most)
 
 -- the text is that of the path
 abbrev pub SpellsPath : List ℕ → List ℕ → Type 0
