@@ -18,6 +18,7 @@ const char *nzf_outcome_text(int32_t outcome) {
     case NZF_LOST: return "there was no memory on the way, and a tick goes on";
     case NZF_UNVERIFIED: return "it ended without a protected answer";
     case NZF_NOT_NOW: return "the proxy has heard something already";
+    case NZF_REFUSED: return "it was answered, and refused";
     default: return "no outcome of the library";
     }
 }

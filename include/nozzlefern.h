@@ -2,16 +2,16 @@
  * client asks it, and a forward proxy passes requests on. Each is a value held by a handle. There is no socket, no clock, no generator and no thread
  * here: the caller hands in what came, when it came and random bytes, and sends what comes out.
  *
- * Calls. Each answers a number of nzf_outcome: NZF_DONE, or why not. NZF_LOST and NZF_UNVERIFIED say that something was begun. After any other number
- * than these and NZF_DONE the node is as it was before the call. NZF_BAD_ARGUMENT says that an argument is out of its range, whatever memory there
+ * Calls. Each answers a number of nzf_outcome: NZF_DONE, or why not. NZF_LOST, NZF_UNVERIFIED and NZF_REFUSED say that something was begun. After any
+ * other number than these and NZF_DONE the node is as it was before the call. NZF_BAD_ARGUMENT says that an argument is out of its range, whatever memory there
  * is: a call with such an argument never answers NZF_NO_MEMORY, but where it says so.
  *
  * Steps. What a step leaves is there until the next: the datagrams that are to be sent, and what was served, refused or learnt. So take the
  * datagrams by `next` before another step. A device's own calls (`open`, `put` and the like) leave nothing of the step before them, once
  * something was begun. A call that is refused leaves the last step as it was: look at what was served, refused or learnt only after NZF_DONE.
  *
- * Structs. One that a call reads has `size` as its first member, which is to be its sizeof: a later version of the library may know longer ones. Another
- * size is NZF_BAD_ARGUMENT. Begin with the initializer that is named after it (NZF_DEVICE_SETTINGS for nzf_device_settings), and set what differs.
+ * Structs. One that a call reads has `size` as its first member, which is to be its sizeof: a later version of the library may know longer ones, and
+ * takes the shorter ones of an earlier version for what they meant there. Another size is NZF_BAD_ARGUMENT. Begin with the initializer that is named after it (NZF_DEVICE_SETTINGS for nzf_device_settings), and set what differs.
  *
  * Pointers. None may be null, also where a length is 0 (hand in "" then; the initializers do). What they point to is not kept after the call. What is
  * written to must not overlap with anything else that is handed in.
@@ -76,7 +76,8 @@ typedef enum nzf_outcome {
     NZF_BAD_ARGUMENT = 34, /* an argument is out of its range: a size, a time, a path, a method, a format, a length */
     NZF_LOST = 35,         /* there was no memory on the way: what was begun is open, and a tick goes on with it */
     NZF_UNVERIFIED = 36,   /* what was begun ended by an unprotected answer, whose code is told, or by none in time: the code is 0 then */
-    NZF_NOT_NOW = 37       /* the proxy has heard something already */
+    NZF_NOT_NOW = 37,      /* the proxy has heard something already */
+    NZF_REFUSED = 39       /* what was asked was answered, and refused: the code is told */
 } nzf_outcome;
 
 /* An outcome in English, without a full stop; of another number that it is none. The text is the library's and stays. */
@@ -147,9 +148,10 @@ typedef struct nzf_device_settings {
     nzf_bytes unprotected;    /* the scope of what anyone may GET without protection; no bytes for nothing */
     nzf_bytes own;            /* the scope of what the device itself may do */
     nzf_bytes revoked;        /* the revocation path, of at most 4 segments; no bytes for none */
+    uint8_t no_subtrees;      /* 1: a token whose scope has +SUB is refused; else 0. RFC 9237 has FETCH for that bit. Not in the first version */
 } nzf_device_settings;
 
-#define NZF_DEVICE_SETTINGS {sizeof(nzf_device_settings), {{0}}, {{0}}, 0, 0, NZF_NO_BYTES, NZF_NO_BYTES, NZF_NO_BYTES, NZF_NO_BYTES}
+#define NZF_DEVICE_SETTINGS {sizeof(nzf_device_settings), {{0}}, {{0}}, 0, 0, NZF_NO_BYTES, NZF_NO_BYTES, NZF_NO_BYTES, NZF_NO_BYTES, 0}
 
 /* a value for a path */
 typedef struct nzf_resource {
@@ -258,7 +260,7 @@ typedef enum nzf_reason {
     NZF_REASON_AUDIENCE = 28,          /* of a post: its token is for another audience */
     NZF_REASON_BAD_CLAIMS = 29,        /* of a post: another claim of its token cannot be read */
     NZF_REASON_FIELDS = 30,            /* of a post, or of the answer to one: it is no whole map with the fields of an exchange */
-    NZF_REASON_FULL = 31,              /* of a post: 64 others have a live context */
+    NZF_REASON_FULL = 31,              /* of a post: 63 others have a live context, and a place is kept for the device's own */
     NZF_REASON_REVOKED = 38            /* of a post: its token is revoked */
 } nzf_reason;
 
@@ -293,9 +295,10 @@ typedef struct nzf_proxy { void *held; } nzf_proxy;
 
 /* Makes a device without resources. Its server takes tokens that are sealed under `key`; one that does not open under it is opened under the former
  * key, where there is one. The device's own token, of the id "device", which no other token may have, is minted here: its secret and its IV are taken
- * from the draw. A context counts until its token ends, and for at most `context_seconds`, the device's own too: then it needs `open` again. A resource
- * below the revocation path revokes the tokens of one id, as `revoke` says. Heap: some 38 KiB, for as long as it is held.
- * NZF_BAD_SCOPE where `own` is no scope, or `unprotected` is neither one nor empty. NZF_TOO_LONG where `own` and `audience` are so long that the post
+ * from the draw. A context counts until its token ends, and for at most `context_seconds`, the device's own too: then it needs `open` again. Of the 64
+ * ids that may have a context at once, one place is kept for the device's own. A resource below the revocation path revokes the tokens of one id, as
+ * `revoke` says. Heap: some 38 KiB, for as long as it is held; with a revocation path 2 KiB more, which are kept in hand for `revoke`.
+ * NZF_BAD_SCOPE where `own` is no scope, or has +SUB with `no_subtrees`, or `unprotected` is neither a scope nor empty. NZF_TOO_LONG where `own` and `audience` are so long that the post
  * of the device's token, which `open` sends, fits no datagram: together they may have some 900 bytes. NZF_BAD_ARGUMENT: the size, an audience that is
  * no UTF-8, a flag that is neither 0 nor 1, a revocation path that is none or has more than 4 segments. Also NZF_NO_MEMORY, whatever the scopes are. */
 int32_t nzf_device_new(nzf_device *device, const nzf_device_settings *settings, const nzf_draw *draw) NZF_CALL;
@@ -314,9 +317,12 @@ int32_t nzf_device_append(nzf_device *device, uint64_t now, const nzf_resource *
 int32_t nzf_device_remove(nzf_device *device, uint64_t now, const void *path, size_t path_length, const nzf_draws *draws, uint8_t *code) NZF_CALL;
 
 /* `revoke` puts an empty value at the path for this id: the revocation path, and the hexadecimal digits of the id, 32 in a segment. While it is there
- * no post of a token of this id makes a context, and no request under its contexts is served. `allow` removes what is at that path. Both are as `put`
- * and `remove`: `own` must grant PUT and DELETE there, else `code` is 4.03 or 4.05, and nothing changes. NZF_BAD_ARGUMENT where the device has no
- * revocation path, or the id is too long for it; one of at most NZF_ID_MAX bytes never is. To tell that of a longer one takes memory. Otherwise as `put`. */
+ * no post of a token of this id makes a context, and no request under its contexts is served. `allow` removes what is at that path. NZF_DONE says that
+ * it is so now: after `revoke` the tokens are revoked, and after `allow` they aren't, also where nothing was there (4.04). NZF_REFUSED says that it
+ * isn't, and `code` why: 4.03 or 4.05 where `own` doesn't grant PUT and DELETE there, 5.00 and 5.03 where memory or room ran out. After NZF_LOST call
+ * again, once `learnt` has told. NZF_BAD_ARGUMENT where the device has no revocation path, or the id is too long for it; one of at most NZF_ID_MAX bytes
+ * never is. To tell that of a longer one takes memory. Otherwise as `put`. Heap: what is stored. The 2 KiB that the device keeps in hand are given back
+ * for the call, and taken again after it, or at a later tick: so who fills the heap with resources can be revoked. */
 int32_t nzf_device_revoke(nzf_device *device, uint64_t now, const void *id, size_t id_length, const nzf_draws *draws, uint8_t *code) NZF_CALL;
 int32_t nzf_device_allow(nzf_device *device, uint64_t now, const void *id, size_t id_length, const nzf_draws *draws, uint8_t *code) NZF_CALL;
 
@@ -335,8 +341,8 @@ int32_t nzf_device_on_datagram(nzf_device *device, uint64_t now, const nzf_peer 
 int32_t nzf_device_on_tick(nzf_device *device, uint64_t now, const nzf_draw *draw) NZF_CALL;
 
 /* What the last step learnt, where it was a tick, of what `open`, `put`, `append`, `remove`, `revoke` or `allow` left open where it answered
- * NZF_LOST: NZF_DONE, or NZF_UNVERIFIED, and the code, as that call would have answered; else NZF_NOTHING: it is open still, or nothing was. It is
- * told as long as what was served is, so ask after each tick. */
+ * NZF_LOST: NZF_DONE, or NZF_UNVERIFIED, and the code, as that call would have answered; else NZF_NOTHING: it is open still, or nothing was. Of `revoke`
+ * and `allow` NZF_DONE says that it was answered, so call again. It is told as long as what was served is, so ask after each tick. */
 int32_t nzf_device_learnt(const nzf_device *device, uint8_t *code) NZF_CALL;
 
 /* The first time at which a tick does anything for the device itself: something of its own is sent again, or ends without an answer. NZF_NOTHING where

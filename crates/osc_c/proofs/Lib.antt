@@ -1,6 +1,6 @@
 pub mod LooseValues
 pub mod HandleValues
-pub mod Ids
+pub mod Settled
 pub mod Lending
 pub mod Refused
 pub mod ServedParts

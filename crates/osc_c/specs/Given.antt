@@ -1,5 +1,5 @@
 -- What calls give, as numbers and bytes.
-use Rattle.std.specs.Prelude.{ℕ, ℤ, List}
+use Rattle.std.specs.Prelude.{ℕ, ℤ, ◌==◌, if◌then◌else◌, List}
 use Rattle.osc_model.specs.Arrival.{Arrival}
 use Rattle.osc_model.specs.declared.node.Draw.{Draw}
 use Rattle.osc_model.specs.declared.node.Moment.{Moment}
@@ -17,7 +17,11 @@ use Rattle.osc_c.specs.declared.calls.plain.PlainResource.{PlainResource}
 -- ---- how many bytes a struct has that a caller fills in; its first member says so
 
 abbrev pub device_settings_size : ℕ
-device_settings_size = 112
+device_settings_size = 120
+
+-- the same of its first version, which ended before `no_subtrees`
+abbrev pub first_device_settings : ℕ
+first_device_settings = 112
 
 abbrev pub client_settings_size : ℕ
 client_settings_size = 104
@@ -114,6 +118,11 @@ pub record GivenRules : Type 0 where
   pub has_old_key : ℕ
   pub context_seconds : ℕ
   pub revoked : List ℕ
+  pub no_subtrees : ℕ
+
+-- settings of the first version say no such number: it is 0
+abbrev pub said_since : ℕ → ℕ → ℕ
+said_since size number = if size == first_device_settings then 0 else number
 
 -- what a device is made of
 pub record GivenDevice : Type 0 where
@@ -130,6 +139,7 @@ rules_given settings = record {
   has_old_key = settings.has_old_key;
   context_seconds = settings.context_seconds;
   revoked = settings.revoked.bytes.now;
+  no_subtrees = said_since settings.size settings.no_subtrees;
 }
 
 abbrev pub device_given : PlainDeviceSettings → GivenDevice

@@ -37,6 +37,6 @@ pub use Last.{LastStep, nothing}
 pub use Making.{AreParts, FitsDevice, IsNewDevice, IsNoNewDevice, IsOwnToken, rules_of}
 pub use Nodes.{ClientType, DeviceType, ProxyType}
 pub use Outcome.{number_of}
-pub use Own.{Asks, AsksBy, ComesTo, IsBegun, IsRefusal, Writing, asked_for, is_refused_by, last_after, revoked_by}
+pub use Own.{Asks, AsksBy, ComesAs, ComesTo, IsBegun, IsSoWhereDone, IsRefusal, Writing, are_revoked, asked_for, is_refused_by, is_so, last_after, revoked_by}
 pub use Plain.{draw_of, peer_of}
-pub use Told.{begun_as, learnt_as, refused_as, told_by, told_of}
+pub use Told.{begun_as, learnt_as, refused_as, settled, told_by, told_of}

@@ -1,5 +1,5 @@
 -- Devices that are made of keys, names and scopes.
-use Rattle.std.specs.Prelude.{◌≡◌, ℕ, ◌⊎◌, ◌==◌, ◌≤◌, if◌then◌else◌, List, [], ◌∷◌, length, take, drop, codes, Option, Some, None}
+use Rattle.std.specs.Prelude.{◌≡◌, ℕ, ◌⊎◌, ◌==◌, ◌≤◌, Bool, not, if◌then◌else◌, List, [], ◌∷◌, length, take, drop, codes, Option, Some, None}
 use Rattle.std.specs.Str.{IsUtf8}
 use Rattle.std.specs.FinMap as map
 use Rattle.std.specs.FinSet as set
@@ -15,7 +15,7 @@ use Rattle.osc_device.specs.declared.own_token.OwnToken.{OwnToken}
 use Rattle.osc_device.specs.declared.own_token.ServerParts.{ServerParts}
 use Rattle.osc_world.specs.declared.error.EnrollError.TheVariants as enroll
 use Rattle.osc_c.specs.Arguments.{IsUnfit}
-use Rattle.osc_c.specs.Given.{GivenDevice, GivenRules, device_settings_size}
+use Rattle.osc_c.specs.Given.{GivenDevice, GivenRules, device_settings_size, first_device_settings}
 use Rattle.osc_c.specs.Last.{nothing}
 use Rattle.osc_c.specs.Tokens.{IsNoScopeText, IsScopeOf}
 use Rattle.osc_c.specs.declared.calls.device.DeviceNode.{DeviceNode}
@@ -38,16 +38,25 @@ abbrev pub revoked_of : List ℕ → Option (List ℕ)
 revoked_of [] = None
 revoked_of (byte ∷ text) = Some (byte ∷ text)
 
+-- whether a token's scope may reach below its paths: it may, where the flag isn't 1
+abbrev pub subtrees_of : GivenRules → Bool
+subtrees_of given = not (given.no_subtrees == 1)
+
 abbrev pub rules_of : GivenRules → Rules
-rules_of given = record { old_key = old_key_of given; revoked = revoked_of given.revoked; seconds = limit_of given.context_seconds }
+rules_of given = record {
+  old_key = old_key_of given;
+  revoked = revoked_of given.revoked;
+  seconds = limit_of given.context_seconds;
+  subtrees = subtrees_of given;
+}
 
 -- an empty text, or that of a path of at most 4 segments: those of a token's id, of at most 64 bytes, are four more, and a path has at most 8
 abbrev pub IsRevocationText : List ℕ → Type 0
 IsRevocationText text = (text ≡ []) ⊎ (IsPath text × (length (segments_of text) ≤ 4))
 
--- the flag is 0 or 1, and the text says a revocation path, or none
+-- the flags are 0 or 1, and the text says a revocation path, or none
 abbrev pub AreRules : GivenRules → Type 0
-AreRules given = (given.has_old_key ≤ 1) × IsRevocationText given.revoked
+AreRules given = (given.has_old_key ≤ 1) × IsRevocationText given.revoked × (given.no_subtrees ≤ 1)
 
 -- ---- what it is made of
 
@@ -62,6 +71,7 @@ abbrev pub AreParts : GivenDevice → Rules → ServerParts → Type 0
 AreParts given rules parts =
     (parts.tree ≡ map.empty) × IsOpenScope given.free parts.open_scope × (parts.key ≡ given.key) × (parts.old_key ≡ rules.old_key)
     × (parts.audience ≡ given.audience) × (parts.revoked ≡ rules.revoked) × (parts.context_seconds ≡ rules.seconds)
+    × (parts.subtrees ≡ rules.subtrees)
 
 -- the device's own token: its secret are the first 16 bytes of the draw, and its IV the 13 after them
 abbrev pub IsOwnToken : List ℕ → List ℕ → OwnToken → Type 0
@@ -84,11 +94,16 @@ unmade_as (Token enroll.Memory) = NoMemory
 unmade_as (Token enroll.BadScope) = BadScope
 unmade_as (Token enroll.TooLong) = TooLong
 unmade_as device.TooLong = TooLong
+unmade_as device.Subtrees = BadScope
 unmade_as other = BadArgument
 
--- these numbers and bytes make a device, whatever the texts of scopes say: the size is that of the struct, the audience is UTF-8, and the rules are some
+-- the size is that of the struct, or of its first version
+abbrev pub IsDeviceSize : ℕ → Type 0
+IsDeviceSize size = (size ≡ device_settings_size) ⊎ (size ≡ first_device_settings)
+
+-- these numbers and bytes make a device, whatever the texts of scopes say: the size is one of the struct's, the audience is UTF-8, and the rules are some
 abbrev pub FitsDevice : GivenDevice → Type 0
-FitsDevice given = (given.size ≡ device_settings_size) × IsUtf8 given.audience × AreRules given.rules
+FitsDevice given = IsDeviceSize given.size × IsUtf8 given.audience × AreRules given.rules
 
 -- a text of a scope says none
 abbrev pub HasNoScope : GivenDevice → Type 0

@@ -1,6 +1,6 @@
 -- What a device does at its own server, by calls.
-use Rattle.std.specs.Prelude.{◌≡◌, ℕ, ◌<◌, ◌^◌, ◌⊎◌, Bool, true, false, if◌then◌else◌, List, [], Option, Some, None, IsSome, ⊤}
-use Rattle.osc_model.specs.{IsPath, revocation_of}
+use Rattle.std.specs.Prelude.{◌≡◌, ℕ, ◌<◌, ◌^◌, ◌⊎◌, Bool, true, false, not, if◌then◌else◌, List, [], Option, Some, None, IsSome, ⊤}
+use Rattle.osc_model.specs.{IsPath, is_revoked, revocation_of}
 use Rattle.osc_model.specs.declared.code.Method.{Method}
 use Rattle.osc_model.specs.declared.code.Method.TheVariants.{Delete}
 use Rattle.osc_model.specs.declared.node.Moment.{Moment}
@@ -13,13 +13,15 @@ use Rattle.osc_client.specs.State.{State as Own}
 use Rattle.osc_ccm.specs.{Sealings, Tags}
 use Rattle.osc_scope.specs.{Entry}
 use Rattle.osc_token.specs.declared.claims.Claims.{Claims}
-use Rattle.osc_device.specs.{IsAnsweredWhereReady, IsOpen, IsWhole, MayOpen, own_request, AskedOfServer, AsksItsServer, Carries, asked_by, AllGoOn, IsOfAnEntry, noted}
+use Rattle.osc_device.specs.{IsAnsweredWhereReady, IsOpen, IsWhole, MayOpen, MayReturn, method_of, own_request, AskedOfServer, AsksItsServer, Carries, asked_by, AllGoOn, IsOfAnEntry, noted}
 use Rattle.osc_device.specs.declared.round.Round.{Round}
+use Rattle.osc_device.specs.declared.ruling.Ruling.{Ruling}
+use Rattle.osc_device.specs.declared.ruling.Ruling.TheVariants.{Allow, Revoke}
 use Rattle.osc_c.specs.Arguments.{IsFormat, IsFormatNumber, IsUnfit}
 use Rattle.osc_c.specs.Given.{GivenId, GivenPath, GivenValue, resource_size}
 use Rattle.osc_c.specs.Last.{LastStep, nothing}
 use Rattle.osc_c.specs.Plain.{draw_of}
-use Rattle.osc_c.specs.Told.{bare, told_of}
+use Rattle.osc_c.specs.Told.{bare, settled, told_of}
 use Rattle.osc_c.specs.declared.calls.device.DeviceNode.{DeviceNode}
 use Rattle.osc_c.specs.declared.calls.outcome.Outcome.{Outcome}
 use Rattle.osc_c.specs.declared.calls.outcome.Outcome.TheVariants as outcome
@@ -43,13 +45,17 @@ IsRefusal outcome.Exhausted = ⊤
 IsRefusal outcome.TooLong = ⊤
 IsRefusal other = ⊥
 
--- It comes to a round of this kind, of which the caller is told; where nothing was begun, nothing changes. Or it takes memory, of which there was none,
--- and nothing changes.
-abbrev pub ComesTo : DeviceNode → Told → DeviceNode → Type 0 → (Round → Type 0) → Type 0
-ComesTo old told new Takes Does =
-    ((round : Round) × Does round × (told ≡ told_of round) × (new.last ≡ last_after round old.last)
+-- It comes to a round of this kind, of which the caller is told so; where nothing was begun, nothing changes. Or it takes memory, of which there was
+-- none, and nothing changes.
+abbrev pub ComesAs : (Told → Told) → DeviceNode → Told → DeviceNode → Type 0 → (Round → Type 0) → Type 0
+ComesAs as_told old told new Takes Does =
+    ((round : Round) × Does round × (told ≡ as_told (told_of round)) × (new.last ≡ last_after round old.last)
     × (IsRefusal told.outcome → new ≡ old))
     ⊎ ((told ≡ bare outcome.NoMemory) × (new ≡ old) × Takes)
+
+-- the same, where the caller is told of the round as it is
+abbrev pub ComesTo : DeviceNode → Told → DeviceNode → Type 0 → (Round → Type 0) → Type 0
+ComesTo old told new Takes Does = ComesAs (λ it. it) old told new Takes Does
 
 -- these numbers and bytes are a value for a path: the size is that of the struct
 abbrev pub FitsValue : GivenValue → Type 0
@@ -62,6 +68,19 @@ FitsPath given = (given.ms < 2 ^ 63) × IsPath given.path
 -- the path whose resource revokes the tokens of this id, where the device has a revocation path and the id isn't too long for it
 abbrev pub revoked_by : DeviceNode → List ℕ → Option (List ℕ)
 revoked_by node id = revocation_of node.device.server.desk.rules.revoked id
+
+-- whether the tokens of this id are revoked
+abbrev pub are_revoked : DeviceNode → List ℕ → Bool
+are_revoked node id = is_revoked node.device.server.desk.rules.revoked node.device.server.tree id
+
+-- whether it is so, as it was ruled
+abbrev pub is_so : Ruling → Bool → Bool
+is_so Revoke revoked = revoked
+is_so Allow revoked = not revoked
+
+-- what is told to be done is so
+abbrev pub IsSoWhereDone : Ruling → GivenId → Told → DeviceNode → Type 0
+IsSoWhereDone ruling given told new = told.outcome ≡ outcome.Done → is_so ruling (are_revoked new given.id) ≡ true
 
 -- a value, which is put at its path, or appended to what is there, with these draws
 pub record Writing : Type 0 where
@@ -83,13 +102,15 @@ IsRejected Fit old told new = IsUnfit Fit told.outcome × (told.code ≡ 0) × (
 
 -- `is_sealing algorithm` is the relation of the algorithm's cipher, and `tag algorithm` how long its tag is
 module _ (is_sealing : Sealings) where
-  -- The device posts its token, and what it sends is carried to its server and back; where it may, and no step wants memory, it has a context.
-  -- Each run goes on by these steps.
+  -- The device posts its token, and what it sends is carried to its server and back; where it may, and no step wants memory, it has a context: a place is
+  -- kept for it, so no others keep it out. Each run goes on by these steps.
   abbrev pub Opens : DeviceNode → Moment → PlainDraws → Round → DeviceNode → Type 0
   Opens old now draws round new =
       ((begun : Own) × Begins old.device.own now (draw_of draws.own) round.begun begun
       × Carries is_sealing (record old.device { own = begun }) now (draw_of draws.server) round new.device)
       × ((claims : Claims) (entries : List Entry) → MayOpen is_sealing old.device now (draw_of draws.own) claims entries → IsWhole round
+      → IsOpen now entries new.device)
+      × ((claims : Claims) (entries : List Entry) → MayReturn is_sealing old.device now (draw_of draws.own) claims entries → IsWhole round
       → IsOpen now entries new.device)
       × AllGoOn old.device (λ number. noted number round) new.device
 
@@ -125,12 +146,13 @@ module _ (is_sealing : Sealings) where
         (λ round. Asks old (asked_for given.draws now (own_request Delete given.path None [])) round new))
         ⊎ IsRejected (FitsPath given) old told new
 
-    -- The device asks for nothing but this method, at the path that revokes the tokens of this id: PUT revokes them, and DELETE lets them in again.
-    -- Where there is no such path, or for a bad moment, nothing changes. Memory is taken only where the device has a revocation path: to spell the path
-    -- for the id, which tells whether the id is too long, and for the step.
-    abbrev pub AsksOfId : Method → DeviceNode → GivenId → Told → DeviceNode → Type 0
-    AsksOfId method old given told new =
+    -- The device rules so of the tokens of this id: it asks for nothing but PUT, which revokes them, or DELETE, which lets them in again, at the path that
+    -- is for the id. It is told that this is done where it is so then, and else that it was refused. Where there is no such path, or for a bad moment,
+    -- nothing changes. Memory is taken only where the device has a revocation path: to spell the path for the id, which tells whether the id is too
+    -- long, and for the step.
+    abbrev pub RulesBy : Ruling → DeviceNode → GivenId → Told → DeviceNode → Type 0
+    RulesBy ruling old given told new =
         ((now : Moment) × (now.ms ≡ given.ms)
-        × ComesTo old told new (IsSome old.device.server.desk.rules.revoked)
-        (λ round. (path : List ℕ) × (revoked_by old given.id ≡ Some path) × Asks old (asked_for given.draws now (own_request method path None [])) round new))
+        × ComesAs (settled (is_so ruling (are_revoked new given.id))) old told new (IsSome old.device.server.desk.rules.revoked)
+        (λ round. (path : List ℕ) × (revoked_by old given.id ≡ Some path) × Asks old (asked_for given.draws now (own_request (method_of ruling) path None [])) round new))
         ⊎ ((told ≡ bare outcome.BadArgument) × (¬ (given.ms < 2 ^ 63) ⊎ (revoked_by old given.id ≡ None)) × (new ≡ old))

@@ -1,5 +1,5 @@
 -- What a caller is told of what a device did at its own server.
-use Rattle.std.specs.Prelude.{◌≡◌, ℕ, ◌==◌, if◌then◌else◌, Option, Some, None, MatchOption, option_and_then, option_map}
+use Rattle.std.specs.Prelude.{◌≡◌, ℕ, ◌==◌, Bool, true, false, if◌then◌else◌, Option, Some, None, MatchOption, option_and_then, option_map}
 use Rattle.osc_model.specs.Refusals as refusal
 use Rattle.osc_model.specs.declared.step.ClientResult.{ClientResult}
 use Rattle.osc_model.specs.declared.step.ClientResult.TheVariants.{Made, Answer, Unverified, TimedOut, Refused}
@@ -37,6 +37,15 @@ told_by result learnt = begun_as learnt
 
 abbrev pub told_of : Round → Told
 told_of round = told_by round.begun.notes.result round.learnt
+
+-- What a device ruled of the tokens of an id is done where it is so now; else it was refused, by the code of the answer.
+abbrev pub refused_where_done : Outcome → Outcome
+refused_where_done outcome.Done = outcome.Refused
+refused_where_done other = other
+
+abbrev pub settled : Bool → Told → Told
+settled true told = told
+settled false told = record { outcome = refused_where_done told.outcome; code = told.code }
 
 -- what a result tells, where there is one
 abbrev pub came_by : Option ClientResult → Option Told

@@ -1,8 +1,9 @@
 //! What a device does at its own server.
 ghost use Rattle.std.specs.Prelude.{◌≡◌, ◌≢◌, pos};
-ghost use Rattle.osc_model.specs.declared.code.Method.TheVariants.{Delete, Post, Put};
+ghost use Rattle.osc_model.specs.declared.code.Method.TheVariants.{Post, Put};
+ghost use Rattle.osc_device.specs.declared.ruling.Ruling.TheVariants.{Allow, Revoke};
 ghost use Rattle.osc_c.specs.Given.{value_given};
-ghost use Rattle.osc_c.specs.Own.{AsksBy, AsksOfId, OpensBy, RemovesBy};
+ghost use Rattle.osc_c.specs.Own.{AsksBy, IsSoWhereDone, OpensBy, RemovesBy, RulesBy};
 ghost use Rattle.osc_c.specs.Calls.{Tells};
 ghost use Rattle.osc_c.specs.Inner.Lending.{IsTold};
 ghost use Rattle.osc_c.specs.declared.calls.outcome.Outcome.TheVariants as outcome;
@@ -12,6 +13,7 @@ use crate::calls::{Outcome, PlainDraws, PlainResource, Told};
 use crate::handle::with;
 use crate::handles::DeviceHandle;
 use osc_ccm::Suite;
+use osc_device::Ruling;
 use osc_model::Method;
 use std::alloc::Global;
 
@@ -134,7 +136,8 @@ pub extern "C" fn nzf_device_remove(
 
 /// Revokes the tokens of this id: puts an empty value at the path that is for it below the revocation path.
 ///
-/// Answers as `nzf_device_put`; and 34 where the device has no revocation path, or the id is too long for one.
+/// Answers 0 where they are revoked now, and 39 where the request was refused, by `code`; else as `nzf_device_put`, and 34 where the device has no
+/// revocation path, or the id is too long for one. Heap: what is stored; the 2 KiB that the device keeps in hand for this are given back for the call.
 #[unsafe(no_mangle)]
 pub extern "C" fn nzf_device_revoke(
     alloc: Global,
@@ -145,16 +148,18 @@ pub extern "C" fn nzf_device_revoke(
     code: &mut u8,
 ) -> i32
     ensures { Tells device.old.held code.old (record { number = result; code = code.new }) device.new.held
-        (λ old told new. AsksOfId sealing tags Put old (record { ms = now; id = id.now; draws = draws.now }) told new) }
+        (λ old told new. RulesBy sealing tags Revoke old (record { ms = now; id = id.now; draws = draws.now }) told new
+        × IsSoWhereDone Revoke (record { ms = now; id = id.now; draws = draws.now }) told new) }
 {
     with(
         alloc,
         device,
         &mut |node|
-            ensures { IsTold result code.exit.now (λ told. AsksOfId sealing tags Put node.old (record { ms = now; id = id.entry.now; draws = draws.entry.now }) told node.new) }
+            ensures { IsTold result code.exit.now (λ told. RulesBy sealing tags Revoke node.old (record { ms = now; id = id.entry.now; draws = draws.entry.now }) told node.new
+                × IsSoWhereDone Revoke (record { ms = now; id = id.entry.now; draws = draws.entry.now }) told node.new) }
         {
             tell(
-                node.ask_of_id::<Suite>(alloc, Method::Put, now, id, draws),
+                node.rule::<Suite>(alloc, Ruling::Revoke, now, id, draws),
                 code,
             )
         },
@@ -162,7 +167,8 @@ pub extern "C" fn nzf_device_revoke(
     .number()
 }
 
-/// Lets the tokens of this id in again: removes what is at the path that is for it. Otherwise as `nzf_device_revoke`.
+/// Lets the tokens of this id in again: removes what is at the path that is for it. Answers 0 where they aren't revoked now. Otherwise as
+/// `nzf_device_revoke`.
 #[unsafe(no_mangle)]
 pub extern "C" fn nzf_device_allow(
     alloc: Global,
@@ -173,16 +179,18 @@ pub extern "C" fn nzf_device_allow(
     code: &mut u8,
 ) -> i32
     ensures { Tells device.old.held code.old (record { number = result; code = code.new }) device.new.held
-        (λ old told new. AsksOfId sealing tags Delete old (record { ms = now; id = id.now; draws = draws.now }) told new) }
+        (λ old told new. RulesBy sealing tags Allow old (record { ms = now; id = id.now; draws = draws.now }) told new
+        × IsSoWhereDone Allow (record { ms = now; id = id.now; draws = draws.now }) told new) }
 {
     with(
         alloc,
         device,
         &mut |node|
-            ensures { IsTold result code.exit.now (λ told. AsksOfId sealing tags Delete node.old (record { ms = now; id = id.entry.now; draws = draws.entry.now }) told node.new) }
+            ensures { IsTold result code.exit.now (λ told. RulesBy sealing tags Allow node.old (record { ms = now; id = id.entry.now; draws = draws.entry.now }) told node.new
+                × IsSoWhereDone Allow (record { ms = now; id = id.entry.now; draws = draws.entry.now }) told node.new) }
         {
             tell(
-                node.ask_of_id::<Suite>(alloc, Method::Delete, now, id, draws),
+                node.rule::<Suite>(alloc, Ruling::Allow, now, id, draws),
                 code,
             )
         },

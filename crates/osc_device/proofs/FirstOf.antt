@@ -1,5 +1,5 @@
 -- Where a device begins.
-use Rattle.std.proofs.Common.{◌≡◌, ◌∙◌, ap, sym, subst, refl, ℕ, ◌+◌, ◌^◌, ◌<◌, ◌≤◌, Bool, true, false, if◌then◌else◌, List, [], ◌∷◌, ◌++◌, length, None, arith}
+use Rattle.std.proofs.Common.{◌≡◌, ◌∙◌, ap, sym, subst, refl, ℕ, ◌+◌, ◌^◌, ◌<◌, ◌≤◌, Bool, true, false, if◌then◌else◌, List, [], ◌∷◌, ◌++◌, ◌||◌, not, length, None, Some, arith}
 use Rattle.std.specs.Prelude.{nat_lt}
 use Rattle.std.specs.Str.{IsUtf8}
 use Rattle.std.proofs.lemmas.List.{length-append}
@@ -11,6 +11,8 @@ use Rattle.osc_client.specs.{PostIsTooLong}
 use Rattle.osc_client.specs.State.{State as Client}
 use Rattle.osc_model.specs.declared.algorithm.Algorithm.TheVariants.{EightByteTag}
 use Rattle.osc_server.specs.State.{State as Server}
+use Rattle.osc_model.specs.{has_subtrees}
+use Rattle.osc_scope.specs.{Entry, IsScope, scope_of}
 use Rattle.osc_token.specs.{HasLawfulParts, algorithm_header, claims_item, token_object}
 use Rattle.osc_world.specs.{FitAToken, IsLawful, Beginning, Enrols, first_nodes}
 use Rattle.osc_world.specs.declared.nodes.Placed.{Placed}
@@ -62,20 +64,20 @@ token_most iv ciphertext =
 -- ---- the device
 
 pub enrolled : (is_sealing : Sealings) (parts : ServerParts) (own : OwnToken) (alone : Beginning) (holder : Holder) (start : Beginning)
-    → alone ≡ server_alone parts → holder ≡ own_holder parts own → Enrols is_sealing alone holder start
-    → Enrols is_sealing (server_alone parts) (own_holder parts own) start
+    → alone ≡ server_alone parts own.id → holder ≡ own_holder parts own → Enrols is_sealing alone holder start
+    → Enrols is_sealing (server_alone parts own.id) (own_holder parts own) start
 enrolled is_sealing parts own alone holder start same is enrols =
-    subst (λ (h : Holder). Enrols is_sealing (server_alone parts) h start) is (subst (λ (s : Beginning). Enrols is_sealing s holder start) same enrols)
+    subst (λ (h : Holder). Enrols is_sealing (server_alone parts own.id) h start) is (subst (λ (s : Beginning). Enrols is_sealing s holder start) same enrols)
 
 pub one_client : (is_sealing : Sealings) (parts : ServerParts) (own : OwnToken) (start : Beginning)
-    → (enrols : Enrols is_sealing (server_alone parts) (own_holder parts own) start) → start.clients ≡ enrols.placed ∷ []
+    → (enrols : Enrols is_sealing (server_alone parts own.id) (own_holder parts own) start) → start.clients ≡ enrols.placed ∷ []
 one_client is_sealing parts own start enrols = ap (λ (s : Beginning). s.clients) enrols.is
 
 same_client : (clients : List (Placed Client)) (a b : Placed Client) → clients ≡ a ∷ [] → clients ≡ b ∷ [] → a ≡ b
 same_client clients a b e f = cc
 
 pub is_begun : (is_sealing : Sealings) (parts : ServerParts) (own : OwnToken) (start : Beginning) (server : Server) (placed : Placed Client)
-    → Enrols is_sealing (server_alone parts) (own_holder parts own) start
+    → Enrols is_sealing (server_alone parts own.id) (own_holder parts own) start
     → server ≡ (first_nodes start).server → start.clients ≡ placed ∷ []
     → IsBegun is_sealing parts own (record { server = server; own = placed.node })
 is_begun is_sealing parts own start server placed enrols is there = record {
@@ -105,7 +107,8 @@ module _ (is_sealing : Sealings) (tag : ℕ) (sealed_length : IsLongerBy tag (is
     → length holder.iv ≡ 13 → length enrols.placed.node.desk.token < 2 ^ 64
     → HoldsToken (is_sealing EightByteTag) start.key holder.claims enrols.enrolled.entries enrols.placed.node.desk)
     (parts : ServerParts) (own : OwnToken) (device : State) (is : IsBegun is_sealing parts own device)
-    (lawful : IsLawful (own_claims parts own)) (has : HasLawfulParts (own_claims parts own)) (iv_size : length own.iv ≡ 13) where
+    (lawful : IsLawful (own_claims parts own)) (has : HasLawfulParts (own_claims parts own)) (iv_size : length own.iv ≡ 13)
+    (near : (entries : List Entry) → IsScope own.scope entries → (parts.subtrees || not (has_subtrees (scope_of entries))) ≡ true) where
   abbrev start : Beginning
   start = is.start
 
@@ -130,19 +133,28 @@ module _ (is_sealing : Sealings) (tag : ℕ) (sealed_length : IsLongerBy tag (is
 
   pub granted : IsGranted is_sealing device (own_claims parts own) is.enrols.enrolled.entries
   granted =
-      let holds = held (server_alone parts) start start (own_holder parts own) is.enrols same_key has lawful.fits iv_size token_size in
+      let holds = held (server_alone parts own.id) start start (own_holder parts own) is.enrols same_key has lawful.fits iv_size token_size in
       record {
         holds = subst (λ (server : Server). HoldsToken (is_sealing EightByteTag) server.desk.key (own_claims parts own) is.enrols.enrolled.entries device.own.desk) (sym is.server)
             (subst (λ (client : Client). HoldsToken (is_sealing EightByteTag) start.key (own_claims parts own) is.enrols.enrolled.entries client.desk) (sym is.own_is) holds);
         lawful = has;
+        allowed = ap (λ (s : Server). s.desk.rules.subtrees || not (has_subtrees (scope_of is.enrols.enrolled.entries))) is.server
+            ∙ ap (λ (s : Beginning). s.rules.subtrees || not (has_subtrees (scope_of is.enrols.enrolled.entries))) is.enrols.is
+            ∙ near is.enrols.enrolled.entries is.enrols.enrolled.scope;
         audience = same_audience ∙ sym (ap (λ (server : Server). server.desk.audience) is.server);
         not_before = refl;
         expires = refl;
       }
 
+-- its server keeps a place for its token
+pub reserved : (is_sealing : Sealings) (parts : ServerParts) (own : OwnToken) (device : State) → IsBegun is_sealing parts own device
+    → device.server.desk.rules.reserved ≡ Some own.id
+reserved is_sealing parts own device is =
+    ap (λ (s : Server). s.desk.rules.reserved) is.server ∙ ap (λ (s : Beginning). s.rules.reserved) is.enrols.is
+
 -- the device sends straight to its server
 pub straight : (is_sealing : Sealings) (parts : ServerParts) (own : OwnToken) (start : Beginning) (placed : Placed Client)
-    → Enrols is_sealing (server_alone parts) (own_holder parts own) start → start.clients ≡ placed ∷ []
+    → Enrols is_sealing (server_alone parts own.id) (own_holder parts own) start → start.clients ≡ placed ∷ []
     → (placed.node.origin ≡ None) × (placed.node.next_hop ≡ server_address)
 straight is_sealing parts own start placed enrols there =
     let same = ap (λ (p : Placed Client). p.node) (same_client start.clients placed enrols.placed there (one_client is_sealing parts own start enrols)) in
@@ -151,7 +163,7 @@ straight is_sealing parts own start placed enrols there =
 -- what stands against it: the post of its token
 pub too_long : (is_sealing : Sealings) (tag : ℕ) → IsLongerBy tag (is_sealing EightByteTag) → tag ≡ 8
     → (parts : ServerParts) (own : OwnToken) (start : Beginning) (placed : Placed Client)
-    → Enrols is_sealing (server_alone parts) (own_holder parts own) start → start.clients ≡ placed ∷ [] → PostIsTooLong placed.node
+    → Enrols is_sealing (server_alone parts own.id) (own_holder parts own) start → start.clients ≡ placed ∷ [] → PostIsTooLong placed.node
     → IsTooLongToPost (own_holder parts own)
 too_long is_sealing tag sealed_length eight parts own start placed enrols there long =
     let enrolled = enrols.enrolled in

@@ -44,6 +44,11 @@ rules_kept old new now notes (ServerStep.Posted is) = is.rules
 rules_kept old new now notes (ServerStep.Served is) = is.rules
 rules_kept old new now notes (ServerStep.ServerRestarted is) = ap (λ (s : ServerState). s.rules) is.is
 
+pub same_rules : (is_sealing : Sealings) (old new : Server) (sent : Arrival (List Datagram)) (step : Option Step) → Reaches is_sealing old sent step new
+    → new.desk.rules ≡ old.desk.rules
+same_rules is_sealing old new sent step (Reaches.lost nothing lost) = ap (λ (s : Server). s.desk.rules) lost.1
+same_rules is_sealing old new sent step (Reaches.heard one made only some is) = rules_kept (server_core old) (server_core new) sent.at made.notes is.kind
+
 -- ---- each step of the device
 
 pub of_nothing : (number : ℕ) (v : WorldState) (d : State) → IsReached v → IsIn number d v → GoesOn number [] v d

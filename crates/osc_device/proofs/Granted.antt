@@ -1,5 +1,5 @@
 -- A device whose token counts may post it.
-use Rattle.std.proofs.Common.{◌≡◌, ◌≢◌, ◌∙◌, ap, sym, subst, ℕ, ◌<◌, List, [], ◌∷◌, length, drop, false, Option, Some, None, arith}
+use Rattle.std.proofs.Common.{◌≡◌, ◌≢◌, ◌∙◌, ap, sym, subst, ℕ, ◌<◌, ◌≤◌, Bool, true, if◌then◌else◌, List, [], ◌∷◌, length, drop, false, Option, Some, None, arith}
 use Rattle.std.specs.Prelude.{IfSome}
 use Rattle.std.proofs.lemmas.List.{length-drop, length-take}
 use Rattle.osc_client.specs.{Exchanges, PostFits, begun_by}
@@ -14,12 +14,27 @@ use Rattle.osc_message.specs.{own_id}
 use Rattle.osc_model.specs.declared.node.Draw.{Draw}
 use Rattle.osc_model.specs.declared.node.Moment.{Moment}
 use Rattle.osc_ccm.specs.{Sealings}
-use Rattle.osc_authz.specs.{IsFull, alive, known}
+use Rattle.osc_authz.specs.{IsFull, KeepsPlace, alive, has_token, kept_places, known}
+use Rattle.osc_authz.specs.Standing.{Standing}
 use Rattle.osc_authz.specs.declared.token_entry.TokenEntry.{TokenEntry}
 use Rattle.osc_scope.specs.{Entry}
 use Rattle.osc_token.specs.declared.claims.Claims.{Claims}
-use Rattle.osc_device.specs.{MayOpen, IsGranted, own_address}
+use Rattle.osc_device.specs.{MayOpen, MayReturn, IsGranted, own_address}
 use Rattle.osc_device.specs.State.{State}
+
+-- an empty table is never full
+at_most_one : (is : Bool) → (if is then 0 else 1) ≤ 1
+at_most_one true = omega arith
+at_most_one false = omega arith
+
+few_places : (reserved : Option (List ℕ)) (id : List ℕ) → kept_places reserved id [] ≤ 1
+few_places None id = omega arith
+few_places (Some other) id = at_most_one _
+
+nobody_there : (reserved : Option (List ℕ)) (id : List ℕ) (on : Standing) (table : List TokenEntry) → table ≡ [] → ¬ IsFull reserved id (alive on table)
+nobody_there reserved id on table empty full =
+    let none : IsFull reserved id (alive on []) = subst (λ (table : List TokenEntry). IsFull reserved id (alive on table)) empty full in
+    absurd (omega (arith, none.many, few_places reserved id))
 
 pub may_open : (is_sealing : Sealings) (device : State) (now : Moment) (draw : Draw) (claims : Claims) (entries : List Entry)
     → IsGranted is_sealing device claims entries → is_revoked device.server.desk.rules.revoked device.server.tree claims.material.id ≡ false
@@ -35,8 +50,9 @@ may_open is_sealing device now draw claims entries granted unrevoked lasting idl
       audience = granted.audience;
       begun = λ seconds is. let none = sym granted.not_before ∙ is in absurd cc;
       not_over = λ seconds is. let none = sym granted.expires ∙ is in absurd cc;
+      allowed = granted.allowed;
       unrevoked = unrevoked;
-      room = λ full. let none : IsFull claims.material.id (alive (standing_of device.server now) []) = subst (λ (table : List TokenEntry). IsFull claims.material.id (alive (standing_of device.server now) table)) empty full in absurd (omega (arith, none.many));
+      room = nobody_there device.server.desk.rules.reserved claims.material.id (standing_of device.server now) device.server.desk.table empty;
     };
     makes = record {
       lasting = lasting;
@@ -45,6 +61,32 @@ may_open is_sealing device now draw claims entries granted unrevoked lasting idl
   };
   unheard = ap (looked now own_address (own_id draw device.own.endpoint.next_id)) unheard;
 }
+
+-- So may one for whose token a place is kept.
+module _ (law : (on : Standing) (id : List ℕ) (table : List TokenEntry) → KeepsPlace (Some id) table → ¬ IsFull (Some id) id (alive on table)) where
+  pub may_return : (is_sealing : Sealings) (device : State) (now : Moment) (draw : Draw) (claims : Claims) (entries : List Entry)
+      → KeepsPlace device.server.desk.rules.reserved device.server.desk.table → MayReturn is_sealing device now draw claims entries
+      → MayOpen is_sealing device now draw claims entries
+  may_return is_sealing device now draw claims entries keeps may =
+      let granted = may.granted in record {
+        may_exchange = record {
+          idle = may.idle;
+          welcome = record {
+            holds = granted.holds;
+            lawful = granted.lawful;
+            audience = granted.audience;
+            begun = λ seconds is. let none = sym granted.not_before ∙ is in absurd cc;
+            not_over = λ seconds is. let none = sym granted.expires ∙ is in absurd cc;
+            allowed = granted.allowed;
+            unrevoked = may.unrevoked;
+            room = subst (λ (reserved : Option (List ℕ)). ¬ IsFull reserved claims.material.id (alive (standing_of device.server now) device.server.desk.table)) (sym may.reserved)
+                (law (standing_of device.server now) claims.material.id device.server.desk.table
+                (subst (λ (reserved : Option (List ℕ)). KeepsPlace reserved device.server.desk.table) may.reserved keeps));
+          };
+          makes = may.makes;
+        };
+        unheard = may.unheard;
+      }
 
 -- by which number it is refused, where it is
 abbrev number_in : Option ClientResult → ℕ

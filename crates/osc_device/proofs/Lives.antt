@@ -24,7 +24,7 @@ abbrev server_of : Beginning → ServerState
 server_of start = record { contexts = []; tree = start.first; rules = start.rules }
 
 module _ (is_sealing : Sealings) (own : OwnToken) where
-  begins : (parts : ServerParts) (device : State) → IsBegun is_sealing parts own device → server_core device.server ≡ server_of (server_alone parts)
+  begins : (parts : ServerParts) (device : State) → IsBegun is_sealing parts own device → server_core device.server ≡ server_of (server_alone parts own.id)
   begins parts device is = ap (λ (s : Server). server_core s) is.server ∙ ap server_of is.enrols.is
 
   -- it has no context, and waits for nothing
@@ -37,7 +37,7 @@ module _ (is_sealing : Sealings) (own : OwnToken) where
   module _ (parts : ServerParts) (first last next : State) (is : IsBegun is_sealing parts own first)
       (again : IsBegun is_sealing (record parts { tree = last.server.tree }) own next) (same : next.own.desk ≡ first.own.desk)
       (number : ℕ) (steps : List Noted) (v : WorldState) (is_in : IsIn number first v) (goes : GoesOn number steps v last) where
-    rules : (server_core last.server).rules ≡ (server_alone parts).rules
+    rules : (server_core last.server).rules ≡ (server_alone parts own.id).rules
     rules =
         sym (ap (λ (s : ServerState). s.rules) goes.is_in.server) ∙ goes.rules ∙ ap (λ (s : ServerState). s.rules) is_in.server
         ∙ ap (λ (s : ServerState). s.rules) (begins parts first is)

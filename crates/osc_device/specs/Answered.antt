@@ -2,7 +2,7 @@
 use Rattle.std.specs.Prelude.{◌≡◌, ◌≢◌, ℕ, false, List, [], Option, Some, None}
 use Rattle.std.specs.Option.{IsSome}
 use Rattle.osc_model.specs.Refusals as refusal
-use Rattle.osc_model.specs.{apply_read, code, method_number}
+use Rattle.osc_model.specs.{apply_read, code, is_revoked, method_number}
 use Rattle.osc_model.specs.declared.code.Method.{Method}
 use Rattle.osc_model.specs.declared.node.Draw.{Draw}
 use Rattle.osc_model.specs.declared.node.Moment.{Moment}
@@ -17,11 +17,12 @@ use Rattle.osc_token.specs.declared.claims.Claims.{Claims}
 use Rattle.osc_ccm.specs.{Sealings}
 use Rattle.osc_authz.specs.{ClientContextState}
 use Rattle.osc_authz.specs.SecurityContext.{SecurityContext}
-use Rattle.osc_client.specs.{Asked}
+use Rattle.osc_client.specs.{Asked, begun_by}
 use Rattle.osc_run.specs.{Replies as AppliesTo}
 use Rattle.osc_options.specs.{read_request}
 use Rattle.osc_server.specs.{notes_of_request}
-use Rattle.osc_rounds.specs.{asked_text, IsHeld, MayAsk, MayExchange}
+use Rattle.osc_rounds.specs.{asked_text, IsHeld, MakesContexts, MayAsk, MayExchange}
+use Rattle.osc_device.specs.Begun.{IsGranted}
 use Rattle.osc_device.specs.State.{State, own_address}
 use Rattle.osc_device.specs.declared.round.Round.{Round}
 
@@ -41,7 +42,7 @@ pub record IsWhole (round : Round) : Type 0 where
 -- resources lack memory; the device learns that reply, and waits for nothing.
 pub record IsAnswered (old : State) (asked : Asked) (held : SecurityContext) (number : ℕ) (round : Round) (new : State) : Type 0 where
   pub reply : Reply
-  pub applied : AppliesTo old.server.tree (apply_read old.server.tree held.scope (read_request (asked_text old.own asked.draw asked.request))) reply new.server.tree
+  pub applied : AppliesTo old.server.tree (apply_read old.server.desk.rules.revoked old.server.tree held.scope (read_request (asked_text old.own asked.draw asked.request))) reply new.server.tree
   pub second : Step
   pub served : round.served ≡ Some second
   pub entry : second.notes ≡ notes_of_request asked.at held number (asked_text old.own asked.draw asked.request) reply
@@ -67,6 +68,16 @@ module _ (is_sealing : Sealings) where
   -- that heard no message of the ID that the device takes.
   pub record MayOpen (device : State) (now : Moment) (draw : Draw) (claims : Claims) (entries : List Entry) : Type 0 where
     pub may_exchange : MayExchange is_sealing device.own device.server now draw claims entries
+    pub unheard : looked now own_address (own_id draw device.own.endpoint.next_id) device.server.endpoint.seen ≡ None
+
+  -- So may a device whose server keeps a place for its token, whoever else has a context there: the token counts, and its id isn't revoked; the device
+  -- waits for nothing; its contexts count for a while; and the server doesn't know the post, and heard no message of the ID that it takes.
+  pub record MayReturn (device : State) (now : Moment) (draw : Draw) (claims : Claims) (entries : List Entry) : Type 0 where
+    pub granted : IsGranted is_sealing device claims entries
+    pub reserved : device.server.desk.rules.reserved ≡ Some claims.material.id
+    pub unrevoked : is_revoked device.server.desk.rules.revoked device.server.tree claims.material.id ≡ false
+    pub idle : device.own.waiting ≡ None
+    pub makes : MakesContexts device.server.desk claims (begun_by device.own draw)
     pub unheard : looked now own_address (own_id draw device.own.endpoint.next_id) device.server.endpoint.seen ≡ None
 
 -- The server has a live context with the token's scope, and the device one of the same name, and waits for nothing.

@@ -1,12 +1,14 @@
 -- Where a device begins: as a world does whose server is the device's, and whose one client is the device itself.
-use Rattle.std.specs.Prelude.{◌≡◌, ◌<◌, ℕ, ◌+◌, List, [], length, None}
+use Rattle.std.specs.Prelude.{◌≡◌, ◌<◌, ℕ, ◌+◌, true, false, List, [], length, Some, None}
+use Rattle.osc_authz.specs.{is_allowed}
 use Rattle.osc_authz.specs.HoldsToken.{HoldsToken}
 use Rattle.osc_cbor.specs.{spelling}
 use Rattle.osc_client.specs.{PostIsTooLong}
 use Rattle.osc_cose.specs.{object_item}
 use Rattle.osc_model.specs.declared.algorithm.Algorithm.TheVariants.{EightByteTag}
 use Rattle.osc_ccm.specs.{Sealings}
-use Rattle.osc_scope.specs.{Entry}
+use Rattle.osc_model.specs.{has_subtrees}
+use Rattle.osc_scope.specs.{Entry, IsScope, scope_of}
 use Rattle.osc_token.specs.{HasLawfulParts, claims_item, token_object}
 use Rattle.osc_token.specs.declared.claims.Claims.{Claims}
 use Rattle.osc_client.specs.State.{State as Client}
@@ -15,7 +17,7 @@ use Rattle.osc_world.specs.declared.nodes.Placed.{Placed}
 use Rattle.osc_world.specs.declared.start.Holder.{Holder}
 use Rattle.osc_device.specs.State.{State, own_address, server_address}
 use Rattle.osc_device.specs.declared.error.NewError.{NewError}
-use Rattle.osc_device.specs.declared.error.NewError.TheVariants.{Id, Token, TooLong}
+use Rattle.osc_device.specs.declared.error.NewError.TheVariants.{Id, Subtrees, Token, TooLong}
 use Rattle.osc_device.specs.declared.own_token.OwnToken.{OwnToken}
 use Rattle.osc_device.specs.declared.own_token.ServerParts.{ServerParts}
 
@@ -42,15 +44,21 @@ own_holder parts own = record {
 abbrev pub remembered_posts : ℕ
 remembered_posts = 8
 
--- the server alone
-abbrev pub server_alone : ServerParts → Beginning
-server_alone parts = record {
+-- the server alone, which keeps a place for the tokens of this id, the device's own
+abbrev pub server_alone : ServerParts → List ℕ → Beginning
+server_alone parts own = record {
   first = parts.tree;
   open_scope = parts.open_scope;
   key = parts.key;
   old_key = parts.old_key;
   audience = parts.audience;
-  rules = record { revoked = parts.revoked; seconds = parts.context_seconds; remembered = remembered_posts };
+  rules = record {
+    revoked = parts.revoked;
+    seconds = parts.context_seconds;
+    remembered = remembered_posts;
+    reserved = Some own;
+    subtrees = parts.subtrees;
+  };
   server_at = server_address;
   minted = [];
   clients = [];
@@ -66,10 +74,15 @@ pub record IsTooLongToPost (holder : Holder) : Type 0 where
   pub client : IsPlaced holder (spelling (object_item (token_object holder.iv ciphertext))) placed
   pub too_long : PostIsTooLong placed.node
 
--- Why there is none: a token id that is too long; why the device can't be enrolled; or a token whose post fits no datagram.
+-- the token's scope reaches below its paths, which is nothing that the server takes
+abbrev pub ReachesTooFar : ServerParts → OwnToken → Type 0
+ReachesTooFar parts own = (parts.subtrees ≡ false) × (entries : List Entry) × IsScope own.scope entries × (has_subtrees (scope_of entries) ≡ true)
+
+-- Why there is none: a token id that is too long; a scope that reaches too far; why the device can't be enrolled; or a token whose post fits no datagram.
 abbrev pub IsNoDevice : ServerParts → OwnToken → NewError → Type 0
 IsNoDevice parts own Id = 64 < length own.id
-IsNoDevice parts own (Token error) = Refuses (server_alone parts) (own_holder parts own) error
+IsNoDevice parts own Subtrees = ReachesTooFar parts own
+IsNoDevice parts own (Token error) = Refuses (server_alone parts own.id) (own_holder parts own) error
 IsNoDevice parts own TooLong = IsTooLongToPost (own_holder parts own)
 
 -- `is_sealing algorithm` is the relation of the algorithm's cipher
@@ -77,14 +90,16 @@ module _ (is_sealing : Sealings) where
   -- the device's token is minted under the server's key, and neither has done anything yet
   pub record IsBegun (parts : ServerParts) (own : OwnToken) (device : State) : Type 0 where
     pub start : Beginning
-    pub enrols : Enrols is_sealing (server_alone parts) (own_holder parts own) start
+    pub enrols : Enrols is_sealing (server_alone parts own.id) (own_holder parts own) start
     pub server : device.server ≡ (first_nodes start).server
     pub own_is : device.own ≡ enrols.placed.node
 
-  -- The device's token has these claims and this scope, was minted under its server's key and for its audience, and counts at all times.
+  -- The device's token has these claims and this scope, which its server takes, was minted under the server's key and for its audience, and counts at all
+  -- times.
   pub record IsGranted (device : State) (claims : Claims) (entries : List Entry) : Type 0 where
     pub holds : HoldsToken (is_sealing EightByteTag) device.server.desk.key claims entries device.own.desk
     pub lawful : HasLawfulParts claims
+    pub allowed : is_allowed device.server.desk.rules (scope_of entries) ≡ true
     pub audience : claims.audience ≡ device.server.desk.audience
     pub not_before : claims.not_before ≡ None
     pub expires : claims.expires ≡ None

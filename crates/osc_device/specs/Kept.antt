@@ -17,7 +17,7 @@ use Rattle.osc_run.specs.{Came, ClientStep, Due, by_server}
 use Rattle.osc_client.specs.{Begins, core as client_core, IsStep as IsClientStep, restarted}
 use Rattle.osc_client.specs.State.{State as Client}
 use Rattle.osc_server.specs.{again, IsStep as IsServerStep}
-use Rattle.osc_device.specs.Answered.{IsAnsweredWhereReady, IsOpen, IsWhole, MayOpen}
+use Rattle.osc_device.specs.Answered.{IsAnsweredWhereReady, IsOpen, IsWhole, MayOpen, MayReturn}
 use Rattle.osc_device.specs.Carrying.{AskedOfServer, AsksItsServer, Carries, asked_by}
 use Rattle.osc_device.specs.Runs.{AllGoOn, IsOfAnEntry, noted, restarts}
 use Rattle.osc_device.specs.State.{State}
@@ -95,6 +95,7 @@ module _ (is_sealing : Sealings) where
     pub kind : ClientStep false (client_core old.own) round.begun.notes (client_core posting)
     pub carries : Carries is_sealing (record old { own = posting }) now draws.server round new
     pub made : (claims : Claims) (entries : List Entry) → MayOpen is_sealing old now draws.own claims entries → IsWhole round → IsOpen now entries new
+    pub place : (claims : Claims) (entries : List Entry) → MayReturn is_sealing old now draws.own claims entries → IsWhole round → IsOpen now entries new
     pub fits : round.begun.notes.result ≢ Some (result.Refused refusal.datagram_too_long)
     pub run : AllGoOn old (λ number. noted number round) new
 

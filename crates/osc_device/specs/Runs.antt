@@ -82,7 +82,7 @@ pub record KeepsItsPromises (w : WorldState) : Type 0 where
   pub one_history : Premise w.minted w.notes → OneHistory w
   pub young : AreYoung w
   pub own_answers : Premise w.minted w.notes → HaveOwnPaths (grants_of w.minted)
-      → IsIsolated read_request (grants_of w.minted) w.first (history w.notes)
+      → IsIsolated read_request w.server.rules.revoked (grants_of w.minted) w.first (history w.notes)
 
 -- what the device learnt: its request was answered by this reply
 abbrev pub IsTold : Round → Reply → Type 0

@@ -1,10 +1,12 @@
 //! Where a device begins.
-ghost use Rattle.std.specs.Prelude.{◌≡◌, ◌∷◌, ◌<◌, ◌^◌, [], IfErr, IfOk, OnOk, length};
+ghost use Rattle.std.specs.Prelude.{◌≡◌, ◌∷◌, ◌<◌, ◌^◌, ◌||◌, [], List, true, false, not, IfErr, IfOk, OnOk, length};
 ghost use Rattle.std.specs.Str.{IsUtf8};
 ghost use Rattle.osc_client.specs.State.{State as AnyClient};
+ghost use Rattle.osc_model.specs.{has_subtrees};
+ghost use Rattle.osc_scope.specs.{Entry, IsScope, scope_of};
 ghost use Rattle.osc_world.specs.{IsLawful, Refuses, Enrols, first_nodes};
 ghost use Rattle.osc_world.specs.declared.nodes.Placed.{Placed as AnyPlaced};
-ghost use Rattle.osc_device.specs.Begun.{own_claims, own_holder as own_holder_of, server_alone as server_alone_of};
+ghost use Rattle.osc_device.specs.Begun.{ReachesTooFar, own_claims, own_holder as own_holder_of, server_alone as server_alone_of};
 ghost use Rattle.osc_device.specs.declared.own_token.ServerParts.{ServerParts as AnyParts};
 
 use crate::own_token::{OwnToken, ServerParts};
@@ -12,6 +14,7 @@ use osc_authz::ContextRules;
 use osc_ccm::Ciphers;
 use osc_client::{Client, Route};
 use osc_model::{Algorithm, Bytes, Peer};
+use osc_scope::{Scope, ScopeError};
 use osc_server::Server;
 use osc_token::{Audience, Claims, InputMaterial};
 use osc_world::{EnrollError, Holder, Parts, Placed, Start};
@@ -32,9 +35,29 @@ pub(crate) const SERVER: Peer = Peer {
 /// How many posts of each token id the server knows again.
 const REMEMBERED: u8 = 8;
 
-/// The server alone, before the device is a client of it.
-pub(crate) fn server_alone(alloc: Global, parts: ServerParts) -> Start
-    ensures { result ≡ server_alone_of parts }
+/// Whether the scope of this token reaches below its paths where the server refuses that. Bytes that are no scope don't.
+pub(crate) fn reaches_too_far(
+    alloc: Global,
+    parts: &ServerParts,
+    own: &OwnToken,
+) -> Result<bool, AllocError>
+    ensures far { IfOk result (λ far. far ≡ true → ReachesTooFar parts.now own.now) }
+    ensures near { IfOk result (λ far. far ≡ false → (entries : List Entry) → IsScope own.now.scope entries
+        → (parts.now.subtrees || not (has_subtrees (scope_of entries))) ≡ true) }
+{
+    if parts.subtrees {
+        return Ok(false);
+    }
+    match Scope::from_cbor(alloc, own.scope.as_slice()) {
+        Ok(scope) => Ok(scope.has_subtrees()),
+        Err(ScopeError::BadScope) => Ok(false),
+        Err(ScopeError::Memory) => Err(AllocError),
+    }
+}
+
+/// The server alone, before the device is a client of it. It keeps a place for the tokens of this id, the device's own.
+pub(crate) fn server_alone(alloc: Global, parts: ServerParts, own: Bytes) -> Start
+    ensures { result ≡ server_alone_of parts own }
 {
     let ServerParts {
         tree,
@@ -44,6 +67,7 @@ pub(crate) fn server_alone(alloc: Global, parts: ServerParts) -> Start
         audience,
         revoked,
         context_seconds,
+        subtrees,
     } = parts;
     let mut start = Start::new(alloc, tree, open_scope, key, audience, SERVER);
     if let Some(key) = old_key {
@@ -53,6 +77,8 @@ pub(crate) fn server_alone(alloc: Global, parts: ServerParts) -> Start
         revoked,
         seconds: context_seconds,
         remembered: REMEMBERED,
+        reserved: Some(own),
+        subtrees,
     });
     start
 }

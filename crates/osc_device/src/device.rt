@@ -1,5 +1,6 @@
 //! The device.
 ghost use Rattle.std.specs.Prelude.{◌≡◌, ◌≢◌, ◌∷◌, ◌<◌, ◌≤◌, ◌↔◌, ℕ, true, false, [], List, None, Some, length, IfErr, IfNone, IfOk, IfSome, IsSome, OnErr};
+ghost use Rattle.std.specs.FinMap as map;
 ghost use Rattle.osc_model.specs.Refusals as refusal;
 ghost use Rattle.osc_scope.specs.{Entry, IsScope};
 ghost use Rattle.osc_token.specs.declared.claims.Claims.{Claims as AnyClaims};
@@ -7,34 +8,39 @@ ghost use Rattle.osc_client.specs.{Begins, IsFree, PostFits, acts_at, restarted,
 ghost use Rattle.osc_client.specs.State.{State as Own};
 ghost use Rattle.osc_run.specs.{ClientStep, Came, Due, by_server, ServerStep};
 ghost use Rattle.osc_server.specs.{core, IsStep, again};
-ghost use Rattle.osc_model.specs.{quiet, revocation_of};
+ghost use Rattle.osc_model.specs.{is_revoked, quiet, revocation_of, stands};
 ghost use Rattle.osc_model.specs.declared.node.Draw.{Draw as AnyDraw};
 ghost use Rattle.osc_model.specs.declared.node.Moment.{Moment as AnyMoment};
 ghost use Rattle.osc_message.specs.{after_tick, fresh};
-ghost use Rattle.osc_authz.specs.{ClientContextState};
+ghost use Rattle.osc_authz.specs.{ClientContextState, KeepsPlace};
 ghost use Rattle.osc_authz.specs.SecurityContext.{SecurityContext};
 ghost use Rattle.osc_rounds.specs.{IsLawfulServer};
 ghost use Rattle.osc_model.specs.declared.step.ClientResult.TheVariants as result_of;
 ghost use Rattle.osc_model.specs.declared.code.Method.TheVariants.{Delete, Get, Post, Put};
-ghost use Rattle.osc_device.specs.Answered.{IsAnsweredWhereReady, IsOpen, IsWhole, MayOpen, own_request as own_request_of};
+ghost use Rattle.osc_device.specs.Answered.{IsAnsweredWhereReady, IsOpen, IsWhole, MayOpen, MayReturn, own_request as own_request_of};
 ghost use Rattle.osc_device.specs.Begun.{IsBegun, IsGranted, IsNoDevice, own_claims};
 ghost use Rattle.osc_device.specs.Carrying.{AsksItsServer, Carries, ComesBack, Reaches, ServerTakesMemory, at_server};
 ghost use Rattle.osc_device.specs.Runs.{AllGoOn, IsOfAnEntry, noted, restarts};
+ghost use Rattle.osc_device.specs.Ruling.{method_of};
 ghost use Rattle.osc_device.specs.State.{server_address};
 
-use crate::beginning::{OWN, SERVER, enrolled, fits, nodes_of, own_holder, server_alone};
+use crate::beginning::{
+    OWN, SERVER, enrolled, fits, nodes_of, own_holder, reaches_too_far, server_alone,
+};
 use crate::draws::OwnDraws;
 use crate::error::NewError;
 use crate::laws::{
-    a_context_is_made, a_request_is_answered, runs_go_on, runs_go_on_alone,
+    a_context_is_made, a_place_is_kept, a_request_is_answered, runs_go_on, runs_go_on_alone,
     runs_keep_their_promises,
 };
 use crate::own_token::{OwnToken, ServerParts};
 use crate::round::Round;
+use crate::ruling::{Ruled, Ruling};
 use osc_ccm::Ciphers;
 use osc_client::Client;
 use osc_model::{Bytes, Draw, ETags, Method, Moment, Path, Peer, Request, Resource, Step};
 use osc_server::Server;
+use osc_tree::Tree;
 use osc_world::Placed;
 use osc_world::laws::where_a_world_begins;
 use std::alloc::{AllocError, Global};
@@ -98,12 +104,36 @@ pub(crate) fn own_request(alloc: Global, method: Method, path: Path, resource: R
     }
 }
 
+/// Whether a resource is at this path, if there is one.
+fn is_there(tree: &Tree, path: &Option<Path>) -> bool
+    ensures { result ≡ stands tree.now path.now }
+{
+    match path {
+        Some(path) => has_resource(tree, path),
+        None => false,
+    }
+}
+
+/// Whether a resource is at this path.
+fn has_resource(tree: &Tree, path: &Path) -> bool
+    ensures { result ≡ map.contains_key tree.now path.now }
+{
+    tree.get(path).is_some()
+}
+
 /// For proofs: what is true of each server. Does nothing.
 fn is_lawful(server: &Server)
     ensures { IsLawfulServer server.now }
 {
     let _resources = server.tree().len();
     let _desk = server.desk();
+}
+
+/// For proofs: each server keeps the place that it is to keep. Does nothing.
+fn keeps_its_place(server: &Server)
+    ensures { KeepsPlace server.now.desk.rules.reserved server.now.desk.table }
+{
+    server.desk().keeps_a_place();
 }
 
 /// For proofs: how many bytes a draw has. Does nothing.
@@ -119,7 +149,8 @@ impl Device {
     ///
     /// # Errors
     ///
-    /// The first that applies: `Id` where the token's id has more than 64 bytes, `Token` where its scope is none, its claims have more than
+    /// The first that applies: `Id` where the token's id has more than 64 bytes, `Subtrees` where its scope reaches below its paths and the server
+    /// refuses that, `Token` where its scope is none, its claims have more than
     /// 65535 bytes, or its secret doesn't have 1 to 64, and `TooLong` where its post, which [`Device::open`] sends, would be longer than a datagram
     /// may be: 1152 bytes; or `Token` for lack of memory, whatever they are.
     pub fn new<A: Ciphers>(
@@ -130,6 +161,8 @@ impl Device {
         ensures begun { IfOk result (λ device. IsBegun A.is_sealing parts own device) }
         ensures granted { IfOk result (λ device. (entries : List Entry) × IsScope own.scope entries × IsGranted A.is_sealing device (own_claims parts own) entries) }
         ensures fits { IfOk result (λ device. PostFits device.own) }
+        // Its server keeps a place for its token.
+        ensures place { IfOk result (λ device. device.server.desk.rules.reserved ≡ Some own.id) }
         ensures refused { IfErr result (λ error. IsNoDevice parts own error) }
     {
         where_a_world_begins::<A>();
@@ -137,8 +170,13 @@ impl Device {
         if own.id.len() > LONGEST_ID {
             return Err(NewError::Id);
         }
+        let far = reaches_too_far(alloc, &parts, &own)?;
+        if far {
+            return Err(NewError::Subtrees);
+        }
         let audience = parts.audience.clone()?;
-        let alone = server_alone(alloc, parts);
+        let id = own.id.clone()?;
+        let alone = server_alone(alloc, parts, id);
         let start = match enrolled::<A>(alloc, alone, own_holder(alloc, audience, own)) {
             Ok(start) => start,
             Err(error) => return Err(NewError::Token(error)),
@@ -342,6 +380,9 @@ impl Device {
     /// the id is taken, and no request is served under its contexts, until [`Device::allow`] or whoever may removes the value. The device's own
     /// scope must name the path.
     ///
+    /// Where the server keeps memory in hand for this, as one with a revocation path does, that is given back for the call, and taken again once it is
+    /// over: so whoever fills the memory with resources can still be revoked.
+    ///
     /// `None` where the server has no revocation path, or the id is too long for one. Without memory for the request an `AllocError`. Then
     /// nothing has changed.
     pub fn revoke<A: Ciphers>(
@@ -362,11 +403,8 @@ impl Device {
         // Without a revocation path nothing takes memory.
         ensures needs_memory { OnErr result (IsSome self.old.server.desk.rules.revoked) }
     {
-        match self.server.desk().revocation_of(alloc, id)? {
-            Some(path) => {
-                let round = self.put::<A>(alloc, now, path, nothing(alloc), draws)?;
-                Ok(Some(round))
-            }
+        match self.rule::<A>(alloc, now, Ruling::Revoke, id, draws)? {
+            Some(ruled) => Ok(Some(ruled.into_round())),
             None => Ok(None),
         }
     }
@@ -392,10 +430,82 @@ impl Device {
         // Without a revocation path nothing takes memory.
         ensures needs_memory { OnErr result (IsSome self.old.server.desk.rules.revoked) }
     {
+        match self.rule::<A>(alloc, now, Ruling::Allow, id, draws)? {
+            Some(ruled) => Ok(Some(ruled.into_round())),
+            None => Ok(None),
+        }
+    }
+
+    /// Revokes the tokens of this id, or lets them in again, as [`Device::revoke`] and [`Device::allow`] do, and tells whether they are revoked then: the
+    /// answer alone says what came of the request.
+    pub fn rule<A: Ciphers>(
+        &mut self,
+        alloc: Global,
+        now: Moment,
+        ruling: Ruling,
+        id: &[u8],
+        draws: OwnDraws,
+    ) -> Result<Option<Ruled>, AllocError>
+        ensures asked { IfOk result (λ found. IfSome found (λ ruled. (path : List ℕ) × (revocation_of self.old.server.desk.rules.revoked id.now ≡ Some path)
+            × AsksItsServer A.is_sealing A.TAG self.old
+            (record { at = now; draw = draws.own; server_draw = draws.server; request = own_request_of (method_of ruling) path None [] }) ruled.round self.new
+            × IsAnsweredWhereReady self.old (record { at = now; draw = draws.own; request = own_request_of (method_of ruling) path None [] }) ruled.round self.new)) }
+        ensures told { IfOk result (λ found. IfSome found (λ ruled. ruled.is_revoked
+            ≡ is_revoked self.new.server.desk.rules.revoked self.new.server.tree id.now)) }
+        ensures none { IfOk result (λ found. IfNone found ((revocation_of self.old.server.desk.rules.revoked id.now ≡ None) × (self.new ≡ self.old))) }
+        ensures run { IfOk result (λ found. IfSome found (λ ruled. AllGoOn self.old (λ number. noted number ruled.round) self.new)) }
+        ensures entry { IfOk result (λ found. IfSome found (λ ruled. IsOfAnEntry self.old ruled.round)) }
+        ensures err { OnErr result (self.new ≡ self.old) }
+        // Without a revocation path nothing takes memory.
+        ensures needs_memory { OnErr result (IsSome self.old.server.desk.rules.revoked) }
+    {
+        self.give_back();
+        let found = self.rule_once::<A>(alloc, now, ruling, id, draws);
+        self.take_in_hand(alloc);
+        found
+    }
+
+    /// Gives back what the server keeps in hand.
+    pub(crate) fn give_back(&mut self)
+        ensures { self.new ≡ self.old }
+    {
+        self.server.give_back();
+    }
+
+    /// Takes it again, where it can be had.
+    pub(crate) fn take_in_hand(&mut self, alloc: Global)
+        ensures { self.new ≡ self.old }
+    {
+        self.server.take_in_hand(alloc);
+    }
+
+    /// The same with the memory that there is.
+    fn rule_once<A: Ciphers>(
+        &mut self,
+        alloc: Global,
+        now: Moment,
+        ruling: Ruling,
+        id: &[u8],
+        draws: OwnDraws,
+    ) -> Result<Option<Ruled>, AllocError>
+        ensures asked { IfOk result (λ found. IfSome found (λ ruled. (path : List ℕ) × (revocation_of self.old.server.desk.rules.revoked id.now ≡ Some path)
+            × AsksItsServer A.is_sealing A.TAG self.old
+            (record { at = now; draw = draws.own; server_draw = draws.server; request = own_request_of (method_of ruling) path None [] }) ruled.round self.new
+            × IsAnsweredWhereReady self.old (record { at = now; draw = draws.own; request = own_request_of (method_of ruling) path None [] }) ruled.round self.new)) }
+        ensures told { IfOk result (λ found. IfSome found (λ ruled. ruled.is_revoked
+            ≡ is_revoked self.new.server.desk.rules.revoked self.new.server.tree id.now)) }
+        ensures none { IfOk result (λ found. IfNone found ((revocation_of self.old.server.desk.rules.revoked id.now ≡ None) × (self.new ≡ self.old))) }
+        ensures run { IfOk result (λ found. IfSome found (λ ruled. AllGoOn self.old (λ number. noted number ruled.round) self.new)) }
+        ensures entry { IfOk result (λ found. IfSome found (λ ruled. IsOfAnEntry self.old ruled.round)) }
+        ensures err { OnErr result (self.new ≡ self.old) }
+        ensures needs_memory { OnErr result (IsSome self.old.server.desk.rules.revoked) }
+    {
         match self.server.desk().revocation_of(alloc, id)? {
             Some(path) => {
-                let round = self.remove::<A>(alloc, now, path, draws)?;
-                Ok(Some(round))
+                let request = own_request(alloc, ruling.method(), path, nothing(alloc));
+                let round = self.ask::<A>(alloc, now, &request, draws)?;
+                let is_revoked = is_there(self.server.tree(), &request.path);
+                Ok(Some(Ruled { round, is_revoked }))
             }
             None => Ok(None),
         }
@@ -415,6 +525,9 @@ impl Device {
         // Where it may, and no step wants memory.
         ensures made { IfOk result (λ round. (claims : AnyClaims) (entries : List Entry)
             → MayOpen A.is_sealing self.old now draws.own claims entries → IsWhole round → IsOpen now entries self.new) }
+        // A place is kept for it, so no others keep it out.
+        ensures place { IfOk result (λ round. (claims : AnyClaims) (entries : List Entry)
+            → MayReturn A.is_sealing self.old now draws.own claims entries → IsWhole round → IsOpen now entries self.new) }
         // Its post is never too long for a datagram.
         ensures fits { IfOk result (λ round. round.begun.notes.result ≢ Some (result_of.Refused refusal.datagram_too_long)) }
         ensures run { IfOk result (λ round. AllGoOn self.old (λ number. noted number round) self.new) }
@@ -423,7 +536,9 @@ impl Device {
         ensures needs_memory { OnErr result (self.old.own.waiting ≡ None) }
     {
         a_context_is_made::<A>();
+        a_place_is_kept::<A>();
         runs_go_on::<A>();
+        keeps_its_place(&self.server);
         is_drawn(&draws.server);
         is_drawn(&draws.own);
         let begun = self.own.node.exchange(alloc, now, &draws.own)?;

@@ -15,6 +15,9 @@ pub enum NewError {
     /// Its token's id has more than 64 bytes.
     #[error("the id of the device's token is too long")]
     Id,
+    /// Its token's scope reaches below its paths, which its server refuses ([`crate::ServerParts::subtrees`]).
+    #[error("the scope of the device's token reaches below its paths")]
+    Subtrees,
     /// Its token can't be minted, or there was no memory.
     #[error("{0}")]
     Token(EnrollError),

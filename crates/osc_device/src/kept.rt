@@ -352,7 +352,7 @@ impl<K: Keeping> KeptDevice<K> {
         one_path_changes();
         self.goes_on()?;
         let found = self.device.revoke::<A>(alloc, now, id, draws)?;
-        self.keep(alloc, entry_found(&found))?;
+        self.keep_ruling(alloc, entry_found(&found))?;
         Ok(found)
     }
 
@@ -378,7 +378,7 @@ impl<K: Keeping> KeptDevice<K> {
         one_path_changes();
         self.goes_on()?;
         let found = self.device.allow::<A>(alloc, now, id, draws)?;
-        self.keep(alloc, entry_found(&found))?;
+        self.keep_ruling(alloc, entry_found(&found))?;
         Ok(found)
     }
 
@@ -413,6 +413,22 @@ impl<K: Keeping> KeptDevice<K> {
             Some(error) => Err(CallError::NotKept(error)),
             None => Ok(()),
         }
+    }
+
+    /// Keeps what a ruling changed, with the memory that the server has in hand for it.
+    fn keep_ruling(&mut self, alloc: Global, served: Option<&Entry>) -> Result<(), CallError>
+        ensures device { self.new.device ≡ self.old.device }
+        ensures ok { OnOk result (self.new.unkept ≡ self.old.unkept) }
+        ensures err { IfErr result (λ e. IsUnkept e self.new) }
+        ensures kept { (before : AnyTree) → IsChangeOf (option_copied served.entry) before (tree_of self.old) → K.keeps self.old.keeper before
+            → OnOk result (K.keeps self.new.keeper (tree_of self.old)) }
+        ensures crash { (before : AnyTree) → IsChangeOf (option_copied served.entry) before (tree_of self.old) → K.keeps self.old.keeper before
+            → K.may_hold self.new.keeper before (tree_of self.old) }
+    {
+        self.device.give_back();
+        let kept = self.keep(alloc, served);
+        self.device.take_in_hand(alloc);
+        kept
     }
 
     /// Keeps what the request of this entry changed, if there is one. Where it isn't kept, that is noted.

@@ -9,14 +9,14 @@ ghost use Rattle.osc_scope.specs.{Entry};
 ghost use Rattle.osc_token.specs.{HasLawfulParts};
 ghost use Rattle.osc_token.specs.declared.claims.Claims.{Claims as AnyClaims};
 ghost use Rattle.osc_world.specs.{minted_of};
-ghost use Rattle.osc_authz.specs.{ClientContextState};
+ghost use Rattle.osc_authz.specs.{ClientContextState, KeepsPlace};
 ghost use Rattle.osc_authz.specs.SecurityContext.{SecurityContext};
 ghost use Rattle.osc_client.specs.{Begins, Requests, IsLawfulClient, Asked, core as own_core};
 ghost use Rattle.osc_client.specs.State.{State as Own};
 ghost use Rattle.osc_rounds.specs.{IsLawfulServer};
 ghost use Rattle.osc_run.specs.{ClientStep, by_server, IsReached, Noted, ServerStep, ClientState, Minted, WorldState};
 ghost use Rattle.osc_server.specs.{core as server_core};
-ghost use Rattle.osc_device.specs.Answered.{IsAnswered, IsOpen, IsReady, IsWhole, MayOpen};
+ghost use Rattle.osc_device.specs.Answered.{IsAnswered, IsOpen, IsReady, IsWhole, MayOpen, MayReturn};
 ghost use Rattle.osc_device.specs.Begun.{IsBegun, IsGranted, own_claims};
 ghost use Rattle.osc_device.specs.Carrying.{Carries};
 ghost use Rattle.osc_device.specs.Runs.{AllGoOn, AreOthers, IsIn, IsOfAnEntry, KeepsItsPromises, first_run, noted, restarts};
@@ -63,6 +63,15 @@ pub fn a_granted_device_may_open<A: Ciphers>()
         → device.own.waiting ≡ None → device.server.desk.table ≡ [] → device.server.endpoint.seen ≡ []
         → MayOpen A.is_sealing device now draw claims entries }
 {}
+
+/// So may one whose server keeps a place for its token, whoever else has a context there.
+pub fn a_place_is_kept<A: Ciphers>()
+    ensures { (device : State) (now : AnyMoment) (draw : AnyDraw) (claims : AnyClaims) (entries : List Entry)
+        → KeepsPlace device.server.desk.rules.reserved device.server.desk.table
+        → MayReturn A.is_sealing device now draw claims entries → MayOpen A.is_sealing device now draw claims entries }
+{
+    osc_authz::laws::a_kept_place_is_free();
+}
 
 /// A run begins with a device, whoever else holds tokens of its server: the others and the device did nothing yet.
 pub fn a_run_begins<A: Ciphers>()

@@ -11,6 +11,7 @@ mod kept;
 pub mod laws;
 mod own_token;
 mod round;
+mod ruling;
 mod words;
 
 pub use device::Device;
@@ -19,4 +20,5 @@ pub use error::{CallError, NewError};
 pub use kept::KeptDevice;
 pub use own_token::{OwnToken, ServerParts};
 pub use round::Round;
+pub use ruling::{Ruled, Ruling};
 pub use words::{Holder, Refused, Served};

@@ -27,12 +27,15 @@ pub struct ServerParts {
     /// How many seconds after the post that made it a context counts no more: what was held back on its way for longer is refused. Without a
     /// number a context counts as long as its token.
     pub context_seconds: Option<u32>,
+    /// Whether a token's scope may reach what is below its paths: bit 16 of an entry's methods. RFC 9237 has FETCH there, so where an issuer
+    /// may mean that, this is `false`: then a post of such a token is refused, and the device's own token has none.
+    pub subtrees: bool,
 }
 
 /// The device's own token, which no other has: it is minted under the server's key, for its audience, and counts at all times.
 #[derive(Drop)]
 pub struct OwnToken {
-    /// By what it is named: 0 to 64 bytes, which no other token has.
+    /// By what it is named: 0 to 64 bytes, which no other token has. Its place among those that may have a context at once is kept for it.
     pub id: Bytes,
     /// The master secret: 1 to 64 bytes of a generator that nobody can guess, which no other token has.
     pub secret: Bytes,

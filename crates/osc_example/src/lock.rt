@@ -36,6 +36,7 @@ fn parts(alloc: Global) -> Result<ServerParts, Fault> {
         audience: Audience::new(alloc, AUDIENCE)?,
         revoked: None,
         context_seconds: None,
+        subtrees: true,
     })
 }
 

@@ -3,7 +3,7 @@ ghost use Rattle.std.specs.Prelude.{◌<◌};
 
 use osc_ccm::Suite;
 use osc_client::Client;
-use osc_device::{Device, NewError, OwnDraws, OwnToken, Round, ServerParts};
+use osc_device::{Device, NewError, OwnDraws, OwnToken, Round, Ruling, ServerParts};
 use osc_fixtures::{
     CLIENT, GET, GET_AND_POST, KEY, POST, PUT, SERVER, at, client, drawn, own, request, sent_in,
     straight,
@@ -32,6 +32,7 @@ fn parts(alloc: Global) -> Result<ServerParts, AllocError> {
         audience: Audience::new(alloc, "s")?,
         revoked: None,
         context_seconds: None,
+        subtrees: true,
     })
 }
 
@@ -425,5 +426,97 @@ fn nothing_is_revoked_without_a_path(rt: HostRuntime) -> Result<(), Fail> {
     drop(device);
     assert!(rt; revokes == 1);
     assert!(rt; allows == 1);
+    Ok(())
+}
+
+// ---- a place of its own
+
+/// GET on `/log`, and what is below it.
+const BELOW: &[u8] = b"\x81\x82\x64/log\x11";
+
+/// What a guest of this number learns of a post of its token, with which it can GET `/log`, and what is below it.
+fn guest_posts(rt: &impl Abort, alloc: Global, device: &mut Device, number: u8) -> u8 {
+    let guest = client(alloc, own(number, BELOW), straight());
+    let mut guest = guest.expect(rt, "memory");
+    let learnt = posts(alloc, device, &mut guest, number);
+    drop(guest);
+    learnt
+}
+
+fn others_come_first(rt: &impl Abort, alloc: Global, device: &mut Device) {
+    for number in 1..64 {
+        assert!(rt; guest_posts(rt, alloc, device, number) == 1);
+    }
+    assert!(rt; guest_posts(rt, alloc, device, 64) == 0xa3);
+    assert!(rt; opens(alloc, device, 65));
+    assert!(rt; guest_posts(rt, alloc, device, 66) == 0xa3);
+    device.restart();
+    assert!(rt; guest_posts(rt, alloc, device, 67) == 1);
+    assert!(rt; opens(alloc, device, 68));
+}
+
+/// 63 others have a context at once, and no more: the last of the 64 places is the device's own, whenever it comes.
+#[test]
+fn a_device_has_a_place(rt: HostRuntime) -> Result<(), Fail> {
+    let mut device = device(&rt, rt.alloc());
+    others_come_first(&rt, rt.alloc(), &mut device);
+    drop(device);
+    Ok(())
+}
+
+/// A device whose server takes no scope that reaches below its paths; its own token has this one.
+fn without_subtrees(alloc: Global, scope: &[u8]) -> Result<Device, NewError> {
+    let mut parts = parts(alloc)?;
+    parts.subtrees = false;
+    let own = own_token(alloc, scope)?;
+    Device::new::<Suite>(alloc, parts, own)
+}
+
+/// Such a scope is refused to others, and of the device's own token no device is made.
+#[test]
+fn scopes_that_reach_below(rt: HostRuntime) -> Result<(), Fail> {
+    let error = without_subtrees(rt.alloc(), BELOW).err();
+    assert!(rt; error == Some(NewError::Subtrees));
+    let mut device = without_subtrees(rt.alloc(), SCOPE).expect(&rt, "a device");
+    let is_open = opens(rt.alloc(), &mut device, 1);
+    let guest = guest_posts(&rt, rt.alloc(), &mut device, 2);
+    drop(device);
+    assert!(rt; is_open);
+    assert!(rt; guest == 0x80);
+    Ok(())
+}
+
+fn rules(
+    rt: &impl Abort,
+    alloc: Global,
+    device: &mut Device,
+    ruling: Ruling,
+    number: u8,
+) -> (u8, bool) {
+    let draws = OwnDraws {
+        own: drawn(number),
+        server: drawn(number.wrapping_add(100)),
+    };
+    let ruled = device.rule::<Suite>(alloc, at(0), ruling, GUEST, draws);
+    let ruled = ruled.expect(rt, "memory").expect(rt, "a path");
+    let is_revoked = ruled.is_revoked;
+    let round = ruled.into_round();
+    let code = answer(&round);
+    drop(round);
+    (code, is_revoked)
+}
+
+/// What a ruling tells is what is so, whatever the answer's code.
+#[test]
+fn a_ruling_tells_what_is_so(rt: HostRuntime) -> Result<(), Fail> {
+    let path = Path::from_text(rt.alloc(), b"/revoked")?;
+    let mut device = owner(&rt, rt.alloc(), path);
+    let revoked = rules(&rt, rt.alloc(), &mut device, Ruling::Revoke, 2);
+    let again = rules(&rt, rt.alloc(), &mut device, Ruling::Revoke, 3);
+    let allowed = rules(&rt, rt.alloc(), &mut device, Ruling::Allow, 4);
+    drop(device);
+    assert!(rt; revoked == (0x41, true));
+    assert!(rt; again == (0x44, true));
+    assert!(rt; allowed == (0x42, false));
     Ok(())
 }

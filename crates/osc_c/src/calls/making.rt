@@ -1,10 +1,10 @@
 //! A device of keys, names and scopes.
-ghost use Rattle.std.specs.Prelude.{◌≡◌, ◌==◌, ◌↔◌, ◌≤◌, IfErr, IfOk, IsTrue, drop, length, take};
+ghost use Rattle.std.specs.Prelude.{◌≡◌, ◌==◌, ◌↔◌, ◌≤◌, IfErr, IfOk, IsTrue, OnOk, drop, length, take};
 ghost use Rattle.std.specs.List.{count_by};
 ghost use Rattle.osc_c.specs.Arguments.{IsUnfit};
 ghost use Rattle.osc_c.specs.Given.{device_given, rules_given};
 ghost use Rattle.osc_c.specs.Inner.Reading.{IsUnread};
-ghost use Rattle.osc_c.specs.Making.{AreParts, AreRules, IsNewDevice, IsNoNewDevice, IsNoOpenScope, IsOpenScope, IsOwnToken, IsRevocationText, limit_of, old_key_of, revoked_of, rules_of, unmade_as};
+ghost use Rattle.osc_c.specs.Making.{AreParts, AreRules, IsDeviceSize, IsNewDevice, IsNoNewDevice, IsNoOpenScope, IsOpenScope, IsOwnToken, IsRevocationText, limit_of, old_key_of, revoked_of, rules_of, subtrees_of, unmade_as};
 ghost use Rattle.osc_c.specs.Tokens.{IsNoScopeText};
 ghost use Rattle.osc_model.specs.{segments_of};
 ghost use Rattle.osc_c.specs.declared.calls.outcome.Outcome.TheVariants.{BadArgument};
@@ -34,6 +34,9 @@ const SECRET: usize = 16;
 /// The most segments of a revocation path: with those of a token's id it isn't too long.
 const MOST_SEGMENTS: usize = 4;
 
+/// The bytes of the settings' first version, which ended before `no_subtrees`.
+const FIRST_SIZE: usize = 112;
+
 /// What a device's server rules, beside its key and its audience.
 #[derive(Drop)]
 pub struct Rules {
@@ -43,6 +46,8 @@ pub struct Rules {
     pub revoked: Option<Path>,
     /// How many seconds after the post that made it a context counts no more.
     pub seconds: Option<u32>,
+    /// Whether a token's scope may reach below its paths.
+    pub subtrees: bool,
 }
 
 impl Rules {
@@ -52,10 +57,12 @@ impl Rules {
         ensures err { IfErr result (IsUnfit (AreRules (rules_given settings.now))) }
     {
         let old_key = old_key(settings)?;
+        let subtrees = subtrees(settings)?;
         Ok(Rules {
             old_key,
             revoked: revocation_path(alloc, settings.revoked.bytes)?,
             seconds: limit(settings.context_seconds),
+            subtrees,
         })
     }
 }
@@ -71,6 +78,29 @@ fn old_key(settings: &PlainDeviceSettings<'_>) -> Result<Option<[u8; 16]>, Outco
     } else {
         Ok(None)
     }
+}
+
+/// Whether a token's scope may reach below its paths. Settings of the first version don't say: the member isn't there.
+fn subtrees(settings: &PlainDeviceSettings<'_>) -> Result<bool, Outcome>
+    ensures ok { IfOk result (λ may. (may ≡ subtrees_of (rules_given settings.now)) × ((rules_given settings.now).no_subtrees ≤ 1)) }
+    ensures err { IfErr result (λ outcome. (outcome ≡ BadArgument) × ¬ ((rules_given settings.now).no_subtrees ≤ 1)) }
+{
+    if settings.size == FIRST_SIZE {
+        return Ok(true);
+    }
+    let refused = flag(settings.no_subtrees)?;
+    Ok(!refused)
+}
+
+/// Refuses settings whose first member is no size of theirs.
+fn sized_as_settings(size: usize) -> Result<(), Outcome>
+    ensures ok { OnOk result (IsDeviceSize size) }
+    ensures err { IfErr result (λ outcome. (outcome ≡ BadArgument) × ¬ IsDeviceSize size) }
+{
+    if size == FIRST_SIZE {
+        return Ok(());
+    }
+    sized(size, size_of::<PlainDeviceSettings<'_>>())
 }
 
 /// How many `/` these bytes have.
@@ -143,6 +173,7 @@ fn parts(
         old_key,
         revoked,
         seconds,
+        subtrees,
     } = rules;
     Ok(ServerParts {
         tree: Tree::new(alloc),
@@ -152,6 +183,7 @@ fn parts(
         audience,
         revoked,
         context_seconds: seconds,
+        subtrees,
     })
 }
 
@@ -217,7 +249,7 @@ fn refused(error: NewError) -> Outcome
 {
     match error {
         NewError::Token(EnrollError::Memory) => Outcome::NoMemory,
-        NewError::Token(EnrollError::BadScope) => Outcome::BadScope,
+        NewError::Token(EnrollError::BadScope) | NewError::Subtrees => Outcome::BadScope,
         NewError::Token(EnrollError::TooLong) | NewError::TooLong => Outcome::TooLong,
         _ => Outcome::BadArgument,
     }
@@ -233,7 +265,7 @@ impl DeviceNode {
         ensures ok { IfOk result (λ node. IsNewDevice A.is_sealing (device_given settings.now) draw.now.bytes node) }
         ensures err { IfErr result (IsNoNewDevice (device_given settings.now) draw.now.bytes) }
     {
-        sized(settings.size, size_of::<PlainDeviceSettings<'_>>())?;
+        sized_as_settings(settings.size)?;
         let audience = text(settings.audience.bytes)?;
         let rules = Rules::of(alloc, settings)?;
         let audience = Audience::new(alloc, audience)?;

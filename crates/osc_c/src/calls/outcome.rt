@@ -6,6 +6,9 @@ ghost use Rattle.osc_c.specs.declared.calls.outcome.Outcome.TheVariants.{NoMemor
 use osc_model::refusals;
 use std::alloc::AllocError;
 
+/// The number of what was answered and refused, beside those of `osc_model::refusals`.
+const REFUSED: i32 = 39;
+
 /// What a call answers: that it is done, or why it isn't.
 #[derive(Clone, Copy, Debug, PartialEq, Eq)]
 pub enum Outcome {
@@ -35,6 +38,8 @@ pub enum Outcome {
     Unverified,
     /// The proxy has heard something already.
     NotNow,
+    /// What was asked was answered, and refused.
+    Refused,
 }
 
 impl Outcome {
@@ -56,6 +61,7 @@ impl Outcome {
             Outcome::Lost => refusals::LOST as i32,
             Outcome::Unverified => refusals::UNVERIFIED as i32,
             Outcome::NotNow => refusals::NOT_NOW as i32,
+            Outcome::Refused => REFUSED,
         }
     }
 }

@@ -3,7 +3,7 @@ ghost use Rattle.std.specs.Prelude.{◌≡◌, ◌≢◌, ◌<◌, IfErr, IfOk, 
 ghost use Rattle.osc_c.specs.Arguments.{IsUnfit};
 ghost use Rattle.osc_device.specs.{own_request};
 ghost use Rattle.osc_c.specs.Given.{value_given};
-ghost use Rattle.osc_c.specs.Own.{Asks, AsksBy, AsksOfId, ComesTo, FitsValue, IsBegun, Opens, OpensBy, RemovesBy, asked_for, is_refused_by, last_after};
+ghost use Rattle.osc_c.specs.Own.{Asks, AsksBy, ComesAs, ComesTo, FitsValue, IsBegun, IsSoWhereDone, Opens, OpensBy, RemovesBy, RulesBy, are_revoked, asked_for, is_refused_by, is_so as is_so_as, last_after, revoked_by};
 ghost use Rattle.osc_c.specs.Inner.Writes.{Reads};
 ghost use Rattle.osc_c.specs.Told.{told_of};
 ghost use Rattle.osc_c.specs.declared.calls.outcome.Outcome.TheVariants as outcome;
@@ -14,9 +14,9 @@ use crate::calls::device::DeviceNode;
 use crate::calls::last::Last;
 use crate::calls::outcome::Outcome;
 use crate::calls::plain::{PlainDraws, PlainResource};
-use crate::calls::round::{Told, bare, what_is_told};
+use crate::calls::round::{Told, bare, settled, what_is_told};
 use osc_ccm::Ciphers;
-use osc_device::{OwnDraws, Round};
+use osc_device::{OwnDraws, Round, Ruled, Ruling};
 use osc_model::{Bytes, ClientResult, Draw, ETags, Method, Moment, Path, Request};
 use std::alloc::Global;
 
@@ -74,6 +74,16 @@ fn is_refused(round: &Round) -> bool
     ensures { result ≡ is_refused_by round.now.begun.notes.result }
 {
     matches!(round.begun.notes.result(), Some(ClientResult::Refused(_)))
+}
+
+/// Whether it is so, as it was ruled, where the tokens are revoked, or where they aren't.
+fn is_so(ruling: Ruling, is_revoked: bool) -> bool
+    ensures { result ≡ is_so_as ruling is_revoked }
+{
+    match ruling {
+        Ruling::Revoke => is_revoked,
+        Ruling::Allow => !is_revoked,
+    }
 }
 
 impl DeviceNode {
@@ -143,27 +153,44 @@ impl DeviceNode {
         }
     }
 
-    /// Asks for this method, and nothing else, at the path that is for the tokens of this id: PUT revokes them, and DELETE lets them in again.
-    /// `BadArgument` where there is no such path.
-    pub fn ask_of_id<A: Ciphers>(
+    /// Revokes the tokens of this id, or lets them in again: done where it is so then. `BadArgument` where there is no path for the id.
+    pub fn rule<A: Ciphers>(
         &mut self,
         alloc: Global,
-        method: Method,
+        ruling: Ruling,
         now: u64,
         id: &[u8],
         draws: &PlainDraws,
     ) -> Told
-        ensures { AsksOfId A.is_sealing A.TAG method self.old (record { ms = now; id = id.now; draws = draws.now }) result self.new }
+        ensures rules { RulesBy A.is_sealing A.TAG ruling self.old (record { ms = now; id = id.now; draws = draws.now }) result self.new }
+        ensures so { IsSoWhereDone ruling (record { ms = now; id = id.now; draws = draws.now }) result self.new }
     {
-        let now = match moment(now) {
-            Ok(now) => now,
-            Err(outcome) => return bare(outcome),
+        match moment(now) {
+            Ok(now) => self.rule_at::<A>(alloc, ruling, now, id, draws),
+            Err(outcome) => bare(outcome),
+        }
+    }
+
+    fn rule_at<A: Ciphers>(
+        &mut self,
+        alloc: Global,
+        ruling: Ruling,
+        now: Moment,
+        id: &[u8],
+        draws: &PlainDraws,
+    ) -> Told
+        ensures rules { RulesBy A.is_sealing A.TAG ruling self.old (record { ms = now.ms; id = id.now; draws = draws.now }) result self.new }
+        ensures so { IsSoWhereDone ruling (record { ms = now.ms; id = id.now; draws = draws.now }) result self.new }
+    {
+        let both = OwnDraws {
+            own: Draw(draws.own.bytes),
+            server: Draw(draws.server.bytes),
         };
-        match self.device.server().desk().revocation_of(alloc, id) {
-            Ok(Some(path)) => {
-                let nothing = Bytes::new(alloc);
-                let request = own_request(alloc, method, path, None, nothing);
-                self.ask_at::<A>(alloc, now, &request, draws)
+        match self.device.rule::<A>(alloc, now, ruling, id, both) {
+            Ok(Some(ruled)) => {
+                let Ruled { round, is_revoked } = ruled;
+                let told = keep(&mut self.last, round);
+                settled(is_so(ruling, is_revoked), told)
             }
             Ok(None) => bare(Outcome::BadArgument),
             Err(_) => bare(Outcome::NoMemory),

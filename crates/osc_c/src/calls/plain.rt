@@ -76,6 +76,8 @@ pub struct PlainDeviceSettings<'a> {
     pub own: PlainBytes<'a>,
     /// The text of the path below which a resource revokes a token; empty for none.
     pub revoked: PlainBytes<'a>,
+    /// 1: a token whose scope reaches below its paths is refused; 0: it isn't. Settings of the first version end before this.
+    pub no_subtrees: u8,
 }
 
 /// What a client was granted, and the way to its server.

@@ -1,6 +1,6 @@
 //! The outcome of what a device did at its own server.
 ghost use Rattle.std.specs.Prelude.{◌≡◌, option_map};
-ghost use Rattle.osc_c.specs.Told.{begun_as, came_by, came_of, learnt_as, refused_as, told_of};
+ghost use Rattle.osc_c.specs.Told.{begun_as, came_by, came_of, learnt_as, refused_as, settled as settled_as, told_of};
 
 use crate::calls::outcome::Outcome;
 use osc_device::Round;
@@ -30,6 +30,20 @@ pub(crate) fn bare(outcome: Outcome) -> Told
     ensures { result ≡ record { outcome = outcome; code = 0 } }
 {
     Told { outcome, code: 0 }
+}
+
+/// What is told of a ruling, by whether it is so now: what isn't so wasn't done, but refused, whatever the answer says.
+pub(crate) fn settled(is_so: bool, told: Told) -> Told
+    ensures { result ≡ settled_as is_so told }
+{
+    let Told { outcome, code } = told;
+    match outcome {
+        Outcome::Done if !is_so => Told {
+            outcome: Outcome::Refused,
+            code,
+        },
+        _ => told,
+    }
 }
 
 /// Why nothing was begun, by the client's number.

@@ -1,4 +1,5 @@
 use Rattle.std.proofs.Common.{◌≢◌, false, Some, ◌∙◌, ap, refl, sym, subst}
+use Rattle.osc_authz.specs.{KeepsPlace}
 use Rattle.osc_client.specs.{Begins, core}
 use Rattle.osc_client.specs.State.{State as Client}
 use Rattle.osc_run.specs.{ClientStep}
@@ -30,6 +31,20 @@ returns-clause-made g c = λ claims entries may whole.
     c.a_context_is_made.ensures c.args.self.now c.carry.new.self c.args.now c.args.draws.own c.args.draws.server claims entries c.exchange.new.self c.carry.result
     (sym (ap (λ k. k.origin) own) ∙ c.self.invariant.0, sym (ap (λ k. k.next_hop) own) ∙ c.self.invariant.1)
     c.has_lawful_parts.ensures may whole c.is_drawn.ensures
+    (subst (λ (begun : Step). Begins c.args.self.now.own c.args.now c.args.draws.own begun c.exchange.new.self) (sym c.carry.ensures.begun)
+    (subst (λ (old : Client). Begins old c.args.now c.args.draws.own c.in_ok-begun.begun c.exchange.new.self) own c.in_ok-begun.ensures.begun))
+    (subst (λ (old : Server). Carries g.A.Ciphers.is_sealing (device old c.exchange.new.self) c.args.now c.args.draws.server c.carry.result c.carry.new.self) server c.carry.ensures.carries)
+
+pub returns-clause-place : goal.returns-clause-place
+returns-clause-place g c = λ claims entries may whole.
+    let own = ap (λ d. d.own) c.self.view_is in
+    let server = ap (λ d. d.server) c.self.view_is in
+    c.a_context_is_made.ensures c.args.self.now c.carry.new.self c.args.now c.args.draws.own c.args.draws.server claims entries c.exchange.new.self c.carry.result
+    (sym (ap (λ k. k.origin) own) ∙ c.self.invariant.0, sym (ap (λ k. k.next_hop) own) ∙ c.self.invariant.1)
+    c.has_lawful_parts.ensures
+    (c.a_place_is_kept.ensures c.args.self.now c.args.now c.args.draws.own claims entries
+    (subst (λ (old : Server). KeepsPlace old.desk.rules.reserved old.desk.table) server c.keeps_its_place.ensures) may)
+    whole c.is_drawn.ensures
     (subst (λ (begun : Step). Begins c.args.self.now.own c.args.now c.args.draws.own begun c.exchange.new.self) (sym c.carry.ensures.begun)
     (subst (λ (old : Client). Begins old c.args.now c.args.draws.own c.in_ok-begun.begun c.exchange.new.self) own c.in_ok-begun.ensures.begun))
     (subst (λ (old : Server). Carries g.A.Ciphers.is_sealing (device old c.exchange.new.self) c.args.now c.args.draws.server c.carry.result c.carry.new.self) server c.carry.ensures.carries)

@@ -1,12 +1,24 @@
-use Rattle.std.proofs.Common.{sym, ap, ◌∙◌}
+use Rattle.std.proofs.Common.{◌≡◌, ℕ, List, [], None, Some, subst, sym}
 use Rattle.osc_model.specs.{revocation_of}
-use Rattle.osc_device.specs.State.{State}
+use Rattle.osc_model.specs.declared.code.Method.TheVariants.{Put}
+use Rattle.osc_device.specs.{AllGoOn, AsksItsServer, IsAnsweredWhereReady, IsOfAnEntry, noted, own_request}
+use Rattle.osc_device.specs.declared.round.Round.{Round}
 use Rattle.osc_device.proofs.device.Device.revoke.Goals as goal
 
-pub returns-in_ok-round-in-Some-clause-asked : goal.returns-in_ok-round-in-Some-clause-asked
-returns-in_ok-round-in-Some-clause-asked g c =
-    let desk = c.desk.ensures.desk ∙ ap (λ (device : State). device.server.desk) c.self.view_is in
-    let path = sym (c.in_ok-path.ensures.path ∙ ap (λ desk. revocation_of desk.rules.revoked c.args.id.now) desk) ∙ c.in-Some.is in
-    let asked = rw c.nothing.ensures at c.in_ok-round-in-Some.ensures.asked in
-    let answered = rw c.nothing.ensures at c.in_ok-round-in-Some.ensures.answered in
-    (c.in-Some.path, path, asked, answered)
+pub returns-in-Some-clause-asked : goal.returns-in-Some-clause-asked
+returns-in-Some-clause-asked g c =
+    subst (λ (round : Round). (path : List ℕ) × (revocation_of c.args.self.now.server.desk.rules.revoked c.args.id.now ≡ Some path)
+    × AsksItsServer g.A.Ciphers.is_sealing g.A.Ciphers.TAG c.args.self.now (record { at = c.args.now; draw = c.args.draws.own; server_draw = c.args.draws.server; request = own_request Put path None [] }) round c.rule.new.self
+    × IsAnsweredWhereReady c.args.self.now (record { at = c.args.now; draw = c.args.draws.own; request = own_request Put path None [] }) round c.rule.new.self)
+    (sym c.into_round.ensures)
+    (rw c.in-Some.is at c.in_ok-ruled.ensures.asked)
+
+pub returns-in-Some-clause-run : goal.returns-in-Some-clause-run
+returns-in-Some-clause-run g c =
+    subst (λ (round : Round). AllGoOn c.args.self.now (λ number. noted number round) c.rule.new.self) (sym c.into_round.ensures)
+    (rw c.in-Some.is at c.in_ok-ruled.ensures.run)
+
+pub returns-in-Some-clause-entry : goal.returns-in-Some-clause-entry
+returns-in-Some-clause-entry g c =
+    subst (λ (round : Round). IsOfAnEntry c.args.self.now round) (sym c.into_round.ensures)
+    (rw c.in-Some.is at c.in_ok-ruled.ensures.entry)

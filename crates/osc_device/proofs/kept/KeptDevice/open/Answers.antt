@@ -19,7 +19,7 @@ returns-in_err-keep-clause-posted g c =
     is_withheld _ _ c.args.self.now c.from_residual-in_err-keep.result c.in_ok-round.round c.keep.new.self c.from_residual-in_err-keep.ensures.0 (search rules) (search rules)
     (moved (λ (old new : State). HasPosted g.A.Ciphers.is_sealing old c.args.now c.args.draws c.in_ok-round.round new)
     c.self.inside.device c.args.self.now.device c.open.new.self c.keep.new.self.device (ap (λ k. k.device) c.self.view_is) c.keep.ensures.device
-    (let e = c.in_ok-round.ensures in record { posting = e.begun.0; begins = e.begun.1; kind = e.begun.2; carries = e.begun.3; made = e.made; fits = e.fits; run = e.run }))
+    (let e = c.in_ok-round.ensures in record { posting = e.begun.0; begins = e.begun.1; kind = e.begun.2; carries = e.begun.3; made = e.made; place = e.place; fits = e.fits; run = e.run }))
 
 pub returns-in_err-keep-clause-crash : goal.returns-in_err-keep-clause-crash
 returns-in_err-keep-clause-crash g c =
@@ -32,7 +32,7 @@ returns-clause-posted g c =
     Yields.handed c.in_ok-round.round c.keep.new.self (search rules) (search rules)
     (moved (λ (old new : State). HasPosted g.A.Ciphers.is_sealing old c.args.now c.args.draws c.in_ok-round.round new)
     c.self.inside.device c.args.self.now.device c.open.new.self c.keep.new.self.device (ap (λ k. k.device) c.self.view_is) c.keep.ensures.device
-    (let e = c.in_ok-round.ensures in record { posting = e.begun.0; begins = e.begun.1; kind = e.begun.2; carries = e.begun.3; made = e.made; fits = e.fits; run = e.run }))
+    (let e = c.in_ok-round.ensures in record { posting = e.begun.0; begins = e.begun.1; kind = e.begun.2; carries = e.begun.3; made = e.made; place = e.place; fits = e.fits; run = e.run }))
 
 pub returns-clause-kept : goal.returns-clause-kept
 returns-clause-kept g c =

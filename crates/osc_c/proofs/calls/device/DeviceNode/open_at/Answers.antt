@@ -15,7 +15,7 @@ returns-in-Ok-clause-opens g c =
     let b = c.in-Ok.ensures.begun in
     inl (
       round,
-      ((b.0, b.1, b.3), c.in-Ok.ensures.made, c.in-Ok.ensures.run),
+      ((b.0, b.1, b.3), c.in-Ok.ensures.made, c.in-Ok.ensures.place, c.in-Ok.ensures.run),
       c.keep.ensures.told,
       c.keep.ensures.kept,
       kept old new c.keep.new.last round c.keep.result c.keep.ensures.told c.keep.ensures.kept
