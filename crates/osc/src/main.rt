@@ -108,6 +108,9 @@ fn run_sim(rt: &HostRuntime, words: &SimWords) -> Ended {
         input.inner().fault(),
         output.fault(),
     );
+    if ended == Ended::TooLong {
+        tell(rt, ended);
+    }
     match (ended, &words.pcap) {
         (Ended::Done, Some(name)) => capture(rt, input.kept(), name.as_str()),
         _ => ended,

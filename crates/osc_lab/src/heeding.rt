@@ -1,5 +1,5 @@
 //! The lines of a script that a lab heeds.
-ghost use Rattle.std.specs.Prelude.{◌≡◌, ◌≤◌, ◌-◌, ◌==◌, ℕ, true, IfErr, IfOk, take, not};
+ghost use Rattle.std.specs.Prelude.{◌≡◌, ◌≢◌, ◌≤◌, ◌-◌, ◌==◌, ℕ, true, IfErr, IfOk, take, not};
 ghost use Rattle.std.specs.FinMap as map;
 ghost use Rattle.std.specs.List.{list_all, position};
 ghost use Rattle.osc_script.specs.{IsFirstBad, IsScript, lines_of};
@@ -19,6 +19,7 @@ pub(crate) fn lab_script(alloc: Global, bytes: &[u8]) -> Result<Script, Ended>
     ensures heeded { IfOk result (λ lines. list_all spec.is_heeded lines ≡ true) }
     ensures puts { IfOk result (λ lines. CanPutAll map.empty lines) }
     ensures bad { IfErr result (λ ended. (n : ℕ) → ended ≡ Ended.BadLine n → spec.IsFirstUnheeded bytes.now n) }
+    ensures whole { IfErr result (λ ended. ended ≢ Ended.TooLong) }
     ensures ends { IfErr result ends.CannotLab }
 {
     a_script_fits();
@@ -36,6 +37,7 @@ pub(crate) fn lab_script(alloc: Global, bytes: &[u8]) -> Result<Script, Ended>
 fn first_unheeded(alloc: Global, bytes: &[u8], number: u64) -> Ended
     requires { IsFirstBad bytes.now number }
     ensures bad { (n : ℕ) → result ≡ Ended.BadLine n → spec.IsFirstUnheeded bytes.now n }
+    ensures whole { result ≢ Ended.TooLong }
     ensures ends { ends.CannotLab result }
 {
     one_script();

@@ -1,5 +1,5 @@
 //! A lab: what a script's clients ask, over sockets of this machine.
-ghost use Rattle.std.specs.Prelude.{◌≡◌, ◌≢◌, ◌↔◌, ℕ, List, Bool, [], length, true, IfErr, IfOk, IfSome, IsTrue, OnErr, OnOk};
+ghost use Rattle.std.specs.Prelude.{◌≡◌, ◌≢◌, ◌↔◌, ◌+◌, ℕ, List, Bool, [], length, true, IfErr, IfOk, IfSome, IsTrue, OnErr, OnOk};
 ghost use Rattle.std.specs.FinMap as map;
 ghost use Rattle.std.specs.Io.KnownBytes.{Appends};
 ghost use Rattle.std.specs.List.{list_all};
@@ -9,6 +9,7 @@ ghost use Rattle.osc_script.specs.{IsScript};
 ghost use Rattle.osc_simulation.specs.{granted, names_in, CanPutAll, IsStartOf, end_text};
 ghost use Rattle.osc_world.specs.{AreParts, Beginning};
 ghost use Rattle.osc_programs.specs.Ended as ends;
+ghost use Rattle.osc_programs.specs.Input.{IsBeyond, TakesAtMost, longest_script};
 ghost use Rattle.osc_lab.specs.Heeding as heeding;
 ghost use Rattle.osc_lab.specs.Inner.Telling as inner;
 ghost use Rattle.osc_lab.specs.Telling as telling;
@@ -21,7 +22,7 @@ use crate::nodes::LabNodes;
 use crate::ports::{Means, bind_all};
 use crate::telling::{tell, tell_open};
 use crate::turning::either;
-use osc_programs::{Ended, Sockets, bytes_of, supply_of};
+use osc_programs::{Ended, Sockets, script_bytes, supply_of};
 use osc_script::{ClientName, Line, Script};
 use osc_simulation::{Names, end_text, name_of_number, number_of, start_of};
 use osc_turn::{Port, Seeds, Watch};
@@ -36,7 +37,8 @@ use std::time::Clock;
 /// busy in a whole turn, or until so many whole turns are gone; a client that waits still is `open` then. It writes what the clients
 /// learn, as it comes, and the end lines.
 ///
-/// A script with another line, or one that means nothing, does nothing: `BadLine` has the number of the first such line.
+/// A script with another line, or one that means nothing, does nothing: `BadLine` has the number of the first such line. Nor does one that is
+/// too long.
 pub fn lab<R: Clock + Seeds + Sockets, I: Read, W: Write>(
     alloc: Global,
     runtime: &R,
@@ -49,6 +51,8 @@ pub fn lab<R: Clock + Seeds + Sockets, I: Read, W: Write>(
         × Appends (W.contents writer.old) (W.contents writer.new) text }
     ensures bad { (n : ℕ) → result ≡ Ended.BadLine n → IfSome (I.remaining reader.old) (λ script. heeding.IsFirstUnheeded script n)
         × Appends (W.contents writer.old) (W.contents writer.new) [] }
+    ensures long { result ≡ Ended.TooLong → IsBeyond longest_script (I.remaining reader.old) × Appends (W.contents writer.old) (W.contents writer.new) [] }
+    ensures end { TakesAtMost (longest_script + 1) (I.remaining reader.old) (I.remaining reader.new) }
     ensures early { result ≢ Ended.Done → spec.EndsEarly (R.gave runtime.now) (R.opened runtime.now) R.Socket.listens R.Socket.received R.Socket.sent result turns (I.remaining reader.old)
         (W.contents writer.old) (W.contents writer.new) }
     ensures ends { ends.EndsLab result }
@@ -65,9 +69,11 @@ fn script_of<I: Read>(alloc: Global, reader: &mut I) -> Result<Script, Ended>
     ensures heeded { IfOk result (λ lines. list_all heeding.is_heeded lines ≡ true) }
     ensures puts { IfOk result (λ lines. CanPutAll map.empty lines) }
     ensures bad { IfErr result (λ ended. (n : ℕ) → ended ≡ Ended.BadLine n → IfSome (I.remaining reader.old) (λ text. heeding.IsFirstUnheeded text n)) }
+    ensures long { IfErr result (λ ended. ended ≡ Ended.TooLong → IsBeyond longest_script (I.remaining reader.old)) }
+    ensures end { TakesAtMost (longest_script + 1) (I.remaining reader.old) (I.remaining reader.new) }
     ensures ends { IfErr result ends.CannotLab }
 {
-    let bytes = bytes_of(alloc, reader)?;
+    let bytes = script_bytes(alloc, reader)?;
     lab_script(alloc, &bytes)
 }
 

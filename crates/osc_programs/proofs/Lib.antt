@@ -9,3 +9,7 @@ pub mod PayloadFiles
 pub mod FirstTree
 pub mod Openings
 pub mod Holdings
+pub mod Scripts
+pub mod KeyFiles
+pub mod Inputs
+pub mod Placed

@@ -8,12 +8,13 @@ use Rattle.osc_server.specs.State.{State as Server}
 use Rattle.osc_run.specs.{Cause}
 use Rattle.osc_programs.specs.{BeginsBy, BeginsWith, IsKept, SomeKeeps, tree_of, EndsKept, EndsServer, EndsServing, EndsStore, EndsTurns, EndsUnkept, IsFault, NoSettings, NoStore, NotOpened, LeavesKept, LeavesNode, StaysKept}
 use Rattle.osc_programs.specs.declared.ended.Ended.{Ended}
-use Rattle.osc_programs.specs.declared.ended.Ended.TheVariants.{Done, BadCommandLine, BadLine, BadSettings, OutOfMemory, Failed, PortFailed, NotDone, Unopened, NotKept}
+use Rattle.osc_programs.specs.declared.ended.Ended.TheVariants.{Done, BadCommandLine, BadLine, TooLong, BadSettings, OutOfMemory, Failed, PortFailed, NotDone, Unopened, NotKept}
 
 pub fault_unkept : (ended : Ended) → IsFault ended → EndsUnkept ended
 fault_unkept Done f = absurd f
 fault_unkept BadCommandLine f = absurd f
 fault_unkept (BadLine number) f = absurd f
+fault_unkept TooLong f = absurd f
 fault_unkept BadSettings f = absurd f
 fault_unkept OutOfMemory f = tt
 fault_unkept Failed f = tt
@@ -26,6 +27,7 @@ pub unkept_kept : (ended : Ended) → EndsUnkept ended → EndsKept ended
 unkept_kept Done f = absurd f
 unkept_kept BadCommandLine f = absurd f
 unkept_kept (BadLine number) f = absurd f
+unkept_kept TooLong f = absurd f
 unkept_kept BadSettings f = absurd f
 unkept_kept OutOfMemory f = tt
 unkept_kept Failed f = tt
@@ -38,6 +40,7 @@ pub fault_kept : (ended : Ended) → IsFault ended → EndsKept ended
 fault_kept Done f = absurd f
 fault_kept BadCommandLine f = absurd f
 fault_kept (BadLine number) f = absurd f
+fault_kept TooLong f = absurd f
 fault_kept BadSettings f = absurd f
 fault_kept OutOfMemory f = tt
 fault_kept Failed f = tt
@@ -46,10 +49,24 @@ fault_kept NotDone f = absurd f
 fault_kept (Unopened error) f = absurd f
 fault_kept (NotKept error) f = absurd f
 
+pub turns_kept : (ended : Ended) → EndsTurns ended → EndsKept ended
+turns_kept Done f = tt
+turns_kept BadCommandLine f = absurd f
+turns_kept (BadLine number) f = absurd f
+turns_kept TooLong f = absurd f
+turns_kept BadSettings f = absurd f
+turns_kept OutOfMemory f = tt
+turns_kept Failed f = tt
+turns_kept PortFailed f = tt
+turns_kept NotDone f = absurd f
+turns_kept (Unopened error) f = absurd f
+turns_kept (NotKept error) f = absurd f
+
 pub kept_serving : (ended : Ended) → EndsKept ended → EndsServing ended
 kept_serving Done f = tt
 kept_serving BadCommandLine f = absurd f
 kept_serving (BadLine number) f = absurd f
+kept_serving TooLong f = absurd f
 kept_serving BadSettings f = absurd f
 kept_serving OutOfMemory f = tt
 kept_serving Failed f = tt
@@ -62,6 +79,7 @@ pub turns_serving : (ended : Ended) → EndsTurns ended → EndsServing ended
 turns_serving Done f = tt
 turns_serving BadCommandLine f = absurd f
 turns_serving (BadLine number) f = absurd f
+turns_serving TooLong f = absurd f
 turns_serving BadSettings f = absurd f
 turns_serving OutOfMemory f = tt
 turns_serving Failed f = tt
@@ -74,6 +92,7 @@ pub no_store_serving : (ended : Ended) → NoStore ended → EndsServing ended
 no_store_serving Done f = absurd f
 no_store_serving BadCommandLine f = absurd f
 no_store_serving (BadLine number) f = absurd f
+no_store_serving TooLong f = absurd f
 no_store_serving BadSettings f = absurd f
 no_store_serving OutOfMemory f = tt
 no_store_serving Failed f = tt
@@ -86,6 +105,7 @@ pub serving_server : (ended : Ended) → EndsServing ended → EndsServer ended
 serving_server Done f = tt
 serving_server BadCommandLine f = absurd f
 serving_server (BadLine number) f = absurd f
+serving_server TooLong f = absurd f
 serving_server BadSettings f = absurd f
 serving_server OutOfMemory f = tt
 serving_server Failed f = tt
@@ -98,6 +118,7 @@ pub settings_server : (ended : Ended) → NoSettings ended → EndsServer ended
 settings_server Done f = absurd f
 settings_server BadCommandLine f = absurd f
 settings_server (BadLine number) f = absurd f
+settings_server TooLong f = absurd f
 settings_server BadSettings f = tt
 settings_server OutOfMemory f = tt
 settings_server Failed f = tt
@@ -110,6 +131,7 @@ pub not_opened_no_store : (ended : Ended) → NotOpened ended → NoStore ended
 not_opened_no_store Done f = absurd f
 not_opened_no_store BadCommandLine f = absurd f
 not_opened_no_store (BadLine number) f = absurd f
+not_opened_no_store TooLong f = absurd f
 not_opened_no_store BadSettings f = absurd f
 not_opened_no_store OutOfMemory f = tt
 not_opened_no_store Failed f = tt
@@ -122,6 +144,7 @@ pub fault_no_store : (ended : Ended) → IsFault ended → NoStore ended
 fault_no_store Done f = absurd f
 fault_no_store BadCommandLine f = absurd f
 fault_no_store (BadLine number) f = absurd f
+fault_no_store TooLong f = absurd f
 fault_no_store BadSettings f = absurd f
 fault_no_store OutOfMemory f = tt
 fault_no_store Failed f = tt
@@ -134,6 +157,7 @@ pub fault_not_opened : (ended : Ended) → IsFault ended → NotOpened ended
 fault_not_opened Done f = absurd f
 fault_not_opened BadCommandLine f = absurd f
 fault_not_opened (BadLine number) f = absurd f
+fault_not_opened TooLong f = absurd f
 fault_not_opened BadSettings f = absurd f
 fault_not_opened OutOfMemory f = tt
 fault_not_opened Failed f = tt
@@ -146,6 +170,7 @@ pub not_opened_store : (ended : Ended) → NotOpened ended → EndsStore ended
 not_opened_store Done f = absurd f
 not_opened_store BadCommandLine f = absurd f
 not_opened_store (BadLine number) f = absurd f
+not_opened_store TooLong f = absurd f
 not_opened_store BadSettings f = absurd f
 not_opened_store OutOfMemory f = tt
 not_opened_store Failed f = tt
@@ -158,6 +183,7 @@ pub turns_store : (ended : Ended) → EndsTurns ended → EndsStore ended
 turns_store Done f = tt
 turns_store BadCommandLine f = absurd f
 turns_store (BadLine number) f = absurd f
+turns_store TooLong f = absurd f
 turns_store BadSettings f = absurd f
 turns_store OutOfMemory f = tt
 turns_store Failed f = tt
@@ -170,6 +196,7 @@ pub unkept_no_end : (ended : Ended) → EndsUnkept ended → ended ≢ Done
 unkept_no_end Done f e = f
 unkept_no_end BadCommandLine f e = absurd cc
 unkept_no_end (BadLine number) f e = absurd cc
+unkept_no_end TooLong f e = absurd cc
 unkept_no_end BadSettings f e = absurd cc
 unkept_no_end OutOfMemory f e = absurd cc
 unkept_no_end Failed f e = absurd cc
@@ -182,6 +209,7 @@ pub no_store_no_end : (ended : Ended) → NoStore ended → ended ≢ Done
 no_store_no_end Done f e = f
 no_store_no_end BadCommandLine f e = absurd cc
 no_store_no_end (BadLine number) f e = absurd cc
+no_store_no_end TooLong f e = absurd cc
 no_store_no_end BadSettings f e = absurd cc
 no_store_no_end OutOfMemory f e = absurd cc
 no_store_no_end Failed f e = absurd cc
@@ -194,6 +222,7 @@ pub not_opened_no_end : (ended : Ended) → NotOpened ended → ended ≢ Done
 not_opened_no_end Done f e = f
 not_opened_no_end BadCommandLine f e = absurd cc
 not_opened_no_end (BadLine number) f e = absurd cc
+not_opened_no_end TooLong f e = absurd cc
 not_opened_no_end BadSettings f e = absurd cc
 not_opened_no_end OutOfMemory f e = absurd cc
 not_opened_no_end Failed f e = absurd cc
@@ -206,6 +235,7 @@ pub serving_not_bad : (ended : Ended) → EndsServing ended → ended ≢ BadSet
 serving_not_bad Done f e = absurd cc
 serving_not_bad BadCommandLine f e = absurd cc
 serving_not_bad (BadLine number) f e = absurd cc
+serving_not_bad TooLong f e = absurd cc
 serving_not_bad BadSettings f e = f
 serving_not_bad OutOfMemory f e = absurd cc
 serving_not_bad Failed f e = absurd cc
@@ -220,6 +250,7 @@ pub left_alone : {N : Type 0} (is_step : N → Cause → Step → N → Type 0) 
 left_alone is_step Done n f = refl
 left_alone is_step BadCommandLine n f = refl
 left_alone is_step (BadLine number) n f = refl
+left_alone is_step TooLong n f = refl
 left_alone is_step BadSettings n f = refl
 left_alone is_step OutOfMemory n f = refl
 left_alone is_step Failed n f = refl
@@ -233,6 +264,7 @@ pub held_alone : {N K : Type 0} (keeps : K → N → Type 0) (may_hold : K → N
 held_alone keeps may_hold Done n keeper f h = h
 held_alone keeps may_hold BadCommandLine n keeper f h = h
 held_alone keeps may_hold (BadLine number) n keeper f h = h
+held_alone keeps may_hold TooLong n keeper f h = h
 held_alone keeps may_hold BadSettings n keeper f h = h
 held_alone keeps may_hold OutOfMemory n keeper f h = h
 held_alone keeps may_hold Failed n keeper f h = h

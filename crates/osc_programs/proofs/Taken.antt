@@ -12,7 +12,7 @@ use Rattle.osc_turn.specs.{IsOfSeed, IsSeeded, ClockAndRandomState, CameIn, IsRe
 use Rattle.osc_programs.specs.Turning.{GoesOn}
 use Rattle.osc_programs.specs.Turning as turning
 use Rattle.osc_programs.specs.declared.ended.Ended.{Ended}
-use Rattle.osc_programs.specs.declared.ended.Ended.TheVariants.{Done, BadCommandLine, BadLine, BadSettings, OutOfMemory, Failed, PortFailed, NotDone, Unopened, NotKept}
+use Rattle.osc_programs.specs.declared.ended.Ended.TheVariants.{Done, BadCommandLine, BadLine, TooLong, BadSettings, OutOfMemory, Failed, PortFailed, NotDone, Unopened, NotKept}
 use Rattle.osc_turn.specs.declared.error.TurnError.{TurnError}
 
 -- where a tick is due, nothing came
@@ -31,6 +31,7 @@ pub no_end : (ended : Ended) → IsFault ended → ended ≢ Done
 no_end Done f e = f
 no_end BadCommandLine f e = absurd cc
 no_end (BadLine n) f e = absurd cc
+no_end TooLong f e = absurd cc
 no_end BadSettings f e = absurd cc
 no_end OutOfMemory f e = absurd cc
 no_end Failed f e = absurd cc
@@ -43,6 +44,7 @@ pub settings_no_end : (ended : Ended) → NoSettings ended → ended ≢ Done
 settings_no_end Done f e = f
 settings_no_end BadCommandLine f e = absurd cc
 settings_no_end (BadLine n) f e = absurd cc
+settings_no_end TooLong f e = absurd cc
 settings_no_end BadSettings f e = absurd cc
 settings_no_end OutOfMemory f e = absurd cc
 settings_no_end Failed f e = absurd cc
@@ -55,6 +57,7 @@ pub ask_no_end : (request : Request) (ended : Ended) → CannotAsk request ended
 ask_no_end request Done f e = f
 ask_no_end request BadCommandLine f e = absurd cc
 ask_no_end request (BadLine n) f e = absurd cc
+ask_no_end request TooLong f e = absurd cc
 ask_no_end request BadSettings f e = absurd cc
 ask_no_end request OutOfMemory f e = absurd cc
 ask_no_end request Failed f e = absurd cc
@@ -67,6 +70,7 @@ pub ask_not_done : (request : Request) (ended : Ended) → CannotAsk request end
 ask_not_done request Done f e = absurd cc
 ask_not_done request BadCommandLine f e = absurd cc
 ask_not_done request (BadLine n) f e = absurd cc
+ask_not_done request TooLong f e = absurd cc
 ask_not_done request BadSettings f e = absurd cc
 ask_not_done request OutOfMemory f e = absurd cc
 ask_not_done request Failed f e = absurd cc
@@ -79,6 +83,7 @@ pub fault_turns : (ended : Ended) → IsFault ended → EndsTurns ended
 fault_turns Done f = absurd f
 fault_turns BadCommandLine f = absurd f
 fault_turns (BadLine n) f = absurd f
+fault_turns TooLong f = absurd f
 fault_turns BadSettings f = absurd f
 fault_turns OutOfMemory f = f
 fault_turns Failed f = f
@@ -91,6 +96,7 @@ pub turns_node : (ended : Ended) → EndsTurns ended → EndsNode ended
 turns_node Done f = tt
 turns_node BadCommandLine f = absurd f
 turns_node (BadLine n) f = absurd f
+turns_node TooLong f = absurd f
 turns_node BadSettings f = absurd f
 turns_node OutOfMemory f = f
 turns_node Failed f = f
@@ -103,6 +109,7 @@ pub turns_not_bad : (ended : Ended) → EndsTurns ended → ended ≢ BadSetting
 turns_not_bad Done f e = absurd cc
 turns_not_bad BadCommandLine f e = absurd cc
 turns_not_bad (BadLine n) f e = absurd cc
+turns_not_bad TooLong f e = absurd cc
 turns_not_bad BadSettings f e = f
 turns_not_bad OutOfMemory f e = absurd cc
 turns_not_bad Failed f e = absurd cc
@@ -115,6 +122,7 @@ pub fault_not_bad : (ended : Ended) → IsFault ended → ended ≢ BadSettings
 fault_not_bad Done f e = absurd cc
 fault_not_bad BadCommandLine f e = absurd cc
 fault_not_bad (BadLine n) f e = absurd cc
+fault_not_bad TooLong f e = absurd cc
 fault_not_bad BadSettings f e = f
 fault_not_bad OutOfMemory f e = absurd cc
 fault_not_bad Failed f e = absurd cc
@@ -127,6 +135,7 @@ pub talk_not_bad : (request : Request) (ended : Ended) → CannotTalk request en
 talk_not_bad request Done f e = absurd cc
 talk_not_bad request BadCommandLine f e = absurd cc
 talk_not_bad request (BadLine n) f e = absurd cc
+talk_not_bad request TooLong f e = absurd cc
 talk_not_bad request BadSettings f e = f
 talk_not_bad request OutOfMemory f e = absurd cc
 talk_not_bad request Failed f e = absurd cc
@@ -139,6 +148,7 @@ pub told_not_bad : (ended : Ended) → EndsTold ended → ended ≢ BadSettings
 told_not_bad Done f e = absurd cc
 told_not_bad BadCommandLine f e = absurd cc
 told_not_bad (BadLine n) f e = absurd cc
+told_not_bad TooLong f e = absurd cc
 told_not_bad BadSettings f e = f
 told_not_bad OutOfMemory f e = absurd cc
 told_not_bad Failed f e = absurd cc
@@ -151,6 +161,7 @@ pub settings_node : (ended : Ended) → NoSettings ended → EndsNode ended
 settings_node Done f = absurd f
 settings_node BadCommandLine f = absurd f
 settings_node (BadLine n) f = absurd f
+settings_node TooLong f = absurd f
 settings_node BadSettings f = f
 settings_node OutOfMemory f = f
 settings_node Failed f = f
@@ -163,6 +174,7 @@ pub fault_talk : (request : Request) (ended : Ended) → IsFault ended → Canno
 fault_talk request Done f = absurd f
 fault_talk request BadCommandLine f = absurd f
 fault_talk request (BadLine n) f = absurd f
+fault_talk request TooLong f = absurd f
 fault_talk request BadSettings f = absurd f
 fault_talk request OutOfMemory f = f
 fault_talk request Failed f = f
@@ -175,6 +187,7 @@ pub talk_ask : (request : Request) (ended : Ended) → CannotTalk request ended 
 talk_ask request Done f = absurd f
 talk_ask request BadCommandLine f = f
 talk_ask request (BadLine n) f = absurd f
+talk_ask request TooLong f = absurd f
 talk_ask request BadSettings f = absurd f
 talk_ask request OutOfMemory f = f
 talk_ask request Failed f = f
@@ -187,6 +200,7 @@ pub settings_ask : (request : Request) (ended : Ended) → NoSettings ended → 
 settings_ask request Done f = absurd f
 settings_ask request BadCommandLine f = absurd f
 settings_ask request (BadLine n) f = absurd f
+settings_ask request TooLong f = absurd f
 settings_ask request BadSettings f = f
 settings_ask request OutOfMemory f = f
 settings_ask request Failed f = f
@@ -199,6 +213,7 @@ pub ask_client : (request : Request) (ended : Ended) → CannotAsk request ended
 ask_client request Done f = absurd f
 ask_client request BadCommandLine f = f
 ask_client request (BadLine n) f = absurd f
+ask_client request TooLong f = absurd f
 ask_client request BadSettings f = f
 ask_client request OutOfMemory f = f
 ask_client request Failed f = f
@@ -211,6 +226,7 @@ pub told_client : (request : Request) (ended : Ended) → EndsTold ended → End
 told_client request Done f = f
 told_client request BadCommandLine f = absurd f
 told_client request (BadLine n) f = absurd f
+told_client request TooLong f = absurd f
 told_client request BadSettings f = absurd f
 told_client request OutOfMemory f = f
 told_client request Failed f = f

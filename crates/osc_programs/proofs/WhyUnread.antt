@@ -1,5 +1,5 @@
 -- Why settings are none, as it is told.
-use Rattle.std.proofs.Common.{◌≡◌, ◌≢◌, ◌∙◌, sym, subst, ℕ, List, Option, Some, None, IfSome}
+use Rattle.std.proofs.Common.{inl, ◌≡◌, ◌≢◌, ◌∙◌, sym, subst, ℕ, List, Option, Some, None, IfSome}
 use Rattle.toml.specs.Data.{Members}
 use Rattle.osc_settings.specs.declared.error.SettingsError.{SettingsError}
 use Rattle.osc_settings.specs.declared.error.SettingsError.TheVariants.{Memory}
@@ -20,11 +20,11 @@ pub tells_why : (Is : Members → SettingsError → Type 0) (remaining : Option 
     → IfSome remaining (λ known. bytes ≡ known) → IsWhy Is bytes why → (why ≡ Memory → ended ≡ OutOfMemory)
     → (ended ≡ BadSettings → (text : List ℕ) × IsUnreadText old.form why text × Writes old new text) → ended ≡ BadSettings → TellsWhy Is remaining old new
 tells_why Is remaining bytes why ended old new all is memory told bad =
-    let it = told bad in record {
+    let it = told bad in inl (record {
       why = why;
       is_why = if_some remaining (λ known. bytes ≡ known) (λ known. IsWhy Is known why) (λ known same. subst (λ b. IsWhy Is b why) same is) all;
       no_want = λ want. bad_is_no_want (sym bad ∙ memory want);
       text = it.0;
       is_text = it.1;
       tells = it.2;
-    }
+    })

@@ -11,12 +11,13 @@ use Rattle.osc_token.specs.declared.claims.Claims.{Claims}
 use Rattle.osc_words.specs.declared.words.WordsError.{WordsError}
 use Rattle.osc_words.specs.declared.words.WordsError.TheVariants.{Clap, Value, NotOne, Unread, Memory}
 use Rattle.osc_programs.specs.declared.ended.Ended.{Ended}
-use Rattle.osc_programs.specs.declared.ended.Ended.TheVariants.{Done, BadCommandLine, BadLine, BadSettings, OutOfMemory, Failed, PortFailed, NotDone, Unopened, NotKept}
+use Rattle.osc_programs.specs.declared.ended.Ended.TheVariants.{Done, BadCommandLine, BadLine, TooLong, BadSettings, OutOfMemory, Failed, PortFailed, NotDone, Unopened, NotKept}
 
 abbrev pub status_of : Ended → ℕ
 status_of Done = 0
 status_of BadCommandLine = 2
 status_of (BadLine number) = 2
+status_of TooLong = 2
 status_of BadSettings = 2
 status_of OutOfMemory = 3
 status_of Failed = 4
@@ -39,10 +40,18 @@ abbrev pub NoSettings : Ended → Type 0
 NoSettings BadSettings = Unit {0}
 NoSettings other = IsFault other
 
+-- no script could be read
+abbrev pub NoScript : Ended → Type 0
+NoScript TooLong = Unit {0}
+NoScript OutOfMemory = Unit {0}
+NoScript Failed = Unit {0}
+NoScript other = ⊥
+
 -- `osc sim`
 abbrev pub EndsSim : Ended → Type 0
 EndsSim Done = Unit {0}
 EndsSim (BadLine number) = Unit {0}
+EndsSim TooLong = Unit {0}
 EndsSim OutOfMemory = Unit {0}
 EndsSim Failed = Unit {0}
 EndsSim other = ⊥
@@ -58,6 +67,7 @@ EndsToken other = ⊥
 -- a lab can't begin, or go on
 abbrev pub CannotLab : Ended → Type 0
 CannotLab (BadLine number) = Unit {0}
+CannotLab TooLong = Unit {0}
 CannotLab other = IsFault other
 
 -- `osc lab`
@@ -181,6 +191,7 @@ token_warning_of claims now =
 -- what is told where a program ended that runs nodes on sockets
 abbrev pub running_fault_of : Ended → Option (List ℕ)
 running_fault_of (BadLine number) = Some (codes "line " ++ decimal number ++ codes ": bad")
+running_fault_of TooLong = Some (codes "the script has more than 16777216 bytes")
 running_fault_of BadSettings = Some (codes "settings: bad")
 running_fault_of OutOfMemory = Some (codes "out of memory")
 running_fault_of PortFailed = Some (codes "port failed")

@@ -39,7 +39,8 @@ pub record IsServerOf (settings : ServerSettings) (resources : Tree) (server : S
   pub key : server.desk.key ≡ settings.key
   pub old_key : server.desk.old_key ≡ settings.old_key
   pub audience : server.desk.audience ≡ settings.audience
-  pub rules : server.desk.rules ≡ record { revoked = settings.revoked; seconds = settings.context_seconds; remembered = remembered_posts }
+  pub rules : server.desk.rules
+      ≡ record { revoked = settings.revoked; seconds = settings.context_seconds; remembered = remembered_posts; reserved = settings.reserved_id; subtrees = settings.subtrees }
   pub contexts : server.desk.table ≡ []
   pub open_paths : server.open_scope ≡ set.from_list (map (λ path. exactly path Get) settings.open.items)
   pub tree : server.tree ≡ resources

@@ -39,9 +39,9 @@ IsKept keeps (Some file) server = SomeKeeps keeps server
 
 -- ---- `osc store`
 
--- a store in the file of this name was opened with these resources
-abbrev pub IsHeld : {K : Type 0} → (List ℕ → List ResourceSetting → K → Tree → Type 0) → List ℕ → Tree → Type 0
-IsHeld {K} opened file tree = (keeper : K) × opened file [] keeper tree
+-- two files of some contents are found as these resources
+abbrev pub IsRead : Tree → Type 0
+IsRead tree = (image : Image) × FindsTree image tree
 
 -- resource PATH FORMAT N bytes
 abbrev pub stored_line : List ℕ × Resource → List ℕ

@@ -2,6 +2,7 @@
 use Rattle.std.specs.Prelude.{◌≡◌, ◌⊎◌, ℕ, List, Option, Some, None, IfSome, codes}
 use Rattle.osc_script.specs.{SpellsHexWithin}
 use Rattle.osc_words.specs.{with_secret, Holds, file_option_of}
+use Rattle.osc_programs.specs.Input.{IsBeyond, longest_key}
 use Rattle.osc_words.specs.declared.hidden_option.HiddenOption.{HiddenOption}
 use Rattle.osc_words.specs.declared.hidden_option.HiddenOption.TheVariants as hidden
 use Rattle.osc_words.specs.declared.named_option.NamedOption.TheVariants.{Token}
@@ -23,6 +24,13 @@ HoldsNone {X} Spells option file (Value refused) =
 HoldsNone Spells option file (Unread unread) = unread ≡ Token (file_option_of option)
 HoldsNone Spells option file Memory = Unit {0}
 HoldsNone Spells option file error = ⊥
+
+-- why a file gives no bytes: it has more than a key or a secret is spelled by, or it can't be read
+abbrev pub HasNoBytes : HiddenOption → Option (List ℕ) → WordsError → Type 0
+HasNoBytes option file (Value refused) = (refused ≡ Token (file_option_of option)) × IsBeyond longest_key file
+HasNoBytes option file (Unread unread) = unread ≡ Token (file_option_of option)
+HasNoBytes option file Memory = Unit {0}
+HasNoBytes option file error = ⊥
 
 -- what is given needs no file
 abbrev pub Gives : {X : Type 0} → (List ℕ → X → Type 0) → Source X → Option (List ℕ) → X → Type 0

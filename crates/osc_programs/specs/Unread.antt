@@ -5,6 +5,7 @@ use Rattle.toml.specs.Data.{Members}
 use Rattle.osc_log.specs.{IsUnreadText as Unread, Told, Writes, shown_byte}
 use Rattle.osc_log.specs.declared.form.Form.{Form}
 use Rattle.osc_settings.specs.{Lacks, form_of, name_of}
+use Rattle.osc_programs.specs.Input.{IsBeyond, longest_settings}
 use Rattle.osc_settings.specs.declared.error.KeyFault.{KeyFault}
 use Rattle.osc_settings.specs.declared.error.KeyFault.TheVariants.{Unknown, Missing, Wrong}
 use Rattle.osc_settings.specs.declared.error.SettingsError.{SettingsError}
@@ -32,17 +33,35 @@ unread_words why = codes "settings: " ++ why_text why
 abbrev pub IsUnreadText : Form → SettingsError → List ℕ → Type 0
 IsUnreadText form why text = Unread form (Some (unread_words why)) text
 
+-- that they are too many
+abbrev pub long_words : List ℕ
+long_words = codes "settings: the text has more than 1048576 bytes"
+
+abbrev pub IsLongText : Form → List ℕ → Type 0
+IsLongText form text = Unread form (Some long_words) text
+
 -- ---- of which bytes
 
 -- lack of memory apart, the bytes are no UTF-8, and so no TOML, or their text is at fault so
 abbrev pub IsWhy : (Members → SettingsError → Type 0) → List ℕ → SettingsError → Type 0
 IsWhy Is bytes why = ((¬ IsUtf8 bytes) × (why ≡ NotToml)) ⊎ Lacks Is bytes why
 
--- the log told why these bytes, where they are known, are no settings
-pub record TellsWhy (Is : Members → SettingsError → Type 0) (bytes : Option (List ℕ)) (old new : Told) : Type 0 where
+-- the log told what of these bytes is at fault, where they are known
+pub record TellsFault (Is : Members → SettingsError → Type 0) (bytes : Option (List ℕ)) (old new : Told) : Type 0 where
   pub why : SettingsError
   pub is_why : IfSome bytes (λ known. IsWhy Is known why)
   pub no_want : why ≢ Memory
   pub text : List ℕ
   pub is_text : IsUnreadText old.form why text
   pub tells : Writes old new text
+
+-- or that they are too many
+pub record TellsLong (bytes : Option (List ℕ)) (old new : Told) : Type 0 where
+  pub is_long : IsBeyond longest_settings bytes
+  pub text : List ℕ
+  pub is_text : IsLongText old.form text
+  pub tells : Writes old new text
+
+-- the log told why these bytes, where they are known, are no settings
+abbrev pub TellsWhy : (Members → SettingsError → Type 0) → Option (List ℕ) → Told → Told → Type 0
+TellsWhy Is bytes old new = TellsFault Is bytes old new ⊎ TellsLong bytes old new

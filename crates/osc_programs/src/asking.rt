@@ -1,5 +1,5 @@
 //! A client that runs on a socket: one exchange, and one protected request.
-ghost use Rattle.std.specs.Prelude.{◌≡◌, ◌⊎◌, List, IfErr, IfOk, IfSome, None, Some, option_map, string_bytes};
+ghost use Rattle.std.specs.Prelude.{◌≡◌, ◌⊎◌, ◌+◌, List, IfErr, IfOk, IfSome, None, Some, option_map, string_bytes};
 ghost use Rattle.std.specs.Io.KnownBytes.{Appends};
 ghost use Rattle.osc_client.specs.{acts_at, IsStep, HostAndPort};
 ghost use Rattle.osc_client.specs.State.{State as AnyClient};
@@ -12,6 +12,7 @@ ghost use Rattle.osc_settings.specs.declared.client.ClientSettings.{ClientSettin
 ghost use Rattle.osc_simulation.specs.{is_sealing};
 ghost use Rattle.osc_programs.specs.Conversation as spec;
 ghost use Rattle.osc_programs.specs.Ended as ends;
+ghost use Rattle.osc_programs.specs.Input.{IsWithin, TakesAtMost, longest_settings};
 ghost use Rattle.osc_programs.specs.System as system;
 ghost use Rattle.osc_programs.specs.Turning as turning;
 ghost use Rattle.osc_programs.specs.declared.asking.Outcome.{Outcome as AnyOutcome};
@@ -63,6 +64,8 @@ pub fn ask<R: Clock + Eprint + Seeds + Sockets, I: Read, L: Log, W: Write>(
         × system.RunsOn (R.gave runtime.now) (R.opened runtime.now settings.bind (Some settings.peer)) R.Socket.sent talks.start talks.sent
         × (result ≡ spec.ended_by_outcome outcome) × Appends (W.contents writer.old) (W.contents writer.new) (spec.printed_text words.now.raw outcome) }
     ensures bad { result ≡ Ended.BadSettings → TellsWhy (λ document. IsKeyFault (IsClientFault document)) (I.remaining reader.old) (L.told log.old) (L.told log.new) }
+    ensures short { (result ≡ Ended.Done) ⊎ (result ≡ Ended.NotDone) → IsWithin longest_settings (I.remaining reader.old) }
+    ensures end { TakesAtMost (longest_settings + 1) (I.remaining reader.old) (I.remaining reader.new) }
     ensures ends { ends.EndsClient words.now.request result }
 {
     match outcome_of(alloc, runtime, reader, log, words) {
@@ -155,6 +158,8 @@ fn outcome_of<R: Clock + Eprint + Seeds + Sockets, I: Read, L: Log>(
         × (talks : spec.Talks words.now.turns words.now.request first outcome last)
         × system.RunsOn (R.gave runtime.now) (R.opened runtime.now settings.bind (Some settings.peer)) R.Socket.sent talks.start talks.sent) }
     ensures bad { IfErr result (λ ended. ended ≡ Ended.BadSettings → TellsWhy (λ document. IsKeyFault (IsClientFault document)) (I.remaining reader.old) (L.told log.old) (L.told log.new)) }
+    ensures short { IfOk result (λ _. IsWithin longest_settings (I.remaining reader.old)) }
+    ensures end { TakesAtMost (longest_settings + 1) (I.remaining reader.old) (I.remaining reader.new) }
     ensures ends { IfErr result (ends.CannotAsk words.now.request) }
 {
     let settings = client_settings(alloc, reader, log)?;

@@ -1,8 +1,9 @@
 //! Settings that are read, and no more: what was understood is said.
-ghost use Rattle.std.specs.Prelude.{◌≡◌, IfSome};
+ghost use Rattle.std.specs.Prelude.{◌≡◌, ◌+◌, IfSome};
 ghost use Rattle.std.specs.Io.KnownBytes.{Appends};
 ghost use Rattle.osc_programs.specs.Checked as spec;
 ghost use Rattle.osc_programs.specs.Ended as ends;
+ghost use Rattle.osc_programs.specs.Input.{IsWithin, TakesAtMost, longest_settings};
 ghost use Rattle.osc_programs.specs.Unread.{TellsWhy};
 ghost use Rattle.osc_settings.specs.{StandsFor, IsClientFault, IsFaultOfProxy, IsKeyFault, IsServerFault, AreClientSettings, AreProxySettings, AreServerSettings};
 ghost use Rattle.osc_settings.specs.declared.client.ClientSettings.{ClientSettings as AskedBy};
@@ -28,6 +29,8 @@ pub fn check_server<I: Read, L: Log, W: Write>(
     ensures done { result ≡ Ended.Done → (settings : ServedBy) × IfSome (I.remaining reader.old) (λ text. StandsFor AreServerSettings text settings)
         × Appends (W.contents writer.old) (W.contents writer.new) (spec.server_text settings) }
     ensures bad { result ≡ Ended.BadSettings → TellsWhy (λ document. IsKeyFault (IsServerFault document)) (I.remaining reader.old) (L.told log.old) (L.told log.new) }
+    ensures short { result ≡ Ended.Done → IsWithin longest_settings (I.remaining reader.old) }
+    ensures end { TakesAtMost (longest_settings + 1) (I.remaining reader.old) (I.remaining reader.new) }
     ensures ends { ends.EndsNode result }
 {
     match server_settings(alloc, reader, log) {
@@ -46,6 +49,8 @@ pub fn check_proxy<I: Read, L: Log, W: Write>(
     ensures done { result ≡ Ended.Done → (settings : ForwardedBy) × IfSome (I.remaining reader.old) (λ text. StandsFor AreProxySettings text settings)
         × Appends (W.contents writer.old) (W.contents writer.new) (spec.proxy_text settings) }
     ensures bad { result ≡ Ended.BadSettings → TellsWhy IsFaultOfProxy (I.remaining reader.old) (L.told log.old) (L.told log.new) }
+    ensures short { result ≡ Ended.Done → IsWithin longest_settings (I.remaining reader.old) }
+    ensures end { TakesAtMost (longest_settings + 1) (I.remaining reader.old) (I.remaining reader.new) }
     ensures ends { ends.EndsNode result }
 {
     match proxy_settings(alloc, reader, log) {
@@ -64,6 +69,8 @@ pub fn check_client<I: Read, L: Log, W: Write>(
     ensures done { result ≡ Ended.Done → (settings : AskedBy) × IfSome (I.remaining reader.old) (λ text. StandsFor AreClientSettings text settings)
         × Appends (W.contents writer.old) (W.contents writer.new) (spec.client_text settings) }
     ensures bad { result ≡ Ended.BadSettings → TellsWhy (λ document. IsKeyFault (IsClientFault document)) (I.remaining reader.old) (L.told log.old) (L.told log.new) }
+    ensures short { result ≡ Ended.Done → IsWithin longest_settings (I.remaining reader.old) }
+    ensures end { TakesAtMost (longest_settings + 1) (I.remaining reader.old) (I.remaining reader.new) }
     ensures ends { ends.EndsNode result }
 {
     match client_settings(alloc, reader, log) {

@@ -1,17 +1,18 @@
 //! A script in, the diagram of its run out.
-ghost use Rattle.std.specs.Prelude.{◌≡◌, ◌≢◌, ◌⊎◌, ℕ, List, IfErr, IfOk, IfSome};
+ghost use Rattle.std.specs.Prelude.{◌≡◌, ◌≢◌, ◌⊎◌, ◌+◌, ℕ, List, IfErr, IfOk, IfSome};
 ghost use Rattle.std.specs.Io.KnownBytes.{Appends};
 ghost use Rattle.osc_chart.specs.{capture as capture_of};
 ghost use Rattle.osc_diagram.specs.{IsDiagramOf};
 ghost use Rattle.osc_diagram.specs.declared.diagram.Diagram.{Diagram as AnyDiagram};
 ghost use Rattle.osc_programs.specs.Drawing as spec;
 ghost use Rattle.osc_programs.specs.Ended as ends;
+ghost use Rattle.osc_programs.specs.Input.{IsBeyond, TakesAtMost, longest_script};
 ghost use Rattle.osc_script.specs.{IsFirstBad};
 ghost use Rattle.osc_simulation.specs.{bad_line_text};
 
 use crate::ended::Ended;
+use crate::input::script_bytes;
 use crate::issue::written;
-use crate::reading::bytes_of;
 use crate::simulate::{tell_bad_line, told_last};
 use osc_chart::{capture, chart_text, picture};
 use osc_diagram::{Diagram, diagram_of};
@@ -22,7 +23,7 @@ use std::alloc::{AllocError, Global};
 use std::io::{Read, Write};
 
 /// Runs the script that the reader gives, and writes its diagram in this form, in place of its trace. A script with a line that stands for
-/// nothing does nothing: the number of the first such line is all that is written. For lack of memory `out of memory` is.
+/// nothing does nothing: the number of the first such line is all that is written. For lack of memory `out of memory` is. Of a script that is too long nothing is.
 pub fn draw<R: Read, W: Write>(
     alloc: Global,
     reader: &mut R,
@@ -33,6 +34,8 @@ pub fn draw<R: Read, W: Write>(
         × Appends (W.contents writer.old) (W.contents writer.new) (spec.drawn_as form diagram)) }
     ensures bad { (n : ℕ) → result ≡ Ended.BadLine n → IfSome (R.remaining reader.old) (λ script. IsFirstBad script n
         × Appends (W.contents writer.old) (W.contents writer.new) (bad_line_text n)) }
+    ensures long { result ≡ Ended.TooLong → IsBeyond longest_script (R.remaining reader.old) × (writer.new ≡ writer.old) }
+    ensures end { TakesAtMost (longest_script + 1) (R.remaining reader.old) (R.remaining reader.new) }
     ensures words { result ≢ Ended.BadCommandLine }
     ensures ends { ends.EndsSim result }
 {
@@ -48,10 +51,12 @@ fn run<R: Read, W: Write>(alloc: Global, reader: &mut R, writer: &mut W, form: D
         × Appends (W.contents writer.old) (W.contents writer.new) (spec.drawn_as form diagram)) }
     ensures bad { (n : ℕ) → result ≡ Ended.BadLine n → IfSome (R.remaining reader.old) (λ script. IsFirstBad script n
         × Appends (W.contents writer.old) (W.contents writer.new) (bad_line_text n)) }
+    ensures long { result ≡ Ended.TooLong → IsBeyond longest_script (R.remaining reader.old) × (writer.new ≡ writer.old) }
+    ensures end { TakesAtMost (longest_script + 1) (R.remaining reader.old) (R.remaining reader.new) }
     ensures words { result ≢ Ended.BadCommandLine }
     ensures ends { ends.EndsSim result }
 {
-    match bytes_of(alloc, reader) {
+    match script_bytes(alloc, reader) {
         Ok(script) => draw_script(alloc, &script, form, writer),
         Err(ended) => ended,
     }
@@ -62,6 +67,7 @@ fn draw_script<W: Write>(alloc: Global, script: &[u8], form: DiagramForm, writer
     ensures done { result ≡ Ended.Done → (diagram : AnyDiagram) × IsDiagramOf script.now diagram
         × Appends (W.contents writer.old) (W.contents writer.new) (spec.drawn_as form diagram) }
     ensures bad { (n : ℕ) → result ≡ Ended.BadLine n → IsFirstBad script.now n × Appends (W.contents writer.old) (W.contents writer.new) (bad_line_text n) }
+    ensures whole { result ≢ Ended.TooLong }
     ensures words { result ≢ Ended.BadCommandLine }
     ensures ends { ends.EndsSim result }
 {
@@ -80,6 +86,7 @@ fn write_diagram<W: Write>(
 ) -> Ended
     ensures done { result ≡ Ended.Done → Appends (W.contents writer.old) (W.contents writer.new) (spec.drawn_as form diagram.now) }
     ensures bad { (n : ℕ) → result ≢ Ended.BadLine n }
+    ensures whole { result ≢ Ended.TooLong }
     ensures words { result ≢ Ended.BadCommandLine }
     ensures ends { ends.EndsSim result }
 {
@@ -94,6 +101,7 @@ fn put<W: Write>(writer: &mut W, text: &[u8]) -> Ended
     ensures done { result ≡ Ended.Done → Appends (W.contents writer.old) (W.contents writer.new) text.now }
     ensures cases { (result ≡ Ended.Done) ⊎ (result ≡ Ended.Failed) }
     ensures bad { (n : ℕ) → result ≢ Ended.BadLine n }
+    ensures whole { result ≢ Ended.TooLong }
     ensures words { result ≢ Ended.BadCommandLine }
     ensures ends { ends.EndsSim result }
 {

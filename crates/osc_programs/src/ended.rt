@@ -16,6 +16,8 @@ pub enum Ended {
     BadCommandLine,
     /// The script's line of this number, counted from 1, is bad.
     BadLine(u64),
+    /// The script has more bytes than one may have.
+    TooLong,
     /// The settings are none.
     BadSettings,
     OutOfMemory,
@@ -31,15 +33,15 @@ pub enum Ended {
     NotKept(KeepError),
 }
 
-/// The exit status: 0, 1 for a client without an answer of class 2, 2 for a bad command line, bad settings or a bad line, 3 for want of
-/// memory, and 4 for a socket, an input, an output or a store that failed.
+/// The exit status: 0, 1 for a client without an answer of class 2, 2 for a bad command line, bad settings, a bad line or a script
+/// that is too long, 3 for lack of memory, and 4 for a socket, an input, an output or a store that failed.
 pub fn status(ended: Ended) -> u8
     ensures { result ≡ spec.status_of ended }
 {
     match ended {
         Ended::Done => 0,
         Ended::NotDone => 1,
-        Ended::BadCommandLine | Ended::BadLine(_) | Ended::BadSettings => 2,
+        Ended::BadCommandLine | Ended::BadLine(_) | Ended::TooLong | Ended::BadSettings => 2,
         Ended::OutOfMemory => 3,
         Ended::Failed | Ended::PortFailed | Ended::Unopened(_) | Ended::NotKept(_) => 4,
     }
@@ -95,6 +97,7 @@ pub fn running_fault(alloc: Global, ended: Ended) -> Result<Option<String>, Allo
 {
     match ended {
         Ended::BadLine(number) => bad_line(alloc, number),
+        Ended::TooLong => said(alloc, "the script has more than 16777216 bytes"),
         Ended::BadSettings => said(alloc, "settings: bad"),
         Ended::OutOfMemory => said(alloc, "out of memory"),
         Ended::PortFailed => said(alloc, "port failed"),

@@ -4,15 +4,18 @@
 mod asking;
 mod checked;
 mod checking;
+mod copies;
 mod drawing;
 mod ended;
 mod holding;
+mod input;
 mod issue;
 mod kept;
 mod key;
 mod noted;
 mod payload_file;
 mod reading;
+mod revoking;
 mod running;
 mod simulate;
 mod store;
@@ -29,12 +32,15 @@ pub use drawing::{draw, write_capture};
 pub use ended::{
     Ended, ended_by, ended_by_io, running_fault, started_by_io, status, token_fault, token_warning,
 };
+pub use input::{
+    LONGEST_KEY, LONGEST_PAYLOAD_FILE, LONGEST_SCRIPT, LONGEST_SETTINGS, bytes_within, script_bytes,
+};
 pub use issue::{drawn_iv, issue_token, iv_of, token, written};
 pub use key::issue_key;
 pub use noted::{Kept, Noted};
 pub use osc_simulation::TraceForm;
 pub use payload_file::with_payload;
-pub use reading::bytes_of;
+pub use revoking::KeepsStart;
 pub use running::{bound, forward, send, serve};
 pub use simulate::{run_script, sim};
 pub use store::{Stores, list_store};

@@ -3,7 +3,7 @@ ghost use Rattle.std.specs.Prelude.{◌≡◌, IfErr, IfOk, IfSome, MatchResult,
 ghost use Rattle.osc_programs.specs.PayloadFile as spec;
 
 use crate::ended::Ended;
-use crate::reading::bytes_of;
+use crate::input::{LONGEST_PAYLOAD_FILE, bytes_within};
 use osc_model::Bytes;
 use osc_words::{ClientOption, ClientWords, NamedOption, WordsError};
 use std::alloc::Global;
@@ -14,7 +14,7 @@ use std::io::Read;
 ///
 /// # Errors
 ///
-/// `Unread` for a file that can't be read, and `Memory` without memory.
+/// `Unread` for a file that can't be read, or has more than 1048576 bytes, and `Memory` without memory.
 pub fn with_payload<F: Read + Drop>(
     alloc: Global,
     words: ClientWords,
@@ -42,7 +42,7 @@ fn filled(words: ClientWords, payload: Bytes) -> ClientWords
     filled
 }
 
-// All that the file gives, if it was opened.
+// All that the file gives, if it was opened and that is no more than a payload's file may have.
 fn payload_in<F: Read + Drop>(alloc: Global, file: Option<F>) -> Result<Bytes, WordsError>
     ensures bytes { IfOk result (λ payload. IfSome (option_and_then F.remaining file) (λ known. payload ≡ known)) }
     ensures fault { IfErr result spec.IsUnreadPayload }
@@ -51,8 +51,9 @@ fn payload_in<F: Read + Drop>(alloc: Global, file: Option<F>) -> Result<Bytes, W
     let Some(mut reader) = file else {
         return Err(unread);
     };
-    match bytes_of(alloc, &mut reader) {
-        Ok(bytes) => Ok(Bytes::from_vec(bytes)),
+    match bytes_within(alloc, &mut reader, LONGEST_PAYLOAD_FILE) {
+        Ok(Some(bytes)) => Ok(Bytes::from_vec(bytes)),
+        Ok(None) => Err(unread),
         Err(Ended::OutOfMemory) => Err(WordsError::Memory),
         Err(_) => Err(unread),
     }

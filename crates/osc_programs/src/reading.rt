@@ -1,12 +1,14 @@
 //! Settings that a reader gives, and what is told where they are none.
-ghost use Rattle.std.specs.Prelude.{◌≡◌, ◌⊎◌, List, ℕ, IfErr, IfOk, IfSome, MatchResult, OnOk};
+ghost use Rattle.std.specs.Prelude.{◌≡◌, ◌+◌, List, ℕ, IfErr, IfOk, IfSome, MatchResult, OnOk};
 ghost use Rattle.osc_programs.specs.Ended as ends;
 ghost use Rattle.osc_log.specs.{Writes};
+ghost use Rattle.osc_programs.specs.Input.{IsWithin, TakesAtMost, longest_settings};
 ghost use Rattle.osc_programs.specs.Unread as spec;
 ghost use Rattle.osc_settings.specs.{StandsFor, IsClientFault, IsFaultOfProxy, IsKeyFault, IsServerFault, AreClientSettings, AreProxySettings, AreServerSettings};
 
-use crate::ended::{Ended, ended_by_io};
-use crate::unread::unread_words;
+use crate::ended::Ended;
+use crate::input::{LONGEST_SETTINGS, bytes_within};
+use crate::unread::{long_words, unread_words};
 use osc_log::Log;
 use osc_settings::{
     ClientSettings, ProxySettings, ServerSettings, SettingsError, read_client_settings,
@@ -23,11 +25,13 @@ pub(crate) fn server_settings<I: Read, L: Log>(
     log: &mut L,
 ) -> Result<ServerSettings, Ended>
     ensures settings { IfOk result (λ settings. IfSome (I.remaining reader.old) (λ text. StandsFor AreServerSettings text settings)) }
+    ensures short { IfOk result (λ _. IsWithin longest_settings (I.remaining reader.old)) }
+    ensures end { TakesAtMost (longest_settings + 1) (I.remaining reader.old) (I.remaining reader.new) }
     ensures silent { OnOk result (log.new ≡ log.old) }
     ensures bad { IfErr result (λ ended. ended ≡ Ended.BadSettings → spec.TellsWhy (λ document. IsKeyFault (IsServerFault document)) (I.remaining reader.old) (L.told log.old) (L.told log.new)) }
     ensures ends { IfErr result ends.NoSettings }
 {
-    let bytes = bytes_of(alloc, reader)?;
+    let bytes = settings_bytes(alloc, reader, log)?;
     match server_settings_in(alloc, &bytes) {
         Ok(settings) => Ok(settings),
         Err(why) => Err(ended_without(alloc, log, &why)),
@@ -50,11 +54,13 @@ pub(crate) fn proxy_settings<I: Read, L: Log>(
     log: &mut L,
 ) -> Result<ProxySettings, Ended>
     ensures settings { IfOk result (λ settings. IfSome (I.remaining reader.old) (λ text. StandsFor AreProxySettings text settings)) }
+    ensures short { IfOk result (λ _. IsWithin longest_settings (I.remaining reader.old)) }
+    ensures end { TakesAtMost (longest_settings + 1) (I.remaining reader.old) (I.remaining reader.new) }
     ensures silent { OnOk result (log.new ≡ log.old) }
     ensures bad { IfErr result (λ ended. ended ≡ Ended.BadSettings → spec.TellsWhy IsFaultOfProxy (I.remaining reader.old) (L.told log.old) (L.told log.new)) }
     ensures ends { IfErr result ends.NoSettings }
 {
-    let bytes = bytes_of(alloc, reader)?;
+    let bytes = settings_bytes(alloc, reader, log)?;
     match proxy_settings_in(alloc, &bytes) {
         Ok(settings) => Ok(settings),
         Err(why) => Err(ended_without(alloc, log, &why)),
@@ -77,11 +83,13 @@ pub(crate) fn client_settings<I: Read, L: Log>(
     log: &mut L,
 ) -> Result<ClientSettings, Ended>
     ensures settings { IfOk result (λ settings. IfSome (I.remaining reader.old) (λ text. StandsFor AreClientSettings text settings)) }
+    ensures short { IfOk result (λ _. IsWithin longest_settings (I.remaining reader.old)) }
+    ensures end { TakesAtMost (longest_settings + 1) (I.remaining reader.old) (I.remaining reader.new) }
     ensures silent { OnOk result (log.new ≡ log.old) }
     ensures bad { IfErr result (λ ended. ended ≡ Ended.BadSettings → spec.TellsWhy (λ document. IsKeyFault (IsClientFault document)) (I.remaining reader.old) (L.told log.old) (L.told log.new)) }
     ensures ends { IfErr result ends.NoSettings }
 {
-    let bytes = bytes_of(alloc, reader)?;
+    let bytes = settings_bytes(alloc, reader, log)?;
     match client_settings_in(alloc, &bytes) {
         Ok(settings) => Ok(settings),
         Err(why) => Err(ended_without(alloc, log, &why)),
@@ -99,16 +107,36 @@ fn client_settings_in(alloc: Global, bytes: &[u8]) -> Result<ClientSettings, Set
 
 // ---- what they share
 
-/// All that the reader gives.
-pub fn bytes_of<I: Read>(alloc: Global, reader: &mut I) -> Result<Vec<u8>, Ended>
+// All that the reader gives, where that is no more than settings may have. Where it is more, the log tells that.
+fn settings_bytes<I: Read, L: Log>(
+    alloc: Global,
+    reader: &mut I,
+    log: &mut L,
+) -> Result<Vec<u8>, Ended>
     ensures bytes { IfOk result (λ bytes. IfSome (I.remaining reader.old) (λ known. bytes.items ≡ known)) }
-    ensures either { IfErr result (λ ended. (ended ≡ Ended.OutOfMemory) ⊎ (ended ≡ Ended.Failed)) }
-    ensures fault { IfErr result ends.IsFault }
+    ensures short { IfOk result (λ _. IsWithin longest_settings (I.remaining reader.old)) }
+    ensures end { TakesAtMost (longest_settings + 1) (I.remaining reader.old) (I.remaining reader.new) }
+    ensures silent { OnOk result (log.new ≡ log.old) }
+    ensures long { IfErr result (λ ended. ended ≡ Ended.BadSettings → spec.TellsLong (I.remaining reader.old) (L.told log.old) (L.told log.new)) }
+    ensures ends { IfErr result ends.NoSettings }
 {
-    let mut bytes = Vec::new(alloc);
-    match reader.read_to_end(&mut bytes) {
-        Ok(_) => Ok(bytes),
-        Err(error) => Err(ended_by_io(&error)),
+    match bytes_within(alloc, reader, LONGEST_SETTINGS) {
+        Ok(Some(bytes)) => Ok(bytes),
+        Ok(None) => {
+            tell_long(alloc, log);
+            Err(Ended::BadSettings)
+        }
+        Err(ended) => Err(ended),
+    }
+}
+
+// The log tells that the text is too long, or that there was no memory to say so.
+fn tell_long<L: Log>(alloc: Global, log: &mut L)
+    ensures { (text : List ℕ) × spec.IsLongText (L.told log.old).form text × Writes (L.told log.old) (L.told log.new) text }
+{
+    match long_words(alloc) {
+        Ok(words) => log.no_settings(alloc, Some(&words)),
+        Err(_) => log.no_settings(alloc, None),
     }
 }
 

@@ -1,14 +1,16 @@
 //! Nodes that run on a socket: a server, and a proxy.
 ghost use Rattle.std.specs.FinMap as map;
 ghost use Rattle.std.specs.FinSet as set;
-ghost use Rattle.std.specs.Prelude.{◌≡◌, ◌<◌, ◌≤◌, List, IfErr, IfOk, IfSome, OnOk, None, Some, length, map, option_map};
+ghost use Rattle.std.specs.Prelude.{◌≡◌, ◌<◌, ◌≤◌, ◌+◌, List, IfErr, IfOk, IfSome, OnOk, None, Some, length, map, option_map};
 ghost use Rattle.osc_model.specs.{longest_payload, most_resources, exactly};
 ghost use Rattle.osc_model.specs.declared.code.Method.TheVariants as AnyMethod;
 ghost use Rattle.osc_turn.specs.{IsOfSeed, grown};
 ghost use Rattle.osc_programs.specs.Ended as ends;
 ghost use Rattle.osc_log.specs.{Event, Tells};
+ghost use Rattle.osc_programs.specs.Input.{IsWithin, TakesAtMost, longest_settings};
+ghost use Rattle.osc_programs.specs.Revoking.{AreRevoked, KeepsTree, with_revoked};
 ghost use Rattle.osc_programs.specs.Serving as spec;
-ghost use Rattle.osc_programs.specs.Storing.{BeginsWith, IsKept};
+ghost use Rattle.osc_programs.specs.Storing.{BeginsWith, IsKept, SomeKeeps};
 ghost use Rattle.osc_programs.specs.System as system;
 ghost use Rattle.osc_model.specs.Tree.{Tree as AnyTree};
 ghost use Rattle.osc_programs.specs.Turning as turning;
@@ -20,6 +22,7 @@ ghost use Rattle.osc_settings.specs.declared.server.ServerSettings.{ServerSettin
 use crate::ended::Ended;
 use crate::holding::Holding;
 use crate::reading::{proxy_settings, server_settings};
+use crate::revoking::revoke_at_start;
 use crate::store::{Stores, tell_unkept};
 use crate::storing::serve_stored;
 use crate::supply::supply_of;
@@ -35,6 +38,7 @@ use osc_run::Node;
 use osc_scope::Scope;
 use osc_server::Server;
 use osc_settings::{ProxySettings, ResourceSetting, ServerSettings, TargetSetting};
+use osc_store::Forgetful;
 use osc_tree::{LONGEST_PAYLOAD, Tree};
 use osc_turn::{Port, Seeds, send_all};
 use std::alloc::{AllocError, Global};
@@ -45,7 +49,8 @@ use std::time::Clock;
 /// listens, if that can be written, and the log tells of each turn. A datagram that can't be sent is lost, as on the way, and so is one
 /// for whose step there is no memory; a receive that fails ends it. Where there are no settings, the log tells why.
 ///
-/// Where the settings name a store, its resources are those that the store holds, and what a step changed is kept before anything of the step is
+/// The tokens of the ids in the settings are revoked before its first turn. Where the settings name a store, its resources are those that the store
+/// holds, and what a step changed is kept before anything of the step is
 /// sent; a store that isn't opened, or doesn't keep a change, ends it, and a line on the standard error tells why.
 pub fn serve<R: Clock + Eprint + Seeds + Sockets + Stores, I: Read, L: Log>(
     alloc: Global,
@@ -56,10 +61,13 @@ pub fn serve<R: Clock + Eprint + Seeds + Sockets + Stores, I: Read, L: Log>(
 ) -> Ended
     ensures done { result ≡ Ended.Done → (settings : ServedBy) × (tree : AnyTree) × (text : List Event) × IfSome (I.remaining reader.old) (λ bytes. StandsFor AreServerSettings bytes settings)
         × BeginsWith (R.holds runtime.now) settings tree
-        × (serves : spec.Serves settings tree turns text) × system.RunsOn (R.gave runtime.now) (R.opened runtime.now settings.bind None) R.Socket.sent serves.runs.start serves.runs.sent
+        × (serves : spec.Serves settings (with_revoked settings.revoked settings.revoked_ids.items tree) turns text) × system.RunsOn (R.gave runtime.now) (R.opened runtime.now settings.bind None) R.Socket.sent serves.runs.start serves.runs.sent
         × IsKept R.Keeper.keeps settings.store serves.last
+        × AreRevoked settings.revoked serves.first.tree settings.revoked_ids.items
         × Tells (L.told log.old) (L.told log.new) text }
     ensures bad { result ≡ Ended.BadSettings → TellsWhy (λ document. IsKeyFault (IsServerFault document)) (I.remaining reader.old) (L.told log.old) (L.told log.new) }
+    ensures short { result ≡ Ended.Done → IsWithin longest_settings (I.remaining reader.old) }
+    ensures end { TakesAtMost (longest_settings + 1) (I.remaining reader.old) (I.remaining reader.new) }
     ensures ends { ends.EndsServer result }
 {
     match server_settings(alloc, reader, log) {
@@ -80,6 +88,8 @@ pub fn forward<R: Clock + Eprint + Seeds + Sockets, I: Read, L: Log>(
         × (forwards : spec.Forwards settings turns text) × system.RunsOn (R.gave runtime.now) (R.opened runtime.now settings.bind None) R.Socket.sent forwards.runs.start forwards.runs.sent
         × Tells (L.told log.old) (L.told log.new) text }
     ensures bad { result ≡ Ended.BadSettings → TellsWhy IsFaultOfProxy (I.remaining reader.old) (L.told log.old) (L.told log.new) }
+    ensures short { result ≡ Ended.Done → IsWithin longest_settings (I.remaining reader.old) }
+    ensures end { TakesAtMost (longest_settings + 1) (I.remaining reader.old) (I.remaining reader.new) }
     ensures ends { ends.EndsNode result }
 {
     match proxy_settings(alloc, reader, log) {
@@ -98,8 +108,9 @@ fn serve_by<R: Clock + Eprint + Seeds + Sockets + Stores, L: Log>(
     turns: u64,
 ) -> Ended
     ensures done { result ≡ Ended.Done → (tree : AnyTree) × (text : List Event) × BeginsWith (R.holds runtime.now) settings tree
-        × (serves : spec.Serves settings tree turns text) × system.RunsOn (R.gave runtime.now) (R.opened runtime.now settings.bind None) R.Socket.sent serves.runs.start serves.runs.sent
+        × (serves : spec.Serves settings (with_revoked settings.revoked settings.revoked_ids.items tree) turns text) × system.RunsOn (R.gave runtime.now) (R.opened runtime.now settings.bind None) R.Socket.sent serves.runs.start serves.runs.sent
         × IsKept R.Keeper.keeps settings.store serves.last
+        × AreRevoked settings.revoked serves.first.tree settings.revoked_ids.items
         × Tells (L.told log.old) (L.told log.new) text }
     ensures ends { ends.EndsServing result }
 {
@@ -110,13 +121,36 @@ fn serve_by<R: Clock + Eprint + Seeds + Sockets + Stores, L: Log>(
     match file {
         Ok(file) => match runtime.open_store(file.as_str(), &settings.resources) {
             Ok(stored) => {
-                let ended = serve_stored(alloc, runtime, settings, stored, log, turns);
+                let ended = serve_revoking(alloc, runtime, settings, stored, log, turns);
                 tell_unkept(alloc, runtime, file.as_str(), ended);
                 ended
             }
             Err(ended) => ended,
         },
         Err(_) => Ended::OutOfMemory,
+    }
+}
+
+// With the resources of a store, of which this keeps the changes.
+fn serve_revoking<R: Clock + Eprint + Seeds + Sockets + Stores, L: Log>(
+    alloc: Global,
+    runtime: &R,
+    settings: ServerSettings,
+    stored: (R::Keeper, Tree),
+    log: &mut L,
+    turns: u64,
+) -> Ended
+    ensures done { result ≡ Ended.Done → (text : List Event)
+        × (serves : spec.Serves settings (with_revoked settings.revoked settings.revoked_ids.items stored.1) turns text) × system.RunsOn (R.gave runtime.now) (R.opened runtime.now settings.bind None) R.Socket.sent serves.runs.start serves.runs.sent
+        × (KeepsTree R.Keeper.keeps stored.0 stored.1 → SomeKeeps R.Keeper.keeps serves.last)
+        × AreRevoked settings.revoked serves.first.tree settings.revoked_ids.items
+        × Tells (L.told log.old) (L.told log.new) text }
+    ensures ends { ends.EndsServing result }
+{
+    let (mut keeper, mut tree) = stored;
+    match revoke_at_start(alloc, runtime, &mut keeper, &mut tree, &settings) {
+        Ok(()) => serve_stored(alloc, runtime, settings, (keeper, tree), log, turns),
+        Err(ended) => ended,
     }
 }
 
@@ -129,12 +163,13 @@ fn serve_from_settings<R: Clock + Eprint + Seeds + Sockets, L: Log>(
     turns: u64,
 ) -> Ended
     ensures done { result ≡ Ended.Done → (text : List Event)
-        × (serves : spec.Serves settings (spec.tree_of settings.resources.items) turns text) × system.RunsOn (R.gave runtime.now) (R.opened runtime.now settings.bind None) R.Socket.sent serves.runs.start serves.runs.sent
+        × (serves : spec.Serves settings (with_revoked settings.revoked settings.revoked_ids.items (spec.tree_of settings.resources.items)) turns text) × system.RunsOn (R.gave runtime.now) (R.opened runtime.now settings.bind None) R.Socket.sent serves.runs.start serves.runs.sent
+        × AreRevoked settings.revoked serves.first.tree settings.revoked_ids.items
         × Tells (L.told log.old) (L.told log.new) text }
-    ensures ends { ends.EndsTurns result }
+    ensures ends { ends.EndsKept result }
 {
     let bind = settings.bind;
-    match server_of(alloc, settings) {
+    match server_of(alloc, runtime, settings) {
         Ok(mut server) => run(alloc, runtime, bind, &mut server, log, turns),
         Err(ended) => ended,
     }
@@ -163,11 +198,17 @@ fn forward_by<R: Clock + Eprint + Seeds + Sockets, L: Log>(
 const REMEMBERED: u8 = 8;
 
 // A server with the resources of its settings, and without contexts.
-fn server_of(alloc: Global, settings: ServerSettings) -> Result<Server, Ended>
-    ensures server { IfOk result (λ server. spec.IsServerOf settings (spec.tree_of settings.resources.items) server) }
-    ensures fault { IfErr result ends.IsFault }
+fn server_of<R: Eprint>(
+    alloc: Global,
+    runtime: &R,
+    settings: ServerSettings,
+) -> Result<Server, Ended>
+    ensures server { IfOk result (λ server. spec.IsServerOf settings (with_revoked settings.revoked settings.revoked_ids.items (spec.tree_of settings.resources.items)) server) }
+    ensures revoked { IfOk result (λ server. AreRevoked settings.revoked server.tree settings.revoked_ids.items) }
+    ensures ends { IfErr result ends.EndsUnkept }
 {
-    let tree = tree_of(alloc, &settings.resources)?;
+    let mut tree = tree_of(alloc, &settings.resources)?;
+    revoke_at_start(alloc, runtime, &mut Forgetful, &mut tree, &settings)?;
     match server_with(alloc, settings, tree) {
         Ok(server) => Ok(server),
         Err(_) => Err(Ended::OutOfMemory),
@@ -188,6 +229,8 @@ pub(crate) fn server_with(
         audience,
         revoked,
         context_seconds,
+        reserved_id,
+        subtrees,
         open,
         ..
     } = settings;
@@ -201,6 +244,8 @@ pub(crate) fn server_with(
                 revoked,
                 seconds: context_seconds,
                 remembered: REMEMBERED,
+                reserved: reserved_id,
+                subtrees,
             },
         },
     );

@@ -1,13 +1,14 @@
 //! A script in, its trace out.
-ghost use Rattle.std.specs.Prelude.{◌≡◌, ◌≢◌, ◌⊎◌, ◌++◌, ℕ, List, IfSome};
+ghost use Rattle.std.specs.Prelude.{◌≡◌, ◌≢◌, ◌⊎◌, ◌+◌, ◌++◌, ℕ, List, IfSome};
 ghost use Rattle.std.specs.Io.KnownBytes.{Appends};
 ghost use Rattle.osc_programs.specs.Ended as ends;
+ghost use Rattle.osc_programs.specs.Input.{IsBeyond, TakesAtMost, longest_script};
 ghost use Rattle.osc_script.specs.{IsFirstBad};
 ghost use Rattle.osc_simulation.specs.{CutShort, Simulates, bad_line_text};
 
 use crate::ended::Ended;
+use crate::input::script_bytes;
 use crate::issue::written;
-use crate::reading::bytes_of;
 use osc_script::ClientName;
 use osc_simulation::{TraceError, TraceForm, bad_line_text, trace_script};
 use std::alloc::Global;
@@ -16,7 +17,7 @@ use std::io::{Read, Write};
 /// Runs the script that the reader gives, and writes its trace in this form, line by line: each line's events as it is done, then the
 /// end lines, and then what the entries of the client of `only` are answered alone, if there is one. A script with a line that stands for
 /// nothing does nothing: the number of the first such line is all that is written. For lack of memory the lines so far are written, and
-/// `out of memory` last.
+/// `out of memory` last. A script that is too long does nothing either, and nothing is written.
 pub fn sim<R: Read, W: Write>(
     alloc: Global,
     reader: &mut R,
@@ -28,6 +29,8 @@ pub fn sim<R: Read, W: Write>(
         × Appends (W.contents writer.old) (W.contents writer.new) text) }
     ensures bad { (n : ℕ) → result ≡ Ended.BadLine n → IfSome (R.remaining reader.old) (λ script. IsFirstBad script n
         × Appends (W.contents writer.old) (W.contents writer.new) (bad_line_text n)) }
+    ensures long { result ≡ Ended.TooLong → IsBeyond longest_script (R.remaining reader.old) × (writer.new ≡ writer.old) }
+    ensures end { TakesAtMost (longest_script + 1) (R.remaining reader.old) (R.remaining reader.new) }
     ensures words { result ≢ Ended.BadCommandLine }
     ensures ends { ends.EndsSim result }
 {
@@ -57,10 +60,12 @@ fn run<R: Read, W: Write>(
         × Appends (W.contents writer.old) (W.contents writer.new) text) }
     ensures bad { (n : ℕ) → result ≡ Ended.BadLine n → IfSome (R.remaining reader.old) (λ script. IsFirstBad script n
         × Appends (W.contents writer.old) (W.contents writer.new) (bad_line_text n)) }
+    ensures long { result ≡ Ended.TooLong → IsBeyond longest_script (R.remaining reader.old) × (writer.new ≡ writer.old) }
+    ensures end { TakesAtMost (longest_script + 1) (R.remaining reader.old) (R.remaining reader.new) }
     ensures words { result ≢ Ended.BadCommandLine }
     ensures ends { ends.EndsSim result }
 {
-    match bytes_of(alloc, reader) {
+    match script_bytes(alloc, reader) {
         Ok(script) => run_script(alloc, &script, form, only, writer),
         Err(ended) => ended,
     }
@@ -79,6 +84,7 @@ pub fn run_script<W: Write>(
     ensures done { result ≡ Ended.Done → (printed : List ℕ) × Simulates form only script.now printed × Appends (W.contents writer.old) (W.contents writer.new) printed }
     ensures bad { (n : ℕ) → result ≡ Ended.BadLine n → IsFirstBad script.now n × Appends (W.contents writer.old) (W.contents writer.new) (bad_line_text n) }
     ensures cut { result ≡ Ended.OutOfMemory → (printed : List ℕ) × CutShort form script.now printed × Appends (W.contents writer.old) (W.contents writer.new) printed }
+    ensures whole { result ≢ Ended.TooLong }
     ensures words { result ≢ Ended.BadCommandLine }
     ensures ends { ends.EndsSim result }
 {

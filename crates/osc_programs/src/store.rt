@@ -1,9 +1,11 @@
 //! The store of a server: opened, made where there is none yet, and listed.
 ghost use Rattle.std.specs.FinMap as map;
 ghost use Rattle.std.specs.Io.KnownBytes.{Appends};
-ghost use Rattle.std.specs.Prelude.{◌≡◌, ◌++◌, [], IfErr, IfOk, List, OnOk, fold, ℕ};
+ghost use Rattle.std.specs.Prelude.{◌≡◌, ◌≤◌, ◌++◌, [], IfErr, IfOk, List, OnOk, fold, ℕ};
 ghost use Rattle.std.specs.List.{flat_map};
 ghost use Rattle.sqlite_store.specs.FileStore.{recovers, view};
+ghost use Rattle.sqlite_trees.specs.View.{IsClean, doubt};
+ghost use Rattle.osc_store.specs.{IsWhole, Keeps, MayLeave};
 ghost use Rattle.sqlite_wal.specs.Files.{image_at};
 ghost use Rattle.osc_model.specs.Tree.{Tree as AnyTree};
 ghost use Rattle.osc_server.specs.State.{State as AnyServer};
@@ -14,15 +16,22 @@ ghost use Rattle.osc_programs.specs.Storing as spec;
 
 use crate::checked::resource_text;
 use crate::checking::said;
+use crate::copies::{Uncopied, copy_files};
 use crate::ended::{Ended, ended_by_io};
+use crate::revoking::KeepsStart;
 use crate::running::add_resource;
+use libc::clock_gettime;
+use libc::types::timespec;
 use osc_ccm::Suite;
-use osc_kept::KeepsSteps;
+use osc_kept::laws::one_path_changes;
+use osc_kept::{KeepsSteps, keep_change};
 use osc_model::laws::paths_are_ordered;
-use osc_model::{Path, Resource};
+use osc_model::{Code, Entry, Path, Resource, StepNotes};
 use osc_server::Server;
 use osc_settings::ResourceSetting;
-use osc_store::{Keeper, Keeping, OpenError, Start, Unknown, Wary};
+use osc_store::{
+    FileKeeper, KeepError, Keeper, Keeping, OpenError, Start, Unknown, Wary, draw_mark, read_store,
+};
 use osc_tree::Tree;
 use sqlite_std_file::FileFrom;
 use sqlite_store::FileStore;
@@ -34,7 +43,7 @@ use std::os::unix::fs::OpenOptionsExt;
 /// What opens the stores of servers. Contracts see what each held.
 pub trait Stores {
     /// What keeps the changes of a server.
-    type Keeper: KeepsSteps<Suite, Server> + Drop;
+    type Keeper: KeepsStart + Drop;
 
     // The store in the file of this name was opened, or first made of these resources: what keeps its changes, and the resources that it holds.
     ghost holds: { Self → List ℕ → List AnySetting → Self.Keeper → AnyTree → Type 0 };
@@ -52,35 +61,156 @@ pub trait Stores {
         ensures kept { IfOk result (λ stored. (server : AnyServer) → server.tree ≡ stored.1 → Self.Keeper.keeps stored.0 server) }
         ensures ends { IfErr result ends.NoStore };
 
-    /// Opens the store in this file, where there is one, with the resources that it holds. A line on the standard error tells why it isn't
-    /// opened.
-    fn find_store(&self, file: &str) -> Result<(Self::Keeper, Tree), Ended>
-        ensures found { IfOk result (λ stored. holds self.now file.now [] stored.0 stored.1) }
+    // The store in the file of this name was read, and held these resources.
+    ghost held: { Self → List ℕ → AnyTree → Type 0 };
+
+    /// The resources of the store in this file, where there is one; it is only read. A line on the standard error tells why it isn't read.
+    fn find_store(&self, file: &str) -> Result<Tree, Ended>
+        ensures found { IfOk result (held self.now file.now) }
         ensures ends { IfErr result ends.NotOpened };
+}
+
+/// How long no change comes before the file itself holds all that was kept, in seconds.
+const IDLE_SECONDS: i64 = 10;
+
+/// A clock that goes on while the machine sleeps, and that nobody sets.
+const CLOCK_BOOTTIME: i32 = 7;
+
+/// What keeps the changes of a server in a file of this system, of whose torn writes nothing is supposed.
+#[derive(Drop)]
+pub struct StoreFile {
+    keeper: FileKeeper<FileFrom<Wary>>,
+    // When the last change came that the file itself doesn't hold yet.
+    changed: Option<i64>,
+}
+
+impl StoreFile {
+    fn new(keeper: FileKeeper<FileFrom<Wary>>) -> StoreFile
+        ensures { result.keeper.store ≡ keeper.store }
+    {
+        StoreFile {
+            keeper,
+            changed: None,
+        }
+    }
+
+    // Puts into the file itself all that was kept.
+    fn make_whole(&mut self) -> Result<(), KeepError>
+        ensures kept { (tree : AnyTree) → Keeps view recovers self.old.keeper.store tree → IsClean (view self.new.keeper.store)
+            → OnOk result (Keeps view recovers self.new.keeper.store tree) }
+        ensures crash { (tree : AnyTree) → Keeps view recovers self.old.keeper.store tree → IsClean (view self.new.keeper.store)
+            → MayLeave view recovers self.new.keeper.store tree tree }
+        ensures clean { doubt (view self.old.keeper.store).is_clean ≤ doubt (view self.new.keeper.store).is_clean }
+    {
+        self.changed = None;
+        self.keeper.make_whole()
+    }
+
+    // The same, where no change has come for long enough.
+    fn settle(&mut self, is_change: bool) -> Result<(), KeepError>
+        ensures kept { (tree : AnyTree) → Keeps view recovers self.old.keeper.store tree → IsClean (view self.new.keeper.store)
+            → OnOk result (Keeps view recovers self.new.keeper.store tree) }
+        ensures crash { (tree : AnyTree) → Keeps view recovers self.old.keeper.store tree → IsClean (view self.new.keeper.store)
+            → MayLeave view recovers self.new.keeper.store tree tree }
+        ensures clean { doubt (view self.old.keeper.store).is_clean ≤ doubt (view self.new.keeper.store).is_clean }
+    {
+        let now = seconds();
+        if is_change {
+            self.changed = Some(now);
+            return Ok(());
+        }
+        match self.changed {
+            Some(changed) if now.saturating_sub(changed) >= IDLE_SECONDS => self.make_whole(),
+            _ => Ok(()),
+        }
+    }
+}
+
+// The time of that clock, which says nothing where it can't be read.
+fn seconds() -> i64 {
+    let mut time = timespec {
+        tv_sec: 0,
+        tv_nsec: 0,
+    };
+    let _ = clock_gettime(CLOCK_BOOTTIME, &mut time);
+    time.tv_sec
+}
+
+// Whether the reply of a served request tells of a change.
+fn is_change(served: Option<&Entry>) -> bool {
+    match served {
+        Some(entry) => {
+            let code = entry.reply.code;
+            code == Code::CREATED || code == Code::DELETED || code == Code::CHANGED
+        }
+        None => false,
+    }
+}
+
+impl KeepsSteps<Suite, Server> for StoreFile {
+    ghost keeps = { λ it node. IsClean (view it.keeper.store) → Keeps view recovers it.keeper.store node.tree };
+
+    ghost may_hold = { λ it before after. IsClean (view it.keeper.store) → MayLeave view recovers it.keeper.store before.tree after.tree };
+
+    fn keep_step(
+        &mut self,
+        alloc: Global,
+        node: &Server,
+        notes: &StepNotes,
+    ) -> Result<(), KeepError> {
+        one_path_changes();
+        keep_change(alloc, &mut self.keeper, node.tree(), notes.served())?;
+        self.settle(is_change(notes.served()))
+    }
+}
+
+impl KeepsStart for StoreFile {
+    fn keep_start(&mut self, path: &Path, resource: Option<&Resource>) -> Result<(), KeepError> {
+        self.changed = Some(seconds());
+        self.keeper.keep(path, resource)
+    }
 }
 
 /// The stores in files of this system. Nothing is supposed of what they hold.
 impl Stores for HostRuntime {
-    type Keeper = Keeper<FileStore<FileFrom<Wary>>>;
+    type Keeper = StoreFile;
 
-    ghost holds = { λ _ _ _ keeper tree. spec.IsOpened view recovers (image_at ⟦<Wary as Start>⟧) keeper.store tree };
+    ghost holds = { λ _ _ _ kept tree. spec.IsOpened view recovers (image_at ⟦<Wary as Start>⟧) kept.keeper.store tree };
 
     fn open_store(
         &self,
         file: &str,
         first: &[ResourceSetting],
-    ) -> Result<(Keeper<FileStore<FileFrom<Wary>>>, Tree), Ended> {
+    ) -> Result<(StoreFile, Tree), Ended> {
         if is_missing(self, file) {
             make_store(self, file, first)?;
         }
-        old_store(self, file, Wary)
+        match whole_store(self, file, Wary) {
+            Ok((keeper, tree)) => Ok((StoreFile::new(keeper), tree)),
+            Err(ended) => Err(ended),
+        }
     }
 
-    fn find_store(&self, file: &str) -> Result<(Keeper<FileStore<FileFrom<Wary>>>, Tree), Ended> {
-        if is_missing(self, file) {
-            return Err(refused_by(self, file, ErrorKind::NotFound));
-        }
-        old_store(self, file, Wary)
+    ghost held = { λ _ _ tree. spec.IsRead tree };
+
+    fn find_store(&self, file: &str) -> Result<Tree, Ended> {
+        read_tree(self, file)
+    }
+}
+
+// The resources that copies of the files hold, which are only read.
+fn read_tree(rt: &HostRuntime, file: &str) -> Result<Tree, Ended>
+    ensures found { IfOk result spec.IsRead }
+    ensures ends { IfErr result ends.NotOpened }
+{
+    let copies = match copy_files(rt, file) {
+        Ok(copies) => copies,
+        Err(Uncopied::Io(error)) => return Err(refused_by_io(rt, file, &error)),
+        Err(Uncopied::Refused(error)) => return Err(refused(rt, file, file, error)),
+    };
+    match read_store(rt.alloc(), &copies.log, &copies.db) {
+        Ok(tree) => Ok(tree),
+        Err(error) => Err(refused(rt, file, file, error)),
     }
 }
 
@@ -92,12 +222,12 @@ pub fn list_store<R: Stores, W: Write>(
     file: &str,
     writer: &mut W,
 ) -> Ended
-    ensures done { result ≡ Ended.Done → (tree : AnyTree) × spec.IsHeld (R.holds runtime.now) file.now tree
+    ensures done { result ≡ Ended.Done → (tree : AnyTree) × R.held runtime.now file.now tree
         × Appends (W.contents writer.old) (W.contents writer.new) (spec.store_lines tree) }
     ensures ends { ends.EndsStore result }
 {
     match runtime.find_store(file) {
-        Ok((_keeper, tree)) => list_tree(alloc, &tree, writer),
+        Ok(tree) => list_tree(alloc, &tree, writer),
         Err(ended) => ended,
     }
 }
@@ -130,11 +260,34 @@ fn stored_line(alloc: Global, path: &Path, resource: &Resource) -> Result<Vec<u8
 
 // ---- a store that is there
 
+// The store, whose database file alone holds it.
+fn whole_store<S: Start>(
+    rt: &HostRuntime,
+    file: &str,
+    start: S,
+) -> Result<(FileKeeper<FileFrom<S>>, Tree), Ended>
+    ensures opened { IfOk result (λ opened. spec.IsOpened view recovers (image_at S.Start) opened.0.store opened.1) }
+    ensures whole { IfOk result (λ opened. IsClean (view opened.0.store) → IsWhole opened.0.store opened.1) }
+    ensures ends { IfErr result ends.NoStore }
+{
+    let (mut keeper, tree) = match old_store(rt, file, start) {
+        Ok(opened) => opened,
+        Err(ended) => return Err(ended),
+    };
+    match keeper.make_whole() {
+        Ok(()) => Ok((keeper, tree)),
+        Err(error) => {
+            tell_unkept(rt.alloc(), rt, file, Ended::NotKept(error));
+            Err(Ended::NotKept(error))
+        }
+    }
+}
+
 fn old_store<S: Start>(
     rt: &HostRuntime,
     file: &str,
     start: S,
-) -> Result<(Keeper<FileStore<FileFrom<S>>>, Tree), Ended>
+) -> Result<(FileKeeper<FileFrom<S>>, Tree), Ended>
     ensures opened { IfOk result (λ opened. spec.IsOpened view recovers (image_at S.Start) opened.0.store opened.1) }
     ensures ends { IfErr result ends.NotOpened }
 {
@@ -148,11 +301,12 @@ fn opened<S: Start>(
     rt: &HostRuntime,
     file: &str,
     start: S,
-) -> Result<(Keeper<FileStore<FileFrom<S>>>, Tree), OpenError>
+) -> Result<(FileKeeper<FileFrom<S>>, Tree), OpenError>
     ensures { IfOk result (λ opened. spec.IsOpened view recovers (image_at S.Start) opened.0.store opened.1) }
 {
+    let mark = draw_mark(rt)?;
     match osc_store::open(rt, file, start) {
-        Ok((store, tree)) => Ok((Keeper::new(rt.alloc(), store), tree)),
+        Ok((store, tree)) => Ok((FileKeeper::new(rt.alloc(), store, mark), tree)),
         Err((error, _left)) => Err(error),
     }
 }
@@ -182,9 +336,23 @@ fn make_store(rt: &HostRuntime, file: &str, first: &[ResourceSetting]) -> Result
     let Ok(new) = new_files(rt.alloc(), file) else {
         return Err(Ended::OutOfMemory);
     };
+    if is_lost(rt, &new) {
+        return Err(refused(rt, file, file, OpenError::EmptyFile));
+    }
     match blank_store(rt, file, &new) {
         Ok(blank) => fill_store(rt, file, &new, blank, first),
         Err(ended) => Err(ended),
+    }
+}
+
+// How many bytes a log has at least that has a frame.
+const FRAMED_LOG: u64 = 56;
+
+// Whether there is a log of a file that is gone, which no first start left that was cut off.
+fn is_lost(rt: &HostRuntime, new: &NewFiles) -> bool {
+    match fs::metadata(rt, new.log_to.as_str()) {
+        Ok(log) => log.len() >= FRAMED_LOG && is_missing(rt, new.db.as_str()),
+        Err(_) => false,
     }
 }
 
@@ -268,9 +436,9 @@ fn blank_store(
 {
     clear(rt, new)?;
     create(rt, file, new)?;
-    match opened(rt, new.db.as_str(), Unknown) {
-        Ok(opened) => Ok(opened),
-        Err(error) => {
+    match osc_store::open(rt, new.db.as_str(), Unknown) {
+        Ok((store, tree)) => Ok((Keeper::new(rt.alloc(), store), tree)),
+        Err((error, _left)) => {
             let ended = refused(rt, file, new.db.as_str(), error);
             discard(rt, new);
             Err(ended)
@@ -355,10 +523,17 @@ fn refused(rt: &HostRuntime, file: &str, at: &str, error: OpenError) -> Ended
             return refused_by(rt, file, kind);
         }
     }
-    if let Ok(line) = format!(in rt.alloc(); "store {file}: {error}") {
+    if let Ok(line) = refused_line(rt.alloc(), file, error) {
         let _told = rt.eprintln(line.as_str());
     }
     Ended::Unopened(error)
+}
+
+fn refused_line(alloc: Global, file: &str, error: OpenError) -> Result<String, AllocError> {
+    match error {
+        OpenError::NoLog => Ok(format!(in alloc; "store {file}: its log {file}-wal is missing")?),
+        _ => Ok(format!(in alloc; "store {file}: {error}")?),
+    }
 }
 
 fn refused_by_io(rt: &HostRuntime, file: &str, error: &io::Error) -> Ended

@@ -1,11 +1,11 @@
 //! What the key and the secret of a token are, where they are in files.
-ghost use Rattle.std.specs.Prelude.{◌≡◌, ◌⊎◌, IfErr, IfOk, IfSome, MatchResult, option_and_then};
+ghost use Rattle.std.specs.Prelude.{◌≡◌, IfErr, IfOk, IfSome, MatchResult, option_and_then};
 ghost use Rattle.osc_programs.specs.TokenFiles as spec;
 ghost use Rattle.osc_script.specs.{SpellsHexWithin};
 ghost use Rattle.osc_words.specs.{file_option_of};
 
 use crate::ended::Ended;
-use crate::reading::bytes_of;
+use crate::input::{LONGEST_KEY, bytes_within};
 use osc_model::Bytes;
 use osc_words::{
     HiddenOption, NamedOption, Source, TokenAsked, TokenWords, WordsError, held_key, held_secret,
@@ -18,7 +18,7 @@ use std::io::Read;
 ///
 /// # Errors
 ///
-/// `Unread` for a file that can't be read, `Value` for one that holds no such value, the key's before the secret's, and `Memory` for
+/// `Unread` for a file that can't be read, `Value` for one that holds no such value, as one of more than 256 bytes, the key's before the secret's, and `Memory` for
 /// lack of memory.
 pub fn filled<K: Read + Drop, S: Read + Drop>(
     alloc: Global,
@@ -104,20 +104,21 @@ fn read_secret<S: Read + Drop>(alloc: Global, file: Option<S>) -> Result<Bytes, 
     }
 }
 
-// All that the file gives, if it was opened.
+// All that the file gives, if it was opened and that is no more than 256 bytes: a value and the end of its line have fewer.
 fn bytes_in<R: Read + Drop>(
     alloc: Global,
     option: HiddenOption,
     file: Option<R>,
 ) -> Result<Vec<u8>, WordsError>
     ensures bytes { IfOk result (λ bytes. IfSome (option_and_then R.remaining file) (λ known. bytes.items ≡ known)) }
-    ensures fault { IfErr result (λ error. (error ≡ WordsError.Unread (NamedOption.Token (file_option_of option))) ⊎ (error ≡ WordsError.Memory)) }
+    ensures fault { IfErr result (spec.HasNoBytes option (option_and_then R.remaining file)) }
 {
     let Some(mut reader) = file else {
         return Err(unread(option));
     };
-    match bytes_of(alloc, &mut reader) {
-        Ok(bytes) => Ok(bytes),
+    match bytes_within(alloc, &mut reader, LONGEST_KEY) {
+        Ok(Some(bytes)) => Ok(bytes),
+        Ok(None) => Err(held_none(option)),
         Err(Ended::OutOfMemory) => Err(WordsError::Memory),
         Err(_) => Err(unread(option)),
     }

@@ -21,6 +21,13 @@ pub fn unread_words(alloc: Global, why: &SettingsError) -> Result<String, AllocE
     Ok(text)
 }
 
+/// The words of a text that is too long.
+pub(crate) fn long_words(alloc: Global) -> Result<String, AllocError>
+    ensures { IfOk result (λ text. string_bytes text ≡ spec.long_words) }
+{
+    String::from_str(alloc, "settings: the text has more than 1048576 bytes")
+}
+
 fn why_text(alloc: Global, why: &SettingsError) -> Result<String, AllocError>
     ensures { IfOk result (λ text. string_bytes text ≡ spec.why_text why.now) }
 {

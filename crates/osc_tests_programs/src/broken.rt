@@ -17,6 +17,20 @@ impl Read for BrokenReader {
     }
 }
 
+/// Never ends, and counts what it gave.
+#[derive(Drop)]
+pub(crate) struct Endless {
+    pub(crate) given: usize,
+}
+
+impl Read for Endless {
+    fn read(&mut self, buf: &mut [u8]) -> io::Result<usize> {
+        buf.fill(b'#');
+        self.given = self.given.saturating_add(buf.len());
+        Ok(buf.len())
+    }
+}
+
 /// Takes some writes and then fails.
 #[derive(Drop)]
 pub(crate) struct BrokenWriter {

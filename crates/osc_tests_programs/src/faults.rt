@@ -1,5 +1,5 @@
 //! What a server and a proxy tell, with a log, of settings that are none: the first key that is at fault, and nothing of its value.
-use crate::broken::BrokenWriter;
+use crate::broken::{BrokenWriter, Endless};
 use osc_log::{Form, Lines, Log, Silent};
 use osc_programs::{Ended, forward, serve, unread_words};
 use osc_settings::read_client_settings;
@@ -29,7 +29,7 @@ fn is_told(rt: &HostRuntime, run: &(Ended, Vec<u8>), why: &str) -> Result<bool, 
 }
 
 /// Settings of a server, before which `key` is, and the first fault.
-const SERVERS: [(&str, &str); 12] = [
+const SERVERS: [(&str, &str); 19] = [
     (
         "",
         "key bind is missing, and should be a text of an address and a port, as 127.0.0.1:5683",
@@ -64,6 +64,34 @@ const SERVERS: [(&str, &str); 12] = [
     (
         "bind = '127.0.0.1:1'\naudience = 's'\nopen = []\ncontext_seconds = '60'\nresource = 1",
         "key context_seconds should be a whole number of seconds, 1 to 4294967295",
+    ),
+    (
+        "bind = '127.0.0.1:1'\naudience = 's'\nopen = []\ncontext_seconds = 0\nrevoked_ids = 1",
+        "key revoked is missing, and should be a path of at most 4 segments, as '/revoked'",
+    ),
+    (
+        "bind = '127.0.0.1:1'\naudience = 's'\nopen = []\ncontext_seconds = 0\nrevoked = '/r'\nrevoked_ids = '02'",
+        "key revoked_ids should be an array of at most 64 ids, as ['01', '0a02'], each of at most 64 bytes in hexadecimal",
+    ),
+    (
+        "bind = '127.0.0.1:1'\naudience = 's'\nopen = []\ncontext_seconds = 0\nrevoked = '/r'\nrevoked_ids = ['02', '3']",
+        "key revoked_ids should be an array of at most 64 ids, as ['01', '0a02'], each of at most 64 bytes in hexadecimal",
+    ),
+    (
+        "bind = '127.0.0.1:1'\naudience = 's'\nopen = []\ncontext_seconds = 0\nrevoked = '/r'\nrevoked_ids = ['02', 3]",
+        "key revoked_ids should be an array of at most 64 ids, as ['01', '0a02'], each of at most 64 bytes in hexadecimal",
+    ),
+    (
+        "bind = '127.0.0.1:1'\naudience = 's'\nopen = []\nsubtrees = 1\nreserved_id = '0'",
+        "key reserved_id should be a text of at most 64 bytes in hexadecimal",
+    ),
+    (
+        "bind = '127.0.0.1:1'\naudience = 's'\nopen = []\nstore = ''\nreserved_id = ''\nsubtrees = 'false'",
+        "key subtrees should be true or false",
+    ),
+    (
+        "bind = '127.0.0.1:1'\naudience = 's'\nopen = []\nstore = ''\nsubtrees = 0",
+        "key subtrees should be true or false",
     ),
     (
         "bind = '127.0.0.1:1'\naudience = 's'\nopen = []\nstore = ''\nresource = 1",
@@ -192,6 +220,27 @@ fn the_key_of_a_client_is_named(rt: HostRuntime) -> Result<(), Fail> {
         };
         assert!(rt; told.as_str() == wanted.as_str(), "{lines}");
     }
+    Ok(())
+}
+
+/// A text that is too long is told as such, and read no further; with a byte less it is read whole.
+#[test]
+fn a_text_has_an_end(rt: HostRuntime) -> Result<(), Fail> {
+    let mut endless = Endless { given: 0 };
+    let mut lines = Lines::new(rt.alloc(), Form::Text, Vec::from_slice(rt.alloc(), b"> ")?);
+    let ended = serve(rt.alloc(), &rt, &mut endless, &mut lines, 1);
+    let run = (ended, lines.into_writer());
+    assert!(rt; is_told(&rt, &run, "the text has more than 1048576 bytes")?);
+    assert_eq!(rt; endless.given, 1048577);
+    let longest = "#".repeat(rt.alloc(), 1048576)?;
+    let run = served(&rt, longest.as_bytes())?;
+    assert!(rt;
+        is_told(
+            &rt,
+            &run,
+            "key bind is missing, and should be a text of an address and a port, as 127.0.0.1:5683"
+        )?
+    );
     Ok(())
 }
 

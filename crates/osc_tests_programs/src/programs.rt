@@ -1,7 +1,8 @@
 //! Whole scripts with the traces that are wanted of them, and inputs and outputs that fail.
-use crate::broken::{BrokenReader, BrokenWriter};
-use osc_programs::{Ended, TraceForm, run_script, sim, status};
+use crate::broken::{BrokenReader, BrokenWriter, Endless};
+use osc_programs::{Ended, TraceForm, draw, run_script, sim, status};
 use osc_script::ClientName;
+use osc_words::DiagramForm;
 use std::alloc::{AllocError, Global};
 use std::io::{self, ErrorKind, Write};
 use std::test::Fail;
@@ -296,6 +297,27 @@ fn a_broken_input_or_output_fails(rt: HostRuntime) -> Result<(), Fail> {
     Ok(())
 }
 
+// A script that has no end does nothing, and at most one byte more than a script may have is read of it.
+#[test]
+fn a_script_has_an_end(rt: HostRuntime) -> Result<(), Fail> {
+    let alloc = rt.alloc();
+    let mut endless = Endless { given: 0 };
+    let mut written = Vec::new(alloc);
+    assert_eq!(rt;
+        sim(alloc, &mut endless, &mut written, plain(true), None),
+        Ended::TooLong
+    );
+    assert_eq!(rt; written.len(), 0);
+    assert_eq!(rt; endless.given, 16777217);
+    let mut again = Endless { given: 0 };
+    assert_eq!(rt;
+        draw(alloc, &mut again, &mut written, DiagramForm::Text),
+        Ended::TooLong
+    );
+    assert_eq!(rt; written.len(), 0);
+    Ok(())
+}
+
 /// Keeps what it takes until it is flushed, and fails at some flush.
 #[derive(Drop)]
 struct FlushedWriter {
@@ -350,6 +372,7 @@ fn endings_have_their_statuses(rt: HostRuntime) {
         (Ended::Done, 0),
         (Ended::BadCommandLine, 2),
         (Ended::BadLine(7), 2),
+        (Ended::TooLong, 2),
         (Ended::BadSettings, 2),
         (Ended::OutOfMemory, 3),
         (Ended::Failed, 4),

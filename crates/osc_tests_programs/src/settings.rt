@@ -209,6 +209,64 @@ fn the_seconds_of_contexts(rt: HostRuntime) -> Result<(), Fail> {
     Ok(())
 }
 
+/// Whether these are the ids of the settings.
+fn are_revoked(settings: &ServerSettings, ids: &[&[u8]]) -> bool {
+    let revoked = settings.revoked_ids.as_slice();
+    revoked.len() == ids.len()
+        && revoked
+            .iter()
+            .zip(ids)
+            .all(|(one, id)| one.as_slice() == *id)
+}
+
+#[test]
+fn what_an_owner_keeps(rt: HostRuntime) -> Result<(), Fail> {
+    let settings = read_server_settings(rt.alloc(), SERVER)?;
+    assert!(rt; are_revoked(&settings, &[]));
+    assert!(rt; settings.reserved_id.is_none());
+    assert!(rt; settings.subtrees);
+    let text = format!(in rt.alloc();
+        "{SERVER}revoked = '/r'\nrevoked_ids = ['02', '', '0aFf']\nreserved_id = '0a'\nsubtrees = false\n"
+    )?;
+    let settings = read_server_settings(rt.alloc(), text.as_str())?;
+    assert!(rt; are_revoked(&settings, &[b"\x02", b"", b"\x0a\xff"]));
+    assert!(rt; matches!(&settings.reserved_id, Some(id) if id.as_slice() == b"\x0a".as_slice()));
+    assert!(rt; !settings.subtrees);
+    Ok(())
+}
+
+/// Lines of a server with a revocation path, and so many ids of so many bytes each.
+fn with_ids(alloc: Global, count: usize, length: usize) -> Result<String, AllocError> {
+    let digits = "0a".repeat(alloc, length)?;
+    let id = format!(in alloc; "'{digits}', ")?;
+    let ids = id.as_str().repeat(alloc, count)?;
+    format!(in alloc; "revoked = '/a/b/c/d'\nrevoked_ids = [{ids}]\n")
+}
+
+#[test]
+fn ids_are_few_and_short(rt: HostRuntime) -> Result<(), Fail> {
+    for &(count, length, is_bad) in &[(64, 64, false), (65, 1, true), (1, 65, true)] {
+        let lines = with_ids(rt.alloc(), count, length)?;
+        assert_eq!(rt;
+            is_bad_for_a_server(rt.alloc(), SERVER, lines.as_str())?,
+            is_bad
+        );
+    }
+    for &lines in &[
+        "revoked_ids = []",
+        "revoked = '/r'\nrevoked_ids = '02'",
+        "revoked = '/r'\nrevoked_ids = [2]",
+        "revoked = '/r'\nrevoked_ids = ['2']",
+        "reserved_id = 2",
+        "reserved_id = '2'",
+        "subtrees = 'false'",
+        "subtrees = 0",
+    ] {
+        assert!(rt; is_bad_for_a_server(rt.alloc(), SERVER, lines)?, "{lines}");
+    }
+    Ok(())
+}
+
 const BIND_AND_KEY: &str = "bind = '127.0.0.1:1'\nkey = '000102030405060708090a0b0c0d0e0f'\n";
 
 const OTHER_LINES: [&str; 12] = [

@@ -1,8 +1,8 @@
 //! `osc token` with a key and a secret that are in files.
-use crate::broken::BrokenReader;
+use crate::broken::{BrokenReader, Endless};
 use crate::tokens::{TOKEN_LINE, given_words, run_words};
 use osc_programs::{Ended, ended_by, filled, token_warning};
-use osc_words::{Source, TokenAsked, Words, WordsError, fault_line, read_words};
+use osc_words::{Source, TokenAsked, TokenWords, Words, WordsError, fault_line, read_words};
 use std::alloc::{AllocError, Global};
 use std::test::Fail;
 
@@ -105,6 +105,44 @@ fn a_line_may_end_what_a_file_holds(rt: HostRuntime) -> Result<(), Fail> {
         );
     }
     Ok(())
+}
+
+// A file without an end holds none, and isn't read to an end.
+#[test]
+fn a_file_has_an_end(rt: HostRuntime) -> Result<(), Fail> {
+    let alloc = rt.alloc();
+    for &(key, line) in &[
+        (
+            None,
+            "error: --key-file is not a file of 16 bytes in hexadecimal",
+        ),
+        (
+            Some(KEY),
+            "error: --secret-file is not a file of 1 to 64 bytes in hexadecimal",
+        ),
+    ] {
+        let Some(asked) = asked(alloc) else {
+            continue;
+        };
+        let endless = Endless { given: 0 };
+        let (ended, told) = match key {
+            None => told_of(alloc, filled(alloc, asked, 0, Some(endless), Some(SECRET)))?,
+            Some(key) => told_of(alloc, filled(alloc, asked, 0, Some(key), Some(endless)))?,
+        };
+        assert_eq!(rt; ended, Ended::BadCommandLine);
+        assert!(rt; told.as_slice() == line.as_bytes(), "{line}");
+    }
+    Ok(())
+}
+
+fn told_of(
+    alloc: Global,
+    read: Result<TokenWords, WordsError>,
+) -> Result<(Ended, Vec<u8>), AllocError> {
+    match read {
+        Ok(_) => Ok((Ended::Done, Vec::new(alloc))),
+        Err(error) => refused(alloc, &error),
+    }
 }
 
 // What may not follow the hexadecimal, or in its place.

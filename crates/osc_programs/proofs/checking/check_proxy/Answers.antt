@@ -5,6 +5,8 @@ pub returns-in-Ok : goal.returns-in-Ok
 returns-in-Ok g c = record {
   done = λ done. (c.in-Ok.settings, c.in-Ok.ensures.settings, c.say_proxy.ensures.done done);
   bad = λ bad. absurd (turns_not_bad c.say_proxy.result c.say_proxy.ensures.ends bad);
+  short = λ done. c.in-Ok.ensures.short;
+  end = c.proxy_settings.ensures.end;
   ends = turns_node c.say_proxy.result c.say_proxy.ensures.ends;
 }
 
@@ -12,5 +14,7 @@ pub returns-in-Err : goal.returns-in-Err
 returns-in-Err g c = record {
   done = λ done. absurd (settings_no_end c.in-Err.ended c.in-Err.ensures.ends done);
   bad = c.in-Err.ensures.bad;
+  short = λ done. absurd (settings_no_end c.in-Err.ended c.in-Err.ensures.ends done);
+  end = c.proxy_settings.ensures.end;
   ends = settings_node c.in-Err.ended c.in-Err.ensures.ends;
 }

@@ -16,9 +16,12 @@ returns-in-Ok g c = record {
         told.3,
         told.4,
         told.5,
-        subst (λ log. Tells (g.L.Log.told log) (g.L.Log.told c.serve_by.new.log) told.1) c.in-Ok.ensures.silent told.6,
+        told.6,
+        subst (λ log. Tells (g.L.Log.told log) (g.L.Log.told c.serve_by.new.log) told.1) c.in-Ok.ensures.silent told.7,
       );
   bad = λ bad. absurd (serving_not_bad c.serve_by.result c.serve_by.ensures.ends bad);
+  short = λ done. c.in-Ok.ensures.short;
+  end = c.server_settings.ensures.end;
   ends = serving_server c.serve_by.result c.serve_by.ensures.ends;
 }
 
@@ -26,5 +29,7 @@ pub returns-in-Err : goal.returns-in-Err
 returns-in-Err g c = record {
   done = λ done. absurd (settings_no_end c.in-Err.ended c.in-Err.ensures.ends done);
   bad = c.in-Err.ensures.bad;
+  short = λ done. absurd (settings_no_end c.in-Err.ended c.in-Err.ensures.ends done);
+  end = c.server_settings.ensures.end;
   ends = settings_server c.in-Err.ended c.in-Err.ensures.ends;
 }

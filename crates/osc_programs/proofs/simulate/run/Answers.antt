@@ -1,13 +1,26 @@
-use Rattle.std.proofs.Common.{◌≡◌, ◌⊎◌, inl, inr, sym, subst}
-use Rattle.osc_programs.specs.{EndsSim}
-use Rattle.osc_programs.specs.declared.ended.Ended.{Ended}
-use Rattle.osc_programs.specs.declared.ended.Ended.TheVariants.{Failed, OutOfMemory}
+use Rattle.std.proofs.Common.{ℕ, List, subst}
+use Rattle.std.specs.Io.KnownBytes.{Appends}
+use Rattle.osc_simulation.specs.{Simulates}
+use Rattle.osc_programs.proofs.Scripts.{no_script_done, no_script_line, no_script_sim, no_script_words, of_known}
 use Rattle.osc_programs.proofs.simulate.run.Goals as goal
 
--- an input that fails
-input_ends : (ended : Ended) → (ended ≡ OutOfMemory) ⊎ (ended ≡ Failed) → EndsSim ended
-input_ends ended (inl same) = subst EndsSim (sym same) tt
-input_ends ended (inr same) = subst EndsSim (sym same) tt
+pub returns-in-Ok-clause-done : goal.returns-in-Ok-clause-done
+returns-in-Ok-clause-done g c = λ done.
+    let P = λ (script : List ℕ). (text : List ℕ) × Simulates c.args.form c.args.only script text
+    × Appends (g.W.Write.contents c.args.writer.now) (g.W.Write.contents c.run_script.new.writer) text in
+    of_known (g.R.Read.remaining c.args.reader.now) c.in-Ok.script.items P c.in-Ok.ensures.bytes (subst P c.deref.ensures.value (c.run_script.ensures.done done))
 
 pub returns-in-Err-clause-ends : goal.returns-in-Err-clause-ends
-returns-in-Err-clause-ends g c = input_ends c.in-Err.ended c.in-Err.ensures.either
+returns-in-Err-clause-ends g c = no_script_sim c.in-Err.ended c.in-Err.ensures.ends
+
+pub returns-in-Err-clause-words : goal.returns-in-Err-clause-words
+returns-in-Err-clause-words g c = no_script_words c.in-Err.ended c.in-Err.ensures.ends
+
+pub returns-in-Ok-clause-long : goal.returns-in-Ok-clause-long
+returns-in-Ok-clause-long g c = λ long. absurd (c.run_script.ensures.whole long)
+
+pub returns-in-Err-clause-bad : goal.returns-in-Err-clause-bad
+returns-in-Err-clause-bad g c = λ n bad. absurd (no_script_line c.in-Err.ended c.in-Err.ensures.ends n bad)
+
+pub returns-in-Err-clause-done : goal.returns-in-Err-clause-done
+returns-in-Err-clause-done g c = λ done. absurd (no_script_done c.in-Err.ended c.in-Err.ensures.ends done)
