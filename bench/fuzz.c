@@ -147,7 +147,7 @@ static int is_same(const view *one, const view *other) {
     return same && one->served.number == other->served.number && one->served.method == other->served.method && one->refused.code == other->refused.code;
 }
 
-static int is_refusal(int32_t number) { return number != NZF_DONE && number != NZF_LOST && number != NZF_UNVERIFIED; }
+static int is_refusal(int32_t number) { return number != NZF_DONE && number != NZF_LOST && number != NZF_UNVERIFIED && number != NZF_REFUSED; }
 
 /* ---- the wire */
 
@@ -396,11 +396,11 @@ static void own_call(void) {
     case 1: number = nzf_device_put(&device, now, &resource, &draws, &code), set = writes; break;
     case 2: number = nzf_device_append(&device, now, &resource, &draws, &code), set = writes; break;
     case 3: number = nzf_device_remove(&device, now, TEXT(path), &draws, &code), set = writes; break;
-    case 4: number = nzf_device_revoke(&device, now, id, id_length, &draws, &code), set = writes; break;
-    default: number = nzf_device_allow(&device, now, id, id_length, &draws, &code), set = writes; break;
+    case 4: number = nzf_device_revoke(&device, now, id, id_length, &draws, &code), set = writes | OR(NZF_REFUSED); break;
+    default: number = nzf_device_allow(&device, now, id, id_length, &draws, &code), set = writes | OR(NZF_REFUSED); break;
     }
     ANSWERS(number, set | (has_refused ? OR(NZF_NO_MEMORY) | OR(NZF_LOST) : 0));
-    if (number != NZF_DONE && number != NZF_UNVERIFIED) SHOULD(code == 0);
+    if (number != NZF_DONE && number != NZF_UNVERIFIED && number != NZF_REFUSED) SHOULD(code == 0);
     if (is_refusal(number)) {
         look(&after);
         SHOULD(is_same(&before, &after));

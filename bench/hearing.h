@@ -9,6 +9,7 @@
 
 uint64_t osc_bench_flood_valid(uint16_t number, uint8_t *out, size_t room);
 uint64_t osc_bench_hear_server(const uint8_t *datagram, size_t length, uint32_t rounds);
+uint64_t osc_bench_hear_full(const uint8_t *datagram, size_t length, uint32_t rounds);
 uint64_t osc_bench_hear_client(uint8_t asks, const uint8_t *datagram, size_t length, uint32_t rounds);
 uint64_t osc_bench_hear_holder(const uint8_t *text, size_t length, uint32_t rounds);
 uint64_t osc_bench_hear_proxy(uint8_t open, uint8_t from, const uint8_t *datagram, size_t length, uint32_t rounds);
@@ -25,10 +26,11 @@ enum { TIMES = 30 };
 enum { LIMIT = 1152, MARK = 65521, MOST_ROUNDS = 1000 };
 
 /* Who hears. A holder's bytes are the text that is sealed in its request. The proxy has 63 exchanges open where somebody else sends, and 64 where its target does. */
-enum { SERVER, HOLDER, CLIENT_POST, CLIENT_ASK, PROXY, TARGET, EARS };
+enum { SERVER, FULL, HOLDER, CLIENT_POST, CLIENT_ASK, PROXY, TARGET, EARS };
 
 static const char *const WHO[EARS] = {
     "Server::on_datagram",
+    "Server::on_datagram, of a server with a revocation path, 1,024 resources and 128 contexts",
     "Server::on_datagram, from the holder of a token, who seals this text",
     "Client::on_datagram, from its server, while a post of its token waits",
     "Client::on_datagram, from its server, while a request waits",
@@ -86,6 +88,7 @@ static void find_overhead(void) {
 static uint64_t heard(int ear, const uint8_t *datagram, size_t length, uint32_t rounds) {
     switch (ear) {
     case SERVER: return osc_bench_hear_server(datagram, length, rounds);
+    case FULL: return osc_bench_hear_full(datagram, length, rounds);
     case HOLDER: return osc_bench_hear_holder(datagram, length, rounds);
     case CLIENT_POST: return osc_bench_hear_client(0, datagram, length, rounds);
     case CLIENT_ASK: return osc_bench_hear_client(1, datagram, length, rounds);

@@ -597,6 +597,19 @@ static void holder_shapes(void) {
     end_counted("", options(11, 1, LIMIT - LONGEST_TEXT), " Uri-Path of a byte");
 }
 
+/* What a full server hears: posts of tokens that open, of an id that has contexts, of one that has none, and of one whose scope has many subtrees. */
+static void full_hears(unsigned number, const char *name) {
+    begin(FULL, 0x44, 2, 4);
+    written->length = osc_bench_flood_valid((uint16_t)number, written->bytes, LIMIT);
+    end(name);
+}
+
+static void full_shapes(void) {
+    full_hears(1, "a post of a token whose id has contexts");
+    full_hears(200, "a post of a token of another id");
+    full_hears(65535, "a post of a token of another id, with a scope of 163 subtrees");
+}
+
 /* What a client hears of its server, while something waits. */
 static void client_shapes(void) {
     static void (*const PAYLOADS[])(void) = {
@@ -735,6 +748,7 @@ static void target_shapes(void) {
 static void make_shapes(void) {
     shape_count = 0;
     server_shapes();
+    full_shapes();
     holder_shapes();
     client_shapes();
     proxy_shapes();

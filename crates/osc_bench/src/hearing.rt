@@ -53,7 +53,7 @@ pub extern "C" fn osc_bench_hear_proxy(
 const NOTHING: u64 = 256;
 
 // More than what is answered else.
-const WANTING: u64 = 1000;
+pub(crate) const WANTING: u64 = 1000;
 
 // What was noted so many ms ago is dead.
 const LIFETIME: u64 = 247_000;
@@ -114,6 +114,16 @@ fn server_hears_all(
     rounds: u32,
 ) -> Result<u64, AllocError> {
     begin(alloc, server)?;
+    hears_again(alloc, server, datagram, rounds)
+}
+
+/// The server hears the datagram so many times, as `osc_bench_hear_server` says.
+pub(crate) fn hears_again(
+    alloc: Global,
+    server: &mut Server,
+    datagram: &[u8],
+    rounds: u32,
+) -> Result<u64, AllocError> {
     let mut copy = Vec::from_slice(alloc, datagram)?;
     let mut told = NOTHING;
     for round in 0..rounds {

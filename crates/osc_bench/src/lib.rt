@@ -7,6 +7,7 @@ mod alone;
 mod asking;
 mod cipher;
 mod flood;
+mod full;
 mod hearing;
 mod holder;
 mod messages;

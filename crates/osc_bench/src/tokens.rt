@@ -1,6 +1,7 @@
 //! Tokens read, and posts to authz-info.
 
-use osc_authz::{ClientDesk, ServerDesk, Standing};
+use osc_authz::laws::marks_stay;
+use osc_authz::{ClientDesk, RevokedMarks, ServerDesk, Standing};
 use osc_ccm::Ccm;
 use osc_fixtures::{KEY, Right, desk, drawn, own, token};
 use osc_model::Moment;
@@ -123,12 +124,15 @@ fn is_made(
     body: &[u8],
     byte: u8,
 ) -> Result<bool, AllocError> {
+    // Nothing is revoked in a tree without resources.
+    marks_stay();
     let tree = Tree::new(alloc);
+    let mut marks = RevokedMarks::none();
     let on = Standing {
         at: Moment::START,
         tree: &tree,
     };
-    let post = desk.post::<Ccm<8>>(alloc, &on, body, &drawn(byte))?;
+    let post = desk.post::<Ccm<8>>(alloc, &on, &mut marks, body, &drawn(byte))?;
     let is_made = post.answer.is_ok();
     drop(post);
     Ok(is_made)
