@@ -96,7 +96,8 @@ static void answers_at(int32_t number, int32_t wanted, const char *call, int lin
     } while (0)
 
 static const int32_t NUMBERS[] = {NZF_DONE,      NZF_TOO_SHORT, NZF_NO_MEMORY, NZF_TOO_LONG,     NZF_BUSY, NZF_EXHAUSTED,  NZF_NO_CONTEXT,
-                                  NZF_BAD_SCOPE, NZF_NOTHING,   NZF_LOST,      NZF_BAD_ARGUMENT, NZF_NOT_NOW, NZF_UNVERIFIED};
+                                  NZF_BAD_SCOPE, NZF_NOTHING,   NZF_LOST,      NZF_BAD_ARGUMENT, NZF_NOT_NOW, NZF_UNVERIFIED,
+                                  NZF_REFUSED};
 
 static int is_a_number(int32_t number) {
     for (size_t at = 0; at < sizeof NUMBERS / sizeof NUMBERS[0]; at++)
@@ -221,6 +222,10 @@ static nzf_resource value_at(const char *path, int32_t format, const char *paylo
     return it;
 }
 
+/* What the tokens of the clients grant. */
+static const char SCOPE[] = "/e:GET+PUT,/log:GET+POST+DELETE";
+static const char *granted = SCOPE;
+
 /* Mints the token of one of the clients. */
 static int32_t mint_under(const nzf_key *key, size_t client, uint8_t *token, size_t room, size_t *length) {
     nzf_claims it = NZF_CLAIMS;
@@ -232,7 +237,7 @@ static int32_t mint_under(const nzf_key *key, size_t client, uint8_t *token, siz
     it.secret = nzf_bytes_of(SECRETS[client], 16);
     it.context = nzf_text(NAMES[client]);
     it.has_context = 1;
-    it.scope = nzf_text("/e:GET+PUT,/log:GET+POST+DELETE");
+    it.scope = nzf_text(granted);
     it.algorithm = client ? NZF_ALGORITHM_CCM_16 : NZF_ALGORITHM_CCM_8;
     return nzf_token_mint(&it, token, room, length);
 }
@@ -417,22 +422,25 @@ static int32_t revokes(world *w, int revoke, const void *id, size_t length, uint
 static int revoked(world *w, int revoke, size_t client, uint8_t wanted) {
     uint8_t id = (uint8_t)(client + 1), code = 0;
     int32_t number = revokes(w, revoke, &id, 1, &code);
-    if (refused) CLAIM(number == NZF_DONE || number == NZF_NO_MEMORY || number == NZF_LOST);
+    if (refused) CLAIM(number == NZF_DONE || number == NZF_NO_MEMORY || number == NZF_LOST || (number == NZF_REFUSED && code == 0xa0));
     NEEDS(number == NZF_DONE);
     NEEDS(code == wanted);
     return 1;
 }
 
-/* Posts its token, and is refused by 4.01. */
-static int is_shut_out(world *w, size_t at) {
+/* Posts its token, and is refused by this. */
+static int is_refused_by(world *w, size_t at, uint8_t code) {
     nzf_draw it = draw();
     w->results[at].what = 0;
     NEEDS(nzf_client_exchange(&w->clients[at], w->now, &it) == NZF_DONE);
     heed_client(w, at);
     NEEDS(quiet(w));
-    NEEDS(w->results[at].what == NZF_RESULT_ENDED && w->results[at].code == 0x81);
+    NEEDS(w->results[at].what == NZF_RESULT_ENDED && w->results[at].code == code);
     return 1;
 }
+
+/* The same by 4.01. */
+static int is_shut_out(world *w, size_t at) { return is_refused_by(w, at, 0x81); }
 
 static int reads(world *w, const char *path, const char *wanted) {
     uint8_t payload[ROOM];
@@ -632,7 +640,7 @@ static void bad_rules(void) {
     nzf_device_free(&it);
 }
 
-enum { MOST_ENTRIES = 4000, ENTRY = 20 };
+enum { MOST_ENTRIES = 4000, ENTRY = 20, FIRST_SETTINGS = 112 };
 
 /* A device whose own scope has so many entries. */
 static int32_t of_long_scope(nzf_device *it, size_t entries) {
@@ -859,10 +867,43 @@ static void not_revoked(world *w) {
     CLAIM(reads(w, "/a/b/c/d/01000000000000000000000000000000/00000000000000000000000000000000/00", ""));
     CLAIM(revokes(w, 1, ids, 0, &code) == NZF_DONE && code == 0x41 && reads(w, "/a/b/c/d", ""));
     ANSWERS(NZF_DONE, device_with(&w->device, &its, "/gone", "/e:PUT,/gone:DELETE+SUB"));
-    CLAIM(opens(w) && revokes(w, 1, ids, 1, &code) == NZF_DONE && code == 0x85);
+    CLAIM(opens(w) && revokes(w, 1, ids, 1, &code) == NZF_REFUSED && code == 0x85);
     ANSWERS(NZF_DONE, device_with(&w->device, &its, "/gone", "/e:PUT"));
-    CLAIM(opens(w) && written(w, 3, "/e", "open", 0x41) && revokes(w, 1, ids, 1, &code) == NZF_DONE && code == 0x83);
+    CLAIM(opens(w) && written(w, 3, "/e", "open", 0x41) && revokes(w, 1, ids, 1, &code) == NZF_REFUSED && code == 0x83);
+    CLAIM(revokes(w, 0, ids, 1, &code) == NZF_DONE && code == 0x83);
     CLAIM(exchange(w, 0) && asks(w, 0, 1, "/e", "", 0x45));
+}
+
+/* A device that refuses +SUB takes no token that has it, and has none of its own. */
+static void no_subtrees(world *w) {
+    nzf_device_settings its = settings_for("/e:PUT,/d:PUT+SUB");
+    its.no_subtrees = 1;
+    ANSWERS(NZF_BAD_SCOPE, device_of(&w->device, &its));
+    its.own = nzf_text("/e:PUT");
+    its.no_subtrees = 2;
+    IS_BAD(device_of(&w->device, &its));
+    its.no_subtrees = 1;
+    ANSWERS(NZF_DONE, device_of(&w->device, &its));
+    CLAIM(opens(w) && written(w, 3, "/e", "open", 0x41) && exchange(w, 0) && asks(w, 0, 1, "/e", "", 0x45));
+    granted = "/e:GET+SUB";
+    ANSWERS(NZF_DONE, new_client(&w->clients[0], 0));
+    CLAIM(is_refused_by(w, 0, 0x80) && w->why.reason == 24);
+    its.no_subtrees = 0;
+    ANSWERS(NZF_DONE, device_of(&w->device, &its));
+    CLAIM(opens(w) && written(w, 3, "/e", "open", 0x41) && exchange(w, 0) && asks(w, 0, 1, "/e", "", 0x45));
+    granted = SCOPE;
+}
+
+/* Settings of the first version, which are shorter: what came since is as if it weren't there. */
+static void first_version(world *w) {
+    nzf_device_settings its = settings_for("/e:PUT,/d:PUT+SUB");
+    nzf_device_settings *first = malloc(FIRST_SETTINGS);
+    if (!first) return;
+    its.size = FIRST_SETTINGS;
+    memcpy(first, &its, FIRST_SETTINGS);
+    ANSWERS(NZF_DONE, device_of(&w->device, first));
+    free(first);
+    CLAIM(opens(w) && written(w, 3, "/e", "open", 0x41) && exchange(w, 0) && asks(w, 0, 1, "/e", "", 0x45));
 }
 
 /* A token under the former key makes a context at a device that has it, and at no other. */
@@ -1194,6 +1235,8 @@ static void all_claims(void) {
     in_a_world(revoking);
     in_a_world(not_revoked);
     in_a_world(former_key);
+    in_a_world(no_subtrees);
+    in_a_world(first_version);
     in_a_world(ten_seconds);
     in_a_world(reading);
     in_a_world(unprotected);

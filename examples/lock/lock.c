@@ -30,11 +30,17 @@ static int udp = -1;
 static int is_open, is_told;
 static char line[96];
 
+/* Whether something was served that couldn't be told for lack of memory. */
+static int is_unseen;
+
 /* What the lock does at its own server. Where memory was wanting on the way it is left open: a tick goes on with it, and tells what came of it. */
 typedef enum { NONE, OPEN, PUT, APPEND, REMOVE } doing;
 static const char *const DOING[] = {"nothing", "open", "put /lock/actual", "append to /log", "remove /log"};
 static doing left_open;
 static int has_moved; /* since then */
+
+/* When the lock's own context was opened: it ends, as each does. */
+static uint64_t opened;
 
 /* ---- what is the maker's: errors, moments, draws */
 
@@ -109,9 +115,15 @@ static int open_context(void) {
     nzf_draws draws = two_draws();
     uint8_t code = 0;
     int32_t number = nzf_device_open(&device, now(), &draws, &code);
+    if (number == NZF_DONE) opened = now();
     if (number == NZF_LOST) left_open = OPEN;
     if (number != NZF_DONE) complain(DOING[OPEN], number, code);
     return number == NZF_DONE;
+}
+
+/* Opens a new context before the lock's own ends. */
+static void renew(void) {
+    if (left_open == NONE && now() - opened >= LOCK_CONTEXT_SECONDS * UINT64_C(1000) / 2) open_context();
 }
 
 /* A text (Content-Format 0) for a path. */
@@ -163,7 +175,7 @@ static void write_line(void) {
     if (is_done(APPEND, number, code)) line[0] = '\0';
 }
 
-/* Tells what isn't told yet; what can't be told now is told behind a later datagram or tick. A full log is begun anew. */
+/* Tells what isn't told yet; what can't be told now is told after a later datagram or tick. Where the log is full a new one begins. */
 static void tell(void) {
     if (left_open == NONE && !is_told) {
         uint8_t code = 0;
@@ -180,6 +192,7 @@ static void heed_learnt(void) {
     if (number == NZF_NOTHING) return;
     doing what = left_open;
     left_open = NONE;
+    if (what == OPEN && number == NZF_DONE) opened = now();
     if (!is_done(what, number, code) || has_moved) return;
     if (what == PUT) is_told = 1;
     if (what == APPEND) line[0] = '\0';
@@ -209,6 +222,7 @@ static void heed_served(void) {
     if (number == NZF_NOTHING) return;
     if (number != NZF_DONE) {
         complain("served", number, 0);
+        is_unseen = 1;
         return;
     }
     const uint8_t *payload = bytes + it.path_length, *holder = payload + it.payload_length;
@@ -216,6 +230,21 @@ static void heed_served(void) {
     if (!is_put || !is_text(bytes, it.path_length, WANTED)) return;
     if (is_text(payload, it.payload_length, "open")) move(1, holder, it.context_length);
     if (is_text(payload, it.payload_length, "shut")) move(0, holder, it.context_length);
+}
+
+/* Where it isn't known what was served, the bolt goes where /lock/wanted says. By whom isn't known either. */
+static void look(void) {
+    nzf_value it;
+    uint8_t wanted[NZF_PAYLOAD_MAX];
+    int32_t number = nzf_device_get(&device, WANTED, strlen(WANTED), wanted, sizeof wanted, &it);
+    if (number != NZF_DONE && number != NZF_NOTHING) {
+        complain("get", number, 0);
+        return;
+    }
+    is_unseen = 0;
+    if (number == NZF_NOTHING) return;
+    if (!is_open && is_text(wanted, it.length, "open")) move(1, wanted, 0);
+    if (is_open && is_text(wanted, it.length, "shut")) move(0, wanted, 0);
 }
 
 static void heed_refused(void) {
@@ -227,8 +256,8 @@ static void heed_refused(void) {
     fflush(stdout);
 }
 
-/* Behind a call that was done: what its step left is taken before the lock writes for itself, which is a step of its own. Behind any other number the
- * last step still stands, and was heeded by then: to look again would move the bolt twice. */
+/* After a call that was done: what its step left is taken before the lock writes for itself, which is a step of its own. After any other number the
+ * last step is still there, and was heeded by then: to heed it again would move the bolt twice. */
 static void heed(const char *what, int32_t number) {
     if (number == NZF_DONE) {
         send_all();
@@ -238,12 +267,14 @@ static void heed(const char *what, int32_t number) {
     } else {
         complain(what, number, 0);
     }
+    if (is_unseen) look();
     tell();
 }
 
 static void tick(void) {
     nzf_draw it = draw();
     heed("tick", nzf_device_on_tick(&device, now(), &it));
+    renew();
 }
 
 static void receive(void) {
@@ -271,6 +302,7 @@ static void begin(void) {
     settings.audience = nzf_text(LOCK_AUDIENCE);
     settings.unprotected = nzf_text(LOCK_OPEN);
     settings.own = nzf_text(LOCK_OWN);
+    settings.context_seconds = LOCK_CONTEXT_SECONDS;
     int32_t number = nzf_device_new(&device, &settings, &it);
     if (number != NZF_DONE) {
         complain("new", number, 0);

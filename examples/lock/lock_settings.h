@@ -14,6 +14,10 @@ static const nzf_key LOCK_KEY = {
 /* What anyone may GET, without protection. */
 #define LOCK_OPEN "/lock/actual:GET"
 
+/* For how many seconds a context counts at most: a request that was held back on its way for longer is refused. The lock opens its own again once half of
+ * them are over. */
+#define LOCK_CONTEXT_SECONDS 86400
+
 /* What the lock itself may do. */
 #define LOCK_OWN "/lock/actual:PUT,/log:POST+DELETE"
 
