@@ -14,6 +14,7 @@ use Rattle.osc_store.proofs.FindLemmas.{once_named}
 pub no_refusal : {P : Type 0} (F L H O : Type 0) (e : OpenError) → IsTrue (is_refusal e) → Fails F L H O e → P
 no_refusal F L H O opening.EmptyFile is h = absurd h
 no_refusal F L H O opening.NoLog is h = absurd h
+no_refusal F L H O opening.ForeignLog is h = absurd h
 no_refusal F L H O opening.OutOfMemory is h = absurd (cc)
 no_refusal F L H O opening.Full is h = absurd (cc)
 no_refusal F L H O opening.Failed is h = absurd (cc)
@@ -22,19 +23,6 @@ no_refusal F L H O opening.Journal is h = absurd h
 no_refusal F L H O opening.NoStore is h = absurd (cc)
 no_refusal F L H O opening.OtherVersion is h = absurd (cc)
 no_refusal F L H O opening.Damaged is h = absurd (cc)
-
--- what the look at them answers: a refusal, or a failure of the disk
-pub check_stops : (image : Image) (F L H O : Type 0) (e : OpenError) → Refuses image ((e ≡ opening.Failed) × F) e → Fails F L H O e ⊎ Refuses image ⊥ e
-check_stops image F L H O opening.EmptyFile why = inr why
-check_stops image F L H O opening.NoLog why = inr why
-check_stops image F L H O opening.Failed why = inl why.1
-check_stops image F L H O opening.OutOfMemory why = inl tt
-check_stops image F L H O opening.Full why = let e = why.0 in absurd (cc)
-check_stops image F L H O opening.Busy why = let e = why.0 in absurd (cc)
-check_stops image F L H O opening.Journal why = let e = why.0 in absurd (cc)
-check_stops image F L H O opening.NoStore why = let e = why.0 in absurd (cc)
-check_stops image F L H O opening.OtherVersion why = let e = why.0 in absurd (cc)
-check_stops image F L H O opening.Damaged why = let e = why.0 in absurd (cc)
 
 abbrev OneOf : StoreError → Type 0
 OneOf kind = (kind ≡ call.Io) ⊎ ((kind ≡ call.Corrupt) ⊎ (kind ≡ call.Full))
@@ -45,6 +33,7 @@ pub stops_named : (image : Image) (F L H O : Type 0) (e : OpenError) (kind : Sto
 stops_named image F L H O e kind is (inl why) = once_named F L H O e kind is why
 stops_named image F L H O opening.EmptyFile kind is (inr why) = elim is [ inl a ↦ rw a tt | inr b ↦ elim b [ inl c ↦ rw c tt | inr d ↦ rw d tt ] ]
 stops_named image F L H O opening.NoLog kind is (inr why) = elim is [ inl a ↦ rw a tt | inr b ↦ elim b [ inl c ↦ rw c tt | inr d ↦ rw d tt ] ]
+stops_named image F L H O opening.ForeignLog kind is (inr why) = elim is [ inl a ↦ rw a tt | inr b ↦ elim b [ inl c ↦ rw c tt | inr d ↦ rw d tt ] ]
 stops_named image F L H O opening.OutOfMemory kind is (inr why) = absurd why
 stops_named image F L H O opening.Full kind is (inr why) = absurd why
 stops_named image F L H O opening.Failed kind is (inr why) = absurd why
@@ -58,8 +47,10 @@ stops_named image F L H O opening.Damaged kind is (inr why) = absurd why
 pub refusal_told : (image : Image) (F L H O : Type 0) (e : OpenError) (kind : StoreError) → OneOf kind → Fails F L H O e ⊎ Refuses image ⊥ e → Refuses image ⊤ (by_fault kind e)
 refusal_told image F L H O opening.EmptyFile kind is (inl why) = absurd why
 refusal_told image F L H O opening.NoLog kind is (inl why) = absurd why
+refusal_told image F L H O opening.ForeignLog kind is (inl why) = absurd why
 refusal_told image F L H O opening.EmptyFile kind is (inr why) = elim is [ inl a ↦ rw a why | inr b ↦ elim b [ inl c ↦ rw c why | inr d ↦ rw d why ] ]
 refusal_told image F L H O opening.NoLog kind is (inr why) = elim is [ inl a ↦ rw a why | inr b ↦ elim b [ inl c ↦ rw c why | inr d ↦ rw d why ] ]
+refusal_told image F L H O opening.ForeignLog kind is (inr why) = elim is [ inl a ↦ rw a why | inr b ↦ elim b [ inl c ↦ rw c why | inr d ↦ rw d why ] ]
 refusal_told image F L H O opening.OutOfMemory kind is why = elim is [ inl a ↦ rw a tt | inr b ↦ elim b [ inl c ↦ rw c tt | inr d ↦ rw d tt ] ]
 refusal_told image F L H O opening.Full kind is why = elim is [ inl a ↦ rw a tt | inr b ↦ elim b [ inl c ↦ rw c tt | inr d ↦ rw d tt ] ]
 refusal_told image F L H O opening.Failed kind is why = elim is [ inl a ↦ rw a tt | inr b ↦ elim b [ inl c ↦ rw c tt | inr d ↦ rw d tt ] ]
@@ -73,6 +64,7 @@ refusal_told image F L H O opening.Damaged kind is why = elim is [ inl a ↦ rw 
 pub refusal_named : (e : OpenError) (kind : StoreError) → OneOf kind → IsTrue (is_refusal (by_fault kind e)) → IsTrue (is_refusal e)
 refusal_named opening.EmptyFile kind is h = refl
 refusal_named opening.NoLog kind is h = refl
+refusal_named opening.ForeignLog kind is h = refl
 refusal_named opening.OutOfMemory kind is h = elim is [ inl a ↦ rw a at h | inr b ↦ elim b [ inl c ↦ (let x = rw c at h in absurd (cc)) | inr d ↦ (let x = rw d at h in absurd (cc)) ] ]
 refusal_named opening.Full kind is h = elim is [ inl a ↦ rw a at h | inr b ↦ elim b [ inl c ↦ (let x = rw c at h in absurd (cc)) | inr d ↦ (let x = rw d at h in absurd (cc)) ] ]
 refusal_named opening.Failed kind is h = elim is [ inl a ↦ rw a at h | inr b ↦ elim b [ inl c ↦ (let x = rw c at h in absurd (cc)) | inr d ↦ (let x = rw d at h in absurd (cc)) ] ]

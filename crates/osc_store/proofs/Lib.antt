@@ -10,3 +10,4 @@ pub mod FileLemmas
 pub mod TakeLemmas
 mod WholeLemmas
 mod ReadLemmas
+mod LogLemmas

@@ -1,6 +1,6 @@
 -- What a database file holds alone.
-use Rattle.std.proofs.Common.{◌≡◌, ℕ, List, [], IsTrue, Result, Ok, Err, OnOk, OnErr, IfErr, Bool, false, ◌≢◌, ◌⊎◌, ne_eqb, inl, inr, refl, sym, subst, ap, ◌∙◌}
-use Rattle.std.proofs.Math.Logic.{∥∥₁_elim, ∥∥₁_map}
+use Rattle.std.proofs.Common.{◌≡◌, ℕ, List, [], IsTrue, Result, Ok, Err, OnOk, OnErr, IfErr, false, ◌≢◌, ◌⊎◌, ne_eqb, inl, inr, refl, sym, subst, ap, ◌∙◌}
+use Rattle.std.proofs.Math.Logic.{∥∥₁_map}
 use Rattle.sqlite_disk.specs.declared.Disk.{Ghosts}
 use Rattle.sqlite_wal.specs.Recovery.{Image}
 use Rattle.sqlite_wal.proofs.LogLemmas.{SeenMayStay}
@@ -17,7 +17,7 @@ use Rattle.sqlite_store.specs.declared.store.FileStore.{FileStore}
 use Rattle.osc_model.specs.Tree.{Tree}
 use Rattle.sqlite_trees.specs.Tree.{Trees}
 use Rattle.osc_store.specs.Keeping.{IsReady, KeepsList}
-use Rattle.osc_store.specs.{FindsTree, Holds, IsWhole, Keeps, ListsTable, MayHold, MayLeave, ReadsAs}
+use Rattle.osc_store.specs.{Holds, IsWhole, Keeps, ListsTable, MayHold, MayLeave, ReadsAs}
 
 -- where the log has no frame, the database file alone is found as the tree that is committed
 pub whole_alone : {D : Type 0} {g : Ghosts D} (it : FileStore D g) → SeenMayStay g → (tree : Tree) → IsClean (view it) → IsTrue (view it).is_open → IsTrue (view it).is_numbered

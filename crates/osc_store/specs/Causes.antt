@@ -81,10 +81,12 @@ is_of_content opening.Damaged = true
 is_of_content opening.Full = true
 is_of_content opening.EmptyFile = true
 is_of_content opening.NoLog = true
+is_of_content opening.ForeignLog = true
 is_of_content _ = false
 
 -- the files aren't taken for one store
 abbrev pub is_refusal : OpenError → Bool
 is_refusal opening.EmptyFile = true
 is_refusal opening.NoLog = true
+is_refusal opening.ForeignLog = true
 is_refusal _ = false

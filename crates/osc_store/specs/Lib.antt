@@ -6,7 +6,7 @@ pub mod Causes
 pub mod Loading
 pub mod Opening
 pub mod Belonging
-pub use Belonging.{BelongTogether, IsHollow, IsMark, LacksLog, Refuses, version_in}
+pub use Belonging.{BelongTogether, GivesVersion, IsForeignLog, IsHollow, IsLogged, IsMark, LacksLog, Refuses, SaysOther, version_in}
 pub use Causes.{Excuses, by_fault, of_open, of_probe}
 pub use Keeping.{AddsNone, Finds, HasTable, IsSame, Keeps, MayHold, MayLeave}
 pub use Loading.{IsForeign, Reads}

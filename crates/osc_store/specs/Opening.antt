@@ -27,7 +27,7 @@ use Rattle.sqlite_store.specs.declared.store.FileStore.{FileStore}
 use Rattle.sqlite_store.specs.declared.store.open.Unopened.{Unopened}
 use Rattle.osc_model.specs.Tree.{Tree}
 use Rattle.osc_store.specs.declared.error.OpenError.{OpenError}
-use Rattle.osc_store.specs.declared.error.OpenError.TheVariants.{OutOfMemory, Full, Failed, Busy, Journal, NoStore, OtherVersion, Damaged, EmptyFile, NoLog}
+use Rattle.osc_store.specs.declared.error.OpenError.TheVariants.{OutOfMemory, Full, Failed, Busy, Journal, NoStore, OtherVersion, Damaged, EmptyFile, NoLog, ForeignLog}
 use Rattle.osc_store.specs.declared.listing.Listed.{Listed}
 use Rattle.osc_store.specs.declared.listing.Listed.TheVariants as listed
 use Rattle.osc_store.specs.declared.left.Left.{Left}
@@ -99,9 +99,10 @@ Fails fault limit held other OtherVersion = other × (¬ held)
 Fails fault limit held other Damaged = ¬ held
 Fails fault limit held other EmptyFile = ⊥
 Fails fault limit held other NoLog = ⊥
+Fails fault limit held other ForeignLog = ⊥
 
 -- where `fault` says that the disk failed in this way, `limit` that the file met one of its format, `held` that the files are a store,
--- and `other` that they are one of another version; `Refuses` says of the last two what they tell
+-- and `other` that they are one of another version; `Refuses` says of the last three what they tell
 abbrev pub WhyNotOpened : (StoreError → Type 0) → Type 0 → Type 0 → Type 0 → OpenError → Type 0
 WhyNotOpened fault limit held other OutOfMemory = ⊤
 WhyNotOpened fault limit held other Full = fault call.Full ⊎ limit
@@ -113,6 +114,7 @@ WhyNotOpened fault limit held other OtherVersion = other × (¬ held)
 WhyNotOpened fault limit held other Damaged = fault call.Corrupt ⊎ (¬ held)
 WhyNotOpened fault limit held other EmptyFile = ⊤
 WhyNotOpened fault limit held other NoLog = ⊤
+WhyNotOpened fault limit held other ForeignLog = ⊤
 
 -- ---- what is left of the files
 

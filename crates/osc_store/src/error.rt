@@ -63,6 +63,9 @@ pub enum OpenError {
     /// The file says that a log belongs to it, and there is none.
     #[error("its log is missing")]
     NoLog,
+    /// The log is that of another file, or of another time of this one.
+    #[error("its log is that of another file")]
+    ForeignLog,
 }
 
 // The error of a store's call, as one of ours.

@@ -68,7 +68,7 @@ fn open_checked<D: Disk + Drop>(
     ensures read { IfErr result (λ e. e.0 ≡ OpenError.NoStore → IsOnlyRead files e.1) }
     ensures left_alone { IfErr result (λ e. IsCleanLeft e.1 → IsTrue (is_refusal e.0) → IsLeftAlone files e.1) }
 {
-    match check_pair(&mut files) {
+    match check_pair(alloc, &mut files) {
         Ok(()) => match open_over(alloc, files, seed) {
             Ok(opened) => Ok(opened),
             Err((error, left)) => Err((error, left)),

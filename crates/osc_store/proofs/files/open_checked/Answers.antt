@@ -1,6 +1,6 @@
 use Rattle.std.proofs.Common.{arith, inl, inr, sym, subst}
-use Rattle.osc_store.specs.{FindsTree, IsOtherVersion, IsStore, IsUnmade, Refuses, image_of}
-use Rattle.osc_store.proofs.BelongLemmas.{check_stops, no_refusal}
+use Rattle.osc_store.specs.{FindsTree, IsOtherVersion, IsStore, IsUnmade}
+use Rattle.osc_store.proofs.BelongLemmas.{no_refusal}
 use Rattle.osc_store.proofs.FindLemmas.{fails_wider, more_faults, same_image, surely}
 use Rattle.osc_store.proofs.FileLemmas.{both_read, leaves_read, only_read_then}
 use Rattle.osc_store.proofs.files.open_checked.Goals as goal
@@ -44,6 +44,9 @@ returns-in-Err-clause-stops g c clean =
     record {
       honest = both_read c.args.files new read.log read.db clean;
       counts = read.counts;
-      cause = check_stops _ _ _ _ _ c.in-Err.error (c.in-Err.ensures.cause clean);
+      cause = elim (c.in-Err.ensures.cause clean) [
+        | inl why ↦ inl (fails_wider _ _ _ _ _ _ _ _ c.in-Err.error (λ f. f) (λ l. l) (λ _. surely tt) (λ o. absurd o) why)
+        | inr why ↦ inr why
+      ];
       goes_on = λ tree found leaves. leaves_read c.args.files new read.log read.db tree leaves;
     }

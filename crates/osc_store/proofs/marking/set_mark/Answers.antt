@@ -1,7 +1,7 @@
 use Rattle.std.proofs.Common.{le_refl}
 use Rattle.std.proofs.lemmas.Result.{on_ok_weaker, IfErr-weaker as err_weaker}
 use Rattle.sqlite_store.specs.FileStore.{recovers, view}
-use Rattle.osc_store.proofs.CauseLemmas.{excused, on_ok_if}
+use Rattle.osc_store.proofs.CauseLemmas.{excused}
 use Rattle.osc_store.proofs.ViewLemmas.{clean_before}
 use Rattle.osc_store.proofs.WholeLemmas.{marked_keeps, marked_leaves, sound_mid, sums_only, unwritten}
 use Rattle.osc_store.proofs.marking.set_mark.Goals as goal

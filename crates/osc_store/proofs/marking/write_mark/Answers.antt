@@ -1,7 +1,4 @@
-use Rattle.std.proofs.Common.{arith, ap, ◌∙◌}
-use Rattle.std.proofs.lemmas.Result.{on_ok_weaker}
-use Rattle.sqlite_trees.specs.Objects.{catalog_tree, version_tree}
-use Rattle.osc_store.proofs.WholeLemmas.{either_schema, other_tree}
+use Rattle.osc_store.proofs.WholeLemmas.{either_schema}
 use Rattle.osc_store.proofs.marking.write_mark.Goals as goal
 
 pub returns-clause-schema : goal.returns-clause-schema

@@ -1,6 +1,6 @@
 use Rattle.std.proofs.Common.{refl}
 use Rattle.sqlite_wal.specs.Format.{be32}
-use Rattle.osc_store.proofs.belonging.number.Goals as goal
+use Rattle.osc_store.proofs.logged.number.Goals as goal
 
 pub returns : goal.returns
 unfolding be32
