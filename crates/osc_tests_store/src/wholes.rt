@@ -1,7 +1,7 @@
 //! A database file that holds the whole store, one that says that a log belongs to it, and what isn't taken for one store.
 use crate::changes::{CHANGES, is_after, path_of, resource_of};
 use crate::disks::{pair, start};
-use osc_store::{FileKeeper, Keeping, OpenError, open_files};
+use osc_store::{FileKeeper, Keeping, OpenError, open_files, whole_file};
 use sqlite_disk::{Files, Fuse, Memory};
 use std::alloc::Global;
 use std::test::Fail;
@@ -12,6 +12,9 @@ const NEVER: u64 = 1 << 40;
 const LOG_CALLS: u64 = 140;
 
 const DB_CALLS: u64 = 70;
+
+// The bits of a mark.
+const OWN: u32 = 0x0102_0304;
 
 // How many changes are kept.
 const MANY: usize = 3;
@@ -68,13 +71,24 @@ fn keep_some(
 
 // A first start and so many changes, over disks that freeze after so many calls.
 fn run(alloc: Global, log_calls: u64, db_calls: u64, many: usize) -> Result<Cut, Fail> {
+    run_by(alloc, OWN, log_calls, db_calls, many)
+}
+
+// The same, by a mark with these bits of its own.
+fn run_by(
+    alloc: Global,
+    own: u32,
+    log_calls: u64,
+    db_calls: u64,
+    many: usize,
+) -> Result<Cut, Fail> {
     let files = Files {
         log: Fuse::new(Memory::new(alloc), log_calls),
         db: Fuse::new(Memory::new(alloc), db_calls),
     };
     match open_files(alloc, files, 7) {
         Ok((store, _tree)) => {
-            let mut keeper = FileKeeper::new(alloc, store, 0x0102_0304);
+            let mut keeper = FileKeeper::new(alloc, store, own);
             let kept = keep_some(alloc, &mut keeper, many)?;
             cut_of(alloc, keeper.into_store().close(), kept)
         }
@@ -240,6 +254,64 @@ fn an_empty_file_beside_a_log_is_refused(rt: HostRuntime) -> Result<(), Fail> {
     match start(alloc, cut.log.get(..41).ok_or("a log")?, &[])? {
         Ok(tree) => assert!(&rt; is_after(alloc, &tree, 0)?),
         Err(error) => return Err(Fail::from(error)),
+    }
+    Ok(())
+}
+
+#[test]
+fn a_file_beside_another_files_log_is_refused(rt: HostRuntime) -> Result<(), Fail> {
+    let alloc = rt.alloc();
+    let whole = run(alloc, NEVER, NEVER, 0)?;
+    for many in 1..CHANGES.len() {
+        let one = run(alloc, NEVER, NEVER, many)?;
+        // the twelve bits that all marks have count for nothing
+        for other in [OWN + 1, OWN ^ (1 << 19)] {
+            let other = run_by(alloc, other, NEVER, NEVER, many)?;
+            assert!(&rt;
+                is_refused(alloc, &other.log, &one.db, OpenError::ForeignLog)?,
+                "{many}"
+            );
+            assert!(&rt;
+                is_refused(alloc, &one.log, &other.db, OpenError::ForeignLog)?,
+                "{many}"
+            );
+        }
+        let same = run_by(alloc, OWN ^ (1 << 20), NEVER, NEVER, many)?;
+        assert!(&rt; is_found(alloc, &same.log, &one.db, many)?, "{many}");
+        // nor does a log belong to a file that was whole before it
+        assert!(&rt;
+            is_refused(alloc, &one.log, &whole.db, OpenError::ForeignLog)?,
+            "{many}"
+        );
+    }
+    Ok(())
+}
+
+#[test]
+fn a_file_of_another_time_is_refused(rt: HostRuntime) -> Result<(), Fail> {
+    let alloc = rt.alloc();
+    // (the file is made whole before each second change)
+    let early = run(alloc, NEVER, NEVER, 1)?;
+    let late = run(alloc, NEVER, NEVER, 3)?;
+    assert!(&rt; is_refused(alloc, &late.log, &early.db, OpenError::ForeignLog)?);
+    assert!(&rt; is_refused(alloc, &early.log, &late.db, OpenError::ForeignLog)?);
+    Ok(())
+}
+
+#[test]
+fn resources_are_written_to_one_file(rt: HostRuntime) -> Result<(), Fail> {
+    let alloc = rt.alloc();
+    for many in 0..CHANGES.len() {
+        let cut = run(alloc, NEVER, NEVER, many)?;
+        let tree = match start(alloc, &cut.log, &cut.db)? {
+            Ok(tree) => tree,
+            Err(error) => return Err(Fail::from(error)),
+        };
+        let file = whole_file(alloc, &tree)?;
+        match start(alloc, &[], &file)? {
+            Ok(tree) => assert!(&rt; is_after(alloc, &tree, many)?, "{many}"),
+            Err(error) => return Err(Fail::from(error)),
+        }
     }
     Ok(())
 }
