@@ -532,6 +532,9 @@ fn refused(rt: &HostRuntime, file: &str, at: &str, error: OpenError) -> Ended
 fn refused_line(alloc: Global, file: &str, error: OpenError) -> Result<String, AllocError> {
     match error {
         OpenError::NoLog => Ok(format!(in alloc; "store {file}: its log {file}-wal is missing")?),
+        OpenError::ForeignLog => {
+            Ok(format!(in alloc; "store {file}: its log {file}-wal is that of another file")?)
+        }
         _ => Ok(format!(in alloc; "store {file}: {error}")?),
     }
 }
