@@ -13,6 +13,7 @@ use Rattle.osc_words.specs.NamedOptions.{refusal_text, unread_text, value_of}
 use Rattle.osc_words.specs.NodeWords.{AreNodeWords, SpellsLogForm}
 use Rattle.osc_words.specs.Options.{flag_rule, form_rule, option_rule, value_rule, word_rule}
 use Rattle.osc_words.specs.SimWords.{AreSimWords, SpellsForm}
+use Rattle.osc_words.specs.StoreWords.{AreStoreWords}
 use Rattle.osc_words.specs.TokenWords as token
 use Rattle.osc_words.specs.Values.{IsGiven, SpellsClient, SpellsTurns}
 use Rattle.osc_words.specs.declared.client_option.ClientOption.{ClientOption}
@@ -48,9 +49,9 @@ token_app = fold (λ app option. with_rule app (option_rule option)) (new_app (c
 abbrev pub key_app : App
 key_app = new_app (codes "key")
 
--- osc store FILE
+-- osc store [--dump] [--backup TO] FILE
 abbrev pub store_app : App
-store_app = with_rule (new_app (codes "store")) (word_rule (codes "file"))
+store_app = with_rule (with_rule (with_rule (new_app (codes "store")) (flag_rule (codes "dump"))) (value_rule (codes "backup") false)) (word_rule (codes "file"))
 
 -- osc NAME [--config FILE] [--check] [--turns N] [--log[=FORM]]
 abbrev pub node_app : Text → App
@@ -87,7 +88,7 @@ AreWords None words = ⊥
 AreWords (Some entered) (Sim words) = (entered.0 ≡ codes "sim") × AreSimWords entered.1 words
 AreWords (Some entered) (Token asked) = (entered.0 ≡ codes "token") × token.AreTokenWords entered.1 asked
 AreWords (Some entered) Key = entered.0 ≡ codes "key"
-AreWords (Some entered) (Store file) = (entered.0 ≡ codes "store") × (value_of option.StoreFile entered.1 ≡ Some file)
+AreWords (Some entered) (Store words) = (entered.0 ≡ codes "store") × AreStoreWords entered.1 words
 AreWords (Some entered) (Server words) = (entered.0 ≡ codes "server") × AreNodeWords option.ServerTurns entered.1 words
 AreWords (Some entered) (Proxy words) = (entered.0 ≡ codes "proxy") × AreNodeWords option.ProxyTurns entered.1 words
 AreWords (Some entered) (Client words) = (entered.0 ≡ codes "client") × client.AreClientWords entered.1 words
@@ -105,6 +106,7 @@ HasNothing (Some entered) option.NodeConfig = ⊥
 HasNothing (Some entered) option.NodeLog =
     ((entered.0 ≡ codes "server") ⊎ (entered.0 ≡ codes "proxy")) × ((form : Option LogForm) → ¬ IsGiven SpellsLogForm (value_of option.NodeLog entered.1) form)
 HasNothing (Some entered) option.StoreFile = (entered.0 ≡ codes "store") × (value_of option.StoreFile entered.1 ≡ None)
+HasNothing (Some entered) option.StoreBackup = ⊥
 HasNothing (Some entered) (option.Client refused) = (entered.0 ≡ codes "client") × client.SaysNothing entered.1 refused
 HasNothing (Some entered) option.LabTurns = (entered.0 ≡ codes "lab") × ((turns : ℕ) → ¬ IsGiven SpellsNumber (value_of option.LabTurns entered.1) (Some turns))
 HasNothing (Some entered) (option.Token refused) = (entered.0 ≡ codes "token") × token.SaysNothing entered.1 refused

@@ -10,6 +10,7 @@ pub mod ClientWords
 pub mod NamedOptions
 pub mod NodeWords
 pub mod SimWords
+pub mod StoreWords
 pub mod Command
 pub mod Inner
 pub use Choices.{AreSome, IsNotOne, command_of}
@@ -19,6 +20,7 @@ pub use Filled.{with_secret}
 pub use NamedOptions.{value_of}
 pub use Options.{is_set, name_of, option_rule, value_rule}
 pub use Sources.{Holds, IsSource, file_of, file_option_of, given_of}
+pub use StoreWords.{AreStoreWords}
 pub use Times.{IsExpiry, IsPatience}
 pub use TokenWords.{AreClaims, AreTokenWords, Says, SaysClaims}
 pub use Values.{IsGiven, SpellsTurns}

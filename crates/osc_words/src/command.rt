@@ -17,6 +17,7 @@ use crate::named_option::NamedOption;
 use crate::node_words::node_words;
 use crate::sim_words::SimWords;
 use crate::source::FileName;
+use crate::store_words::StoreWords;
 use crate::token_option::TokenOption;
 use crate::words::{Words, WordsError};
 use crate::{given, token_words};
@@ -29,6 +30,8 @@ const TOKEN_EXAMPLE: &str =
 const LINES_HELP: &str = "Prints the number of the script's line before each line that it prints";
 
 const CHECK_HELP: &str = "Reads the settings, says what they are but for what is secret, and ends";
+
+const DUMP_HELP: &str = "Prints the resources as settings name them, in place of their list";
 
 const RAW_HELP: &str = "Prints the bytes of the answer's payload, and nothing else";
 
@@ -98,7 +101,11 @@ fn store_asked(alloc: Global, options: &ArgMatches<'_>) -> Result<Words, WordsEr
     ensures { IsReadFrom (Some (codes "store", rows_of (found_of options.now))) result }
 {
     let name = given::required_text(options, NamedOption::StoreFile)?;
-    Ok(Words::Store(FileName::new(alloc, name)?))
+    Ok(Words::Store(StoreWords {
+        file: FileName::new(alloc, name)?,
+        dump: given::is_set(options, "dump"),
+        backup: given::file(alloc, options, NamedOption::StoreBackup)?,
+    }))
 }
 
 // What `osc server` asks for.
@@ -233,14 +240,16 @@ fn key_command<'a>(alloc: Global) -> Command<'a>
         .after_help("Example: osc key > KEY-FILE")
 }
 
-// The subcommand that lists a store.
+// The subcommand that lists a store, or copies it.
 fn store_command<'a>(alloc: Global) -> Result<Command<'a>, AllocError>
     ensures app { IfOk result (λ command. app_of command ≡ spec.store_app) }
     ensures local { IfOk result (λ command. (out-Command command).has_globals ≡ false) }
 {
     let command = Command::new(alloc, "store")
         .about("Lists the resources that a server's store holds")
-        .after_help("Example: osc store STORE");
+        .after_help("Example: osc store --backup STORE.backup STORE");
+    let command = with_flag(alloc, command, "dump", DUMP_HELP)?;
+    let command = with_option(alloc, command, NamedOption::StoreBackup, false)?;
     let option = NamedOption::StoreFile;
     with_word(
         alloc,

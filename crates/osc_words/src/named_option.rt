@@ -23,6 +23,8 @@ pub enum NamedOption {
     NodeConfig,
     /// The word of `osc store`: the file that the store is in.
     StoreFile,
+    /// `--backup` of `osc store`: the new file that the same resources are written to.
+    StoreBackup,
     /// `--log` of `osc server` and `osc proxy`: how it tells of each turn.
     NodeLog,
     /// An option of `osc client`.
@@ -46,6 +48,7 @@ impl NamedOption {
             NamedOption::NodeConfig => "config",
             NamedOption::NodeLog => "log",
             NamedOption::StoreFile => "file",
+            NamedOption::StoreBackup => "backup",
             NamedOption::Client(option) => option.name(),
             NamedOption::Token(option) => option.name(),
         }
@@ -61,7 +64,7 @@ impl NamedOption {
             }
             NamedOption::SimOnly => "a client, c1 to c9",
             NamedOption::SimDiagram => "text or svg",
-            NamedOption::SimPcap => "a file",
+            NamedOption::SimPcap | NamedOption::StoreBackup => "a file",
             NamedOption::NodeConfig => "a file of settings",
             NamedOption::NodeLog => "text or json",
             NamedOption::StoreFile => "a file of a store",
@@ -91,6 +94,7 @@ impl NamedOption {
             NamedOption::SimOnly => "CLIENT",
             NamedOption::SimDiagram | NamedOption::NodeLog => "FORM",
             NamedOption::SimPcap | NamedOption::NodeConfig | NamedOption::StoreFile => "FILE",
+            NamedOption::StoreBackup => "TO",
             NamedOption::Client(option) => option.value_name(),
             NamedOption::Token(option) => option.value_name(),
         }
@@ -114,6 +118,7 @@ impl NamedOption {
             NamedOption::NodeLog =>
                 "Tells of each request that is served or refused, on the standard error: as text, or as json",
             NamedOption::StoreFile => "The file that a server's settings name as its store",
+            NamedOption::StoreBackup => "A new file that alone is a store of the same resources",
             NamedOption::Client(option) => option.help(),
             NamedOption::Token(option) => option.help(),
         }

@@ -9,7 +9,7 @@ use crate::client_words::ClientWords;
 use crate::named_option::NamedOption;
 use crate::node_words::NodeWords;
 use crate::sim_words::SimWords;
-use crate::source::FileName;
+use crate::store_words::StoreWords;
 use crate::token_words::TokenAsked;
 use clap::error::ErrorKind;
 use std::alloc::{AllocError, Global};
@@ -23,8 +23,8 @@ pub enum Words {
     Token(TokenAsked),
     /// `osc key`: print a key, drawn at random.
     Key,
-    /// `osc store FILE`: list what the store in this file holds.
-    Store(FileName),
+    /// `osc store [--dump] [--backup TO] FILE`: list what the store in this file holds.
+    Store(StoreWords),
     /// `osc server [--config FILE] [--check] [--turns N] [--log[=FORM]]`: run a server.
     Server(NodeWords),
     /// `osc proxy [--config FILE] [--check] [--turns N] [--log[=FORM]]`: run a forward proxy.
