@@ -10,8 +10,8 @@ use osc_programs::{
 };
 use osc_script::form_of;
 use osc_words::{
-    ClientWords, FileName, LogForm, NodeWords, SimWords, Source, TokenAsked, TokenWords, Words,
-    WordsError, fault_line, read_words,
+    ClientWords, FileName, LogForm, NodeWords, SimWords, Source, StoreWords, TokenAsked,
+    TokenWords, Words, WordsError, fault_line, read_words,
 };
 use std::alloc::AllocError;
 use std::fs::File;
@@ -48,7 +48,7 @@ fn follow(rt: &HostRuntime, words: Words) -> Ended {
         Words::Sim(words) => run_sim(rt, &words),
         Words::Token(asked) => token(rt, asked),
         Words::Key => key(rt),
-        Words::Store(file) => tell(rt, store(rt, &file)),
+        Words::Store(words) => tell(rt, store(rt, &words)),
         Words::Server(words) => tell(rt, run_server(rt, &words)),
         Words::Proxy(words) => tell(rt, run_proxy(rt, &words)),
         Words::Client(words) => tell(rt, run_client(rt, words)),
@@ -245,10 +245,10 @@ fn log_form(form: LogForm) -> Form {
     }
 }
 
-/// What the store in this file holds goes to the standard output.
-fn store(rt: &HostRuntime, file: &FileName) -> Ended {
+/// What a store holds goes to the standard output, and to a new file where one is named.
+fn store(rt: &HostRuntime, words: &StoreWords) -> Ended {
     let mut output = Noted::new(io::writer(rt));
-    let ended = list_store(rt.alloc(), rt, file.as_str(), &mut output);
+    let ended = list_store(rt.alloc(), rt, words, &mut output);
     tell_streams(rt, ended, STANDARD_INPUT, None, output.fault())
 }
 

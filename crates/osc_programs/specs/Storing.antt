@@ -1,7 +1,8 @@
 -- The store of a server: what it begins with, and what of it is listed.
-use Rattle.std.specs.Prelude.{◌≡◌, ℕ, List, [], Option, Some, None, ⊤}
+use Rattle.std.specs.Prelude.{◌≡◌, ◌==◌, ◌&&◌, ◌||◌, ℕ, Bool, List, [], ◌∷◌, ◌++◌, Option, Some, None, ⊤, if◌then◌else◌, codes, decimal, drop, nat_lt}
 use Rattle.std.specs.List.{flat_map}
 use Rattle.std.specs.FinMap as map
+use Rattle.hex.specs.Hex.{encode_lower}
 use Rattle.sqlite_trees.specs.Tree.{Trees}
 use Rattle.sqlite_trees.specs.View.{View, IsClean}
 use Rattle.sqlite_wal.specs.Recovery.{Image}
@@ -10,6 +11,7 @@ use Rattle.osc_model.specs.declared.resource.Resource.{Resource}
 use Rattle.osc_settings.specs.declared.resource.ResourceSetting.{ResourceSetting}
 use Rattle.osc_settings.specs.declared.server.ServerSettings.{ServerSettings}
 use Rattle.osc_server.specs.State.{State as Server}
+use Rattle.osc_simulation.specs.{line}
 use Rattle.osc_store.specs.{FindsTree, Keeps}
 use Rattle.osc_programs.specs.Checked.{resource_line}
 use Rattle.osc_programs.specs.Serving.{tree_of}
@@ -50,3 +52,44 @@ stored_line entry = resource_line (record { path = entry.0; format = entry.1.for
 -- a line for each resource, in the order of the bytes of their paths
 abbrev pub store_lines : Tree → List ℕ
 store_lines tree = flat_map stored_line (map.entries tree)
+
+-- ---- `osc store --dump`
+
+-- no byte of a basic string of TOML: a quotation mark, a backslash, or a control character
+abbrev pub is_escaped : ℕ → Bool
+is_escaped byte = byte == 34 || byte == 92 || byte == 127 || nat_lt byte 32
+
+-- what stands for a byte in such a string: the byte, or its number in hexadecimal
+abbrev pub quoted_byte : ℕ → List ℕ
+quoted_byte byte = if is_escaped byte then codes "\\u00" ++ encode_lower (byte ∷ []) else byte ∷ []
+
+-- path = "PATH"
+abbrev pub path_line : List ℕ → List ℕ
+path_line path = line (codes "path = \"" ++ flat_map quoted_byte path ++ codes "\"")
+
+-- format = N, where it has one
+abbrev pub format_line : Option ℕ → List ℕ
+format_line None = []
+format_line (Some format) = line (codes "format = " ++ decimal format)
+
+-- hex = "PAYLOAD"
+abbrev pub payload_line : List ℕ → List ℕ
+payload_line payload = line (codes "hex = \"" ++ encode_lower payload ++ codes "\"")
+
+-- an empty line, and the resource as settings name it
+abbrev pub dump_table : List ℕ × Resource → List ℕ
+dump_table entry = line [] ++ line (codes "[[resource]]") ++ path_line entry.0 ++ format_line entry.1.format ++ payload_line entry.1.payload
+
+-- a table for each resource, in the order of the bytes of their paths; nothing is before the first
+abbrev pub dump_lines : Tree → List ℕ
+dump_lines tree = drop 1 (flat_map dump_table (map.entries tree))
+
+-- what `osc store` prints, with `--dump` or without
+abbrev pub printed : Bool → Tree → List ℕ
+printed dump tree = if dump then dump_lines tree else store_lines tree
+
+-- ---- `osc store --backup TO`
+
+-- bytes of a file that alone is found as these resources
+abbrev pub IsSaved : Tree → Type 0
+IsSaved tree = (bytes : List ℕ) × FindsTree (record { log = []; db = bytes }) tree

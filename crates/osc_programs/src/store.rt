@@ -1,7 +1,7 @@
 //! The store of a server: opened, made where there is none yet, and listed.
 ghost use Rattle.std.specs.FinMap as map;
 ghost use Rattle.std.specs.Io.KnownBytes.{Appends};
-ghost use Rattle.std.specs.Prelude.{◌≡◌, ◌≤◌, ◌++◌, [], IfErr, IfOk, List, OnOk, fold, ℕ};
+ghost use Rattle.std.specs.Prelude.{◌≡◌, ◌≤◌, ◌++◌, [], IfErr, IfOk, IfSome, List, OnOk, fold, ℕ};
 ghost use Rattle.std.specs.List.{flat_map};
 ghost use Rattle.sqlite_store.specs.FileStore.{recovers, view};
 ghost use Rattle.sqlite_trees.specs.View.{IsClean, doubt};
@@ -17,9 +17,11 @@ ghost use Rattle.osc_programs.specs.Storing as spec;
 use crate::checked::resource_text;
 use crate::checking::said;
 use crate::copies::{Uncopied, copy_files};
+use crate::dumping::dump_text;
 use crate::ended::{Ended, ended_by_io};
 use crate::revoking::KeepsStart;
 use crate::running::add_resource;
+use crate::saving::save_tree;
 use libc::clock_gettime;
 use libc::types::timespec;
 use osc_ccm::Suite;
@@ -33,6 +35,7 @@ use osc_store::{
     FileKeeper, KeepError, Keeper, Keeping, OpenError, Start, Unknown, Wary, draw_mark, read_store,
 };
 use osc_tree::Tree;
+use osc_words::{FileName, StoreWords};
 use sqlite_std_file::FileFrom;
 use sqlite_store::FileStore;
 use std::alloc::{AllocError, Global};
@@ -67,6 +70,15 @@ pub trait Stores {
     /// The resources of the store in this file, where there is one; it is only read. A line on the standard error tells why it isn't read.
     fn find_store(&self, file: &str) -> Result<Tree, Ended>
         ensures found { IfOk result (held self.now file.now) }
+        ensures ends { IfErr result ends.NotOpened };
+
+    // The file of this name was written: it alone is found as these resources.
+    ghost saves: { Self → List ℕ → AnyTree → Type 0 };
+
+    /// Writes these resources to a new file of this name, which alone is a store of them. It is there whole or not at all, and nothing that is there
+    /// is written over. A line on the standard error tells why none is written.
+    fn save_store(&self, to: &str, tree: &Tree) -> Result<(), Ended>
+        ensures saved { OnOk result (saves self.now to.now tree.now) }
         ensures ends { IfErr result ends.NotOpened };
 }
 
@@ -196,6 +208,12 @@ impl Stores for HostRuntime {
     fn find_store(&self, file: &str) -> Result<Tree, Ended> {
         read_tree(self, file)
     }
+
+    ghost saves = { λ _ _ tree. spec.IsSaved tree };
+
+    fn save_store(&self, to: &str, tree: &Tree) -> Result<(), Ended> {
+        save_tree(self, to, tree)
+    }
 }
 
 // The resources that copies of the files hold, which are only read.
@@ -214,31 +232,56 @@ fn read_tree(rt: &HostRuntime, file: &str) -> Result<Tree, Ended>
     }
 }
 
-/// Writes a line for each resource that the store in this file holds: `resource PATH FORMAT N bytes`, in the order of the bytes of their paths.
-/// A line on the standard error tells why it isn't opened.
+/// Writes a line for each resource that the store in the file of these words holds: `resource PATH FORMAT N bytes`, in the order of the bytes of
+/// their paths; or each as settings name it. The same resources are written to a new file first, if one is named. A line on the standard error
+/// tells why the store isn't read, or the new file not written.
 pub fn list_store<R: Stores, W: Write>(
     alloc: Global,
     runtime: &R,
-    file: &str,
+    words: &StoreWords,
     writer: &mut W,
 ) -> Ended
-    ensures done { result ≡ Ended.Done → (tree : AnyTree) × R.held runtime.now file.now tree
-        × Appends (W.contents writer.old) (W.contents writer.new) (spec.store_lines tree) }
+    ensures done { result ≡ Ended.Done → (tree : AnyTree) × R.held runtime.now words.now.file tree
+        × IfSome words.now.backup (λ to. R.saves runtime.now to tree)
+        × Appends (W.contents writer.old) (W.contents writer.new) (spec.printed words.now.dump tree) }
     ensures ends { ends.EndsStore result }
 {
-    match runtime.find_store(file) {
-        Ok(tree) => list_tree(alloc, &tree, writer),
+    match runtime.find_store(words.file.as_str()) {
+        Ok(tree) => match back_up(runtime, &words.backup, &tree) {
+            Ok(()) => print_tree(alloc, &tree, words.dump, writer),
+            Err(ended) => ended,
+        },
         Err(ended) => ended,
     }
 }
 
-fn list_tree<W: Write>(alloc: Global, tree: &Tree, writer: &mut W) -> Ended
-    ensures done { result ≡ Ended.Done → Appends (W.contents writer.old) (W.contents writer.new) (spec.store_lines tree.now) }
+fn back_up<R: Stores>(runtime: &R, to: &Option<FileName>, tree: &Tree) -> Result<(), Ended>
+    ensures saved { OnOk result (IfSome to.now (λ to. R.saves runtime.now to tree.now)) }
+    ensures ends { IfErr result ends.NotOpened }
+{
+    match to {
+        Some(to) => runtime.save_store(to.as_str(), tree),
+        None => Ok(()),
+    }
+}
+
+fn print_tree<W: Write>(alloc: Global, tree: &Tree, dump: bool, writer: &mut W) -> Ended
+    ensures done { result ≡ Ended.Done → Appends (W.contents writer.old) (W.contents writer.new) (spec.printed dump tree.now) }
     ensures ends { ends.EndsTurns result }
 {
-    match tree_text(alloc, tree) {
+    match printed(alloc, tree, dump) {
         Ok(text) => said(&text, writer),
         Err(_) => Ended::OutOfMemory,
+    }
+}
+
+fn printed(alloc: Global, tree: &Tree, dump: bool) -> Result<Vec<u8>, AllocError>
+    ensures { IfOk result (λ text. text.items ≡ spec.printed dump tree.now) }
+{
+    if dump {
+        dump_text(alloc, tree)
+    } else {
+        tree_text(alloc, tree)
     }
 }
 
@@ -482,7 +525,7 @@ fn put_in_place(rt: &HostRuntime, file: &str, new: &NewFiles) -> io::Result<()> 
     sync_folder(rt, file)
 }
 
-fn sync_folder(rt: &HostRuntime, file: &str) -> io::Result<()> {
+pub(crate) fn sync_folder(rt: &HostRuntime, file: &str) -> io::Result<()> {
     let mut folder = fs::canonicalize(rt, file)?;
     folder.pop();
     File::open(rt, folder.as_str())?.sync_all()
@@ -511,8 +554,8 @@ pub(crate) fn tell_unkept<R: Eprint>(alloc: Global, runtime: &R, file: &str, end
     }
 }
 
-// The store at this path isn't opened, and a line tells why.
-fn refused(rt: &HostRuntime, file: &str, at: &str, error: OpenError) -> Ended
+/// The store at this path isn't opened, and a line tells why.
+pub(crate) fn refused(rt: &HostRuntime, file: &str, at: &str, error: OpenError) -> Ended
     ensures ends { ends.NotOpened result }
 {
     if error == OpenError::OutOfMemory {
@@ -539,7 +582,7 @@ fn refused_line(alloc: Global, file: &str, error: OpenError) -> Result<String, A
     }
 }
 
-fn refused_by_io(rt: &HostRuntime, file: &str, error: &io::Error) -> Ended
+pub(crate) fn refused_by_io(rt: &HostRuntime, file: &str, error: &io::Error) -> Ended
     ensures ends { ends.NotOpened result }
 {
     match ended_by_io(error) {

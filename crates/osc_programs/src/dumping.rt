@@ -1,0 +1,109 @@
+//! The resources of a store as settings name them: TOML 1.0.0, of which each line ends in a line feed.
+ghost use Rattle.std.specs.FinMap as map;
+ghost use Rattle.std.specs.Prelude.{◌≡◌, ◌++◌, IfOk, OnOk, drop, string_bytes};
+ghost use Rattle.std.specs.List.{flat_map};
+ghost use Rattle.osc_programs.specs.Storing as spec;
+
+use osc_model::{Bytes, Path, Resource};
+use osc_tree::Tree;
+use std::alloc::{AllocError, Global};
+
+/// A table `[[resource]]` for each resource, in the order of the bytes of their paths, with an empty line between two. Settings read each as the
+/// same resource.
+pub(crate) fn dump_text(alloc: Global, tree: &Tree) -> Result<Vec<u8>, AllocError>
+    ensures { IfOk result (λ text. text.items ≡ spec.dump_lines tree.now) }
+{
+    let text = tables(alloc, tree)?;
+    Vec::from_slice(alloc, without_first(&text))
+}
+
+fn without_first(text: &[u8]) -> &[u8]
+    ensures { result.now ≡ drop 1 text.now }
+{
+    match text.split_first() {
+        Some((_first, rest)) => rest,
+        None => text,
+    }
+}
+
+// The tables, each after an empty line.
+fn tables(alloc: Global, tree: &Tree) -> Result<Vec<u8>, AllocError>
+    ensures { IfOk result (λ text. text.items ≡ flat_map spec.dump_table (map.entries tree.now)) }
+{
+    let mut text = Vec::new(alloc);
+    for (path, resource) in tree.iter() {
+        text.extend_from_slice(&table(alloc, path, resource)?)?;
+    }
+    Ok(text)
+}
+
+fn table(alloc: Global, path: &Path, resource: &Resource) -> Result<Vec<u8>, AllocError>
+    ensures { IfOk result (λ text. text.items ≡ spec.dump_table (path.now, resource.now)) }
+{
+    let path = path_line(alloc, path.text())?;
+    let format = format_line(alloc, resource.format)?;
+    let payload = payload_line(alloc, &resource.payload)?;
+    let mut text = Vec::from_slice(alloc, b"\n[[resource]]\n")?;
+    text.extend_from_slice(&path)?;
+    text.extend_from_slice(format.as_bytes())?;
+    text.extend_from_slice(&payload)?;
+    Ok(text)
+}
+
+fn path_line(alloc: Global, path: &[u8]) -> Result<Vec<u8>, AllocError>
+    ensures { IfOk result (λ text. text.items ≡ spec.path_line path.now) }
+{
+    let quoted = quoted(alloc, path)?;
+    let mut text = Vec::from_slice(alloc, b"path = \"")?;
+    text.extend_from_slice(&quoted)?;
+    text.extend_from_slice(b"\"\n")?;
+    Ok(text)
+}
+
+fn quoted(alloc: Global, path: &[u8]) -> Result<Vec<u8>, AllocError>
+    ensures { IfOk result (λ text. text.items ≡ flat_map spec.quoted_byte path.now) }
+{
+    let mut text = Vec::new(alloc);
+    for byte in path {
+        add_quoted(alloc, &mut text, *byte)?;
+    }
+    Ok(text)
+}
+
+fn add_quoted(alloc: Global, text: &mut Vec<u8>, byte: u8) -> Result<(), AllocError>
+    ensures { OnOk result (text.new.items ≡ text.old.items ++ spec.quoted_byte byte) }
+{
+    if is_escaped(byte) {
+        let number = hex::encode(alloc, [byte].as_slice())?;
+        text.extend_from_slice(b"\\u00")?;
+        text.extend_from_slice(number.as_bytes())
+    } else {
+        Ok(text.push(byte)?)
+    }
+}
+
+// Whether it can't stand for itself in a basic string.
+fn is_escaped(byte: u8) -> bool
+    ensures { result ≡ spec.is_escaped byte }
+{
+    byte == b'"' || byte == b'\\' || byte == 127 || byte < 32
+}
+
+fn format_line(alloc: Global, format: Option<u16>) -> Result<String, AllocError>
+    ensures { IfOk result (λ text. string_bytes text ≡ spec.format_line format) }
+{
+    match format {
+        Some(format) => format!(in alloc; "format = {format}\n"),
+        None => Ok(String::new(alloc)),
+    }
+}
+
+fn payload_line(alloc: Global, payload: &Bytes) -> Result<Vec<u8>, AllocError>
+    ensures { IfOk result (λ text. text.items ≡ spec.payload_line payload.now) }
+{
+    let digits = hex::encode(alloc, payload.as_slice())?;
+    let mut text = Vec::from_slice(alloc, b"hex = \"")?;
+    text.extend_from_slice(digits.as_bytes())?;
+    text.extend_from_slice(b"\"\n")?;
+    Ok(text)
+}
