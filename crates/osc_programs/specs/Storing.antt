@@ -77,7 +77,7 @@ abbrev pub payload_line : List ℕ → List ℕ
 payload_line payload = line (codes "hex = \"" ++ encode_lower payload ++ codes "\"")
 
 -- an empty line, and the resource as settings name it
-abbrev pub dump_table : List ℕ × Resource → List ℕ
+unfoldable pub dump_table : List ℕ × Resource → List ℕ
 dump_table entry = line [] ++ line (codes "[[resource]]") ++ path_line entry.0 ++ format_line entry.1.format ++ payload_line entry.1.payload
 
 -- a table for each resource, in the order of the bytes of their paths; nothing is before the first

@@ -37,6 +37,7 @@ fn tables(alloc: Global, tree: &Tree) -> Result<Vec<u8>, AllocError>
     Ok(text)
 }
 
+#[tactic(auto, unfolding(crate::specs::Storing::dump_table))]
 fn table(alloc: Global, path: &Path, resource: &Resource) -> Result<Vec<u8>, AllocError>
     ensures { IfOk result (λ text. text.items ≡ spec.dump_table (path.now, resource.now)) }
 {

@@ -19,6 +19,8 @@ mod scripts;
 #[cfg(test)]
 mod settings;
 #[cfg(test)]
+mod stores;
+#[cfg(test)]
 mod sweeps;
 #[cfg(test)]
 mod token_files;
