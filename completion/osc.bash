@@ -7,7 +7,7 @@ declare -gA _osc_words=(
     ["sim"]="--bytes --lines --only --diagram --pcap --help -h"
     ["token"]="--key --key-file --aud --id --secret --secret-file --scope --salt --context --alg --exp --for --nbf --iv --help -h"
     ["key"]="--help -h"
-    ["store"]="--help -h"
+    ["store"]="--dump --backup --help -h"
     ["server"]="--config --check --turns --log --help -h"
     ["proxy"]="--config --check --turns --log --help -h"
     ["client"]="--turns --timeout --method --path --payload --text --payload-file --format --config --raw --check --help -h"
@@ -34,6 +34,7 @@ declare -gA _osc_values=(
     ["token --for"]=TIME
     ["token --nbf"]=N
     ["token --iv"]=HEX
+    ["store --backup"]=TO
     ["store"]=FILE
     ["server --config"]=FILE
     ["server --turns"]=N
@@ -85,7 +86,7 @@ _osc() {
     'server --log' | 'proxy --log') _osc_offer "text json $(_osc_left "${_osc_words["$command"]}")" ;;
     *)
         case ${_osc_values["$command $before"]-} in
-        FILE) _osc_files ;;
+        FILE | TO) _osc_files ;;
         '')
             if [ "${_osc_values["$command"]-}" = FILE ] && [[ $last != -* ]]; then
                 _osc_files
