@@ -26,10 +26,19 @@ pub trait KeepsStart: KeepsSteps<Suite, Server> {
     fn keep_start(&mut self, path: &Path, resource: Option<&Resource>) -> Result<(), KeepError>
         ensures kept { (before after : AnyServer) → after.tree ≡ changed before.tree path.now (option_copied resource.entry)
             → Self.keeps self.old before → OnOk result (Self.keeps self.new after) };
+
+    /// Puts all that was kept where it is kept alone, after the last step.
+    fn keep_end(&mut self) -> Result<(), KeepError>
+        ensures kept { (server : AnyServer) → Self.keeps self.old server → OnOk result (Self.keeps self.new server) }
+        ensures crash { (server : AnyServer) → Self.keeps self.old server → Self.may_hold self.new server server };
 }
 
 impl KeepsStart for Forgetful {
     fn keep_start(&mut self, _path: &Path, _resource: Option<&Resource>) -> Result<(), KeepError> {
+        Ok(())
+    }
+
+    fn keep_end(&mut self) -> Result<(), KeepError> {
         Ok(())
     }
 }

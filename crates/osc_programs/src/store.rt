@@ -181,6 +181,10 @@ impl KeepsStart for StoreFile {
         self.changed = Some(seconds());
         self.keeper.keep(path, resource)
     }
+
+    fn keep_end(&mut self) -> Result<(), KeepError> {
+        self.make_whole()
+    }
 }
 
 /// The stores in files of this system. Nothing is supposed of what they hold.

@@ -14,6 +14,7 @@ ghost use Rattle.osc_programs.specs.Turning as turning;
 use crate::ended::Ended;
 use crate::holding::Holding;
 use crate::kept::take_kept_turns;
+use crate::revoking::KeepsStart;
 use crate::running::{opened, server_with, tell_address, tell_end};
 use crate::supply::supply_of;
 use crate::udp::{SocketPort, Sockets};
@@ -30,12 +31,8 @@ use std::alloc::Global;
 use std::io::Eprint;
 use std::time::Clock;
 
-/// Runs a server with these settings and the resources of a store, of which this keeps the changes.
-pub(crate) fn serve_stored<
-    R: Clock + Eprint + Seeds + Sockets,
-    K: KeepsSteps<Suite, Server> + Drop,
-    L: Log,
->(
+/// Runs a server with these settings and the resources of a store, of which this keeps the changes, and after its turns the whole.
+pub(crate) fn serve_stored<R: Clock + Eprint + Seeds + Sockets, K: KeepsStart + Drop, L: Log>(
     alloc: Global,
     runtime: &R,
     settings: ServerSettings,
@@ -54,9 +51,25 @@ pub(crate) fn serve_stored<
     match server_with(alloc, settings, tree) {
         Ok(node) => {
             let mut kept = KeptNode { node, keeper };
-            run_kept(alloc, runtime, bind, &mut kept, log, turns)
+            let ended = run_kept(alloc, runtime, bind, &mut kept, log, turns);
+            kept_whole(&mut kept.keeper, ended)
         }
         Err(_) => Ended::OutOfMemory,
+    }
+}
+
+// Where all turns were taken, what was kept is put where it is kept alone.
+fn kept_whole<K: KeepsStart>(keeper: &mut K, ended: Ended) -> Ended
+    ensures done { result ≡ Ended.Done → ended ≡ Ended.Done }
+    ensures kept { (server : AnyServer) → result ≡ Ended.Done → K.keeps keeper.old server → K.keeps keeper.new server }
+    ensures ends { ends.EndsKept ended → ends.EndsKept result }
+{
+    match ended {
+        Ended::Done => match keeper.keep_end() {
+            Ok(()) => Ended::Done,
+            Err(error) => Ended::NotKept(error),
+        },
+        other => other,
     }
 }
 
