@@ -4,6 +4,7 @@ pub mod Talking
 pub mod Taken
 pub mod Stored
 pub mod OpenPaths
+pub mod PathTexts
 pub mod Printing
 pub mod PayloadFiles
 pub mod FirstTree

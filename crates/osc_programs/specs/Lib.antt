@@ -24,7 +24,7 @@ pub use Holding.{contexts_of, proxy_held, server_held, taken_below}
 pub use PayloadFile.{IsWithPayload, with_payload}
 pub use Revoking.{AreRevoked, KeepsTree, with_place, with_revoked, with_revoked_id}
 pub use Serving.{target_of, tree_of, with_resource}
-pub use Storing.{BeginsBy, BeginsWith, IsKept, IsOpened, IsRead, IsSaved, SomeKeeps, dump_lines, dump_table, printed, quoted_byte, store_lines, stored_line}
+pub use Storing.{BeginsBy, BeginsWith, IsKept, IsOpened, IsRead, IsSaved, SomeKeeps, dump_lines, dump_table, printed, quoted_char, store_lines, stored_line}
 pub use System.{RunsOn}
 pub use Turning.{Running, Runs, Shown, TakesTurn, Turns, and_then}
 pub use Unread.{IsLongText, IsUnreadText, IsWhy, TellsFault, TellsLong, TellsWhy, long_words, unread_words}

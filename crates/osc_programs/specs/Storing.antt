@@ -1,6 +1,9 @@
 -- The store of a server: what it begins with, and what of it is listed.
-use Rattle.std.specs.Prelude.{◌≡◌, ◌==◌, ◌&&◌, ◌||◌, ℕ, Bool, List, [], ◌∷◌, ◌++◌, Option, Some, None, ⊤, if◌then◌else◌, codes, decimal, drop, nat_lt}
+use Rattle.std.specs.Prelude.{◌≡◌, ◌==◌, ◌||◌, ℕ, Bool, List, [], ◌∷◌, ◌++◌, Option, Some, None, ⊤, if◌then◌else◌, codes, decimal, drop}
+use Rattle.std.specs.Char.{encode_utf8, is_control}
+use Rattle.std.specs.Int.{to_be_bytes, w16}
 use Rattle.std.specs.List.{flat_map}
+use Rattle.std.specs.Str.{chars}
 use Rattle.std.specs.FinMap as map
 use Rattle.hex.specs.Hex.{encode_lower}
 use Rattle.sqlite_trees.specs.Tree.{Trees}
@@ -55,17 +58,17 @@ store_lines tree = flat_map stored_line (map.entries tree)
 
 -- ---- `osc store --dump`
 
--- no byte of a basic string of TOML: a quotation mark, a backslash, or a control character
+-- no character of a basic string of TOML, or one that moves a cursor: a quotation mark, a backslash, or a control character
 abbrev pub is_escaped : ℕ → Bool
-is_escaped byte = byte == 34 || byte == 92 || byte == 127 || nat_lt byte 32
+is_escaped char = is_control char || char == 34 || char == 92
 
--- what stands for a byte in such a string: the byte, or its number in hexadecimal
-abbrev pub quoted_byte : ℕ → List ℕ
-quoted_byte byte = if is_escaped byte then codes "\\u00" ++ encode_lower (byte ∷ []) else byte ∷ []
+-- what stands for a character in such a string: its UTF-8, or its number in hexadecimal
+abbrev pub quoted_char : ℕ → List ℕ
+quoted_char char = if is_escaped char then codes "\\u" ++ encode_lower (to_be_bytes w16 char) else encode_utf8 char
 
 -- path = "PATH"
 abbrev pub path_line : List ℕ → List ℕ
-path_line path = line (codes "path = \"" ++ flat_map quoted_byte path ++ codes "\"")
+path_line path = line (codes "path = \"" ++ flat_map quoted_char (chars path) ++ codes "\"")
 
 -- format = N, where it has one
 abbrev pub format_line : Option ℕ → List ℕ

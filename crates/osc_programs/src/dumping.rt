@@ -2,11 +2,13 @@
 ghost use Rattle.std.specs.FinMap as map;
 ghost use Rattle.std.specs.Prelude.{◌≡◌, ◌++◌, IfOk, OnOk, drop, string_bytes};
 ghost use Rattle.std.specs.List.{flat_map};
+ghost use Rattle.std.specs.Str.{chars};
 ghost use Rattle.osc_programs.specs.Storing as spec;
 
 use osc_model::{Bytes, Path, Resource};
 use osc_tree::Tree;
 use std::alloc::{AllocError, Global};
+use std::str;
 
 /// A table `[[resource]]` for each resource, in the order of the bytes of their paths, with an empty line between two. Settings read each as the
 /// same resource.
@@ -41,7 +43,7 @@ fn tables(alloc: Global, tree: &Tree) -> Result<Vec<u8>, AllocError>
 fn table(alloc: Global, path: &Path, resource: &Resource) -> Result<Vec<u8>, AllocError>
     ensures { IfOk result (λ text. text.items ≡ spec.dump_table (path.now, resource.now)) }
 {
-    let path = path_line(alloc, path.text())?;
+    let path = path_line(alloc, path)?;
     let format = format_line(alloc, resource.format)?;
     let payload = payload_line(alloc, &resource.payload)?;
     let mut text = Vec::from_slice(alloc, b"\n[[resource]]\n")?;
@@ -51,43 +53,66 @@ fn table(alloc: Global, path: &Path, resource: &Resource) -> Result<Vec<u8>, All
     Ok(text)
 }
 
-fn path_line(alloc: Global, path: &[u8]) -> Result<Vec<u8>, AllocError>
+fn path_line(alloc: Global, path: &Path) -> Result<Vec<u8>, AllocError>
     ensures { IfOk result (λ text. text.items ≡ spec.path_line path.now) }
 {
     let quoted = quoted(alloc, path)?;
     let mut text = Vec::from_slice(alloc, b"path = \"")?;
-    text.extend_from_slice(&quoted)?;
+    text.extend_from_slice(quoted.as_bytes())?;
     text.extend_from_slice(b"\"\n")?;
     Ok(text)
 }
 
-fn quoted(alloc: Global, path: &[u8]) -> Result<Vec<u8>, AllocError>
-    ensures { IfOk result (λ text. text.items ≡ flat_map spec.quoted_byte path.now) }
+fn quoted(alloc: Global, path: &Path) -> Result<String, AllocError>
+    ensures { IfOk result (λ text. string_bytes text ≡ flat_map spec.quoted_char (chars path.now)) }
 {
-    let mut text = Vec::new(alloc);
-    for byte in path {
-        add_quoted(alloc, &mut text, *byte)?;
+    match str::from_utf8(path.text()) {
+        Ok(text) => quoted_text(alloc, text),
+        // The text of a path is UTF-8.
+        Err(_) => unreachable!(),
+    }
+}
+
+fn quoted_text(alloc: Global, text: &str) -> Result<String, AllocError>
+    ensures { IfOk result (λ quoted. string_bytes quoted ≡ flat_map spec.quoted_char (chars text.now)) }
+{
+    let letters = letters_of(alloc, text)?;
+    quoted_chars(alloc, &letters)
+}
+
+fn letters_of(alloc: Global, text: &str) -> Result<Vec<char>, AllocError>
+    ensures { IfOk result (λ letters. letters.items ≡ chars text.now) }
+{
+    text.chars().collect(alloc)
+}
+
+fn quoted_chars(alloc: Global, letters: &[char]) -> Result<String, AllocError>
+    ensures { IfOk result (λ quoted. string_bytes quoted ≡ flat_map spec.quoted_char letters.now) }
+{
+    let mut text = String::new(alloc);
+    for letter in letters {
+        add_quoted(alloc, &mut text, *letter)?;
     }
     Ok(text)
 }
 
-fn add_quoted(alloc: Global, text: &mut Vec<u8>, byte: u8) -> Result<(), AllocError>
-    ensures { OnOk result (text.new.items ≡ text.old.items ++ spec.quoted_byte byte) }
+fn add_quoted(alloc: Global, text: &mut String, letter: char) -> Result<(), AllocError>
+    ensures { OnOk result (string_bytes text.new ≡ string_bytes text.old ++ spec.quoted_char letter) }
 {
-    if is_escaped(byte) {
-        let number = hex::encode(alloc, [byte].as_slice())?;
-        text.extend_from_slice(b"\\u00")?;
-        text.extend_from_slice(number.as_bytes())
+    if is_escaped(letter) {
+        let number = hex::encode(alloc, (letter as u16).to_be_bytes().as_slice())?;
+        text.push_str("\\u")?;
+        text.push_str(number.as_str())
     } else {
-        Ok(text.push(byte)?)
+        text.push(letter)
     }
 }
 
-// Whether it can't stand for itself in a basic string.
-fn is_escaped(byte: u8) -> bool
-    ensures { result ≡ spec.is_escaped byte }
+// Whether it can't stand for itself in a basic string, or would move a cursor.
+fn is_escaped(letter: char) -> bool
+    ensures { result ≡ spec.is_escaped letter }
 {
-    byte == b'"' || byte == b'\\' || byte == 127 || byte < 32
+    letter.is_control() || letter == '"' || letter == '\\'
 }
 
 fn format_line(alloc: Global, format: Option<u16>) -> Result<String, AllocError>

@@ -18,13 +18,13 @@ const SERVER: &str =
 
 // One has a path that a basic string doesn't hold as it is, one a payload without a byte.
 const RESOURCES: &str =
-    "[[resource]]\npath = '/e'\nhex = ''\n[[resource]]\npath = '/about'\nformat = 0\ntext = 'a thing'\n[[resource]]\npath = \"/a\\\"b\\\\c\\u0000\\t\\n\\u007fü/ x\"\nformat = 65535\nhex = '00fF'\n";
+    "[[resource]]\npath = '/e'\nhex = ''\n[[resource]]\npath = '/about'\nformat = 0\ntext = 'a thing'\n[[resource]]\npath = \"/a\\\"b\\\\c\\u0000\\t\\n\\u007f\\u009bü/ x\"\nformat = 65535\nhex = '00fF'\n";
 
 const DUMP: &str =
-    "[[resource]]\npath = \"/a\\u0022b\\u005cc\\u0000\\u0009\\u000a\\u007fü/ x\"\nformat = 65535\nhex = \"00ff\"\n\n[[resource]]\npath = \"/about\"\nformat = 0\nhex = \"61207468696e67\"\n\n[[resource]]\npath = \"/e\"\nhex = \"\"\n";
+    "[[resource]]\npath = \"/a\\u0022b\\u005cc\\u0000\\u0009\\u000a\\u007f\\u009bü/ x\"\nformat = 65535\nhex = \"00ff\"\n\n[[resource]]\npath = \"/about\"\nformat = 0\nhex = \"61207468696e67\"\n\n[[resource]]\npath = \"/e\"\nhex = \"\"\n";
 
 const LIST: &str =
-    "resource /a\"b\\c??????/?x 65535 2 bytes\nresource /about 0 7 bytes\nresource /e none 0 bytes\n";
+    "resource /a\"b\\c????????/?x 65535 2 bytes\nresource /about 0 7 bytes\nresource /e none 0 bytes\n";
 
 fn settings_of(alloc: Global, resources: &str) -> Result<ServerSettings, Fail> {
     let text = format!(in alloc; "{SERVER}{resources}")?;
