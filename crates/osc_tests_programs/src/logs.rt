@@ -300,7 +300,10 @@ fn a_new_second_tells_what_was_left_out(rt: HostRuntime) -> Result<(), Fail> {
         .split(|byte| *byte == b'\n')
         .collect::<Vec<&[u8]>>(alloc)?;
     assert_eq!(rt; told.len(), 24);
-    assert_eq!(rt; told[20], b"1700000002123 left out 3 refusals without a context".as_slice());
+    assert_eq!(rt;
+        told[20],
+        b"1700000002123 left out 3 refusals without a context".as_slice()
+    );
     assert_eq!(rt;
         told[21],
         b"1700000002123 192.0.2.7:40000 refused 4.01: it is not protected".as_slice()

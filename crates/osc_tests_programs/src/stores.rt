@@ -138,3 +138,27 @@ fn a_backup_alone_is_the_store(rt: HostRuntime) -> Result<(), Fail> {
     fs::remove_dir_all(&rt, FOLDER)?;
     Ok(())
 }
+
+#[test]
+fn after_the_last_turn_the_file_is_whole(rt: HostRuntime) -> Result<(), Fail> {
+    let alloc = rt.alloc();
+    make(&rt, true)?;
+    fs::rename(&rt, STORE, BACKUP)?;
+    assert!(&rt;
+        printed(&rt, &["osc", "store", BACKUP]).is_none(),
+        "its log is missing"
+    );
+    fs::rename(&rt, BACKUP, STORE)?;
+    match rt.open_store(STORE, &[]) {
+        Ok((mut keeper, _tree)) => {
+            change(alloc, &mut keeper)?;
+            assert!(&rt; keeper.keep_end().is_ok());
+        }
+        Err(_) => return Err(Fail::from("the store isn't opened")),
+    }
+    fs::rename(&rt, STORE, BACKUP)?;
+    let list = format!(in alloc; "{LIST}resource /log none 4 bytes\n")?;
+    assert!(&rt; is_text(&printed(&rt, &["osc", "store", BACKUP]), list.as_str()));
+    fs::remove_dir_all(&rt, FOLDER)?;
+    Ok(())
+}
