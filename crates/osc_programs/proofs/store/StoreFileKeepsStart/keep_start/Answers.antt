@@ -6,6 +6,8 @@ use Rattle.osc_store.specs.{Keeps}
 use Rattle.osc_programs.proofs.store.StoreFileKeepsStart.keep_start.Goals as goal
 
 pub returns : goal.returns
-returns c = λ before after same keeps.
-    subst (λ (tree : Tree). OnOk c.keep.result (IsClean (view c.keep.new.self.store) → Keeps view recovers c.keep.new.self.store tree)) (sym same)
-    (c.keep.ensures.kept before.tree keeps)
+returns c = record {
+  kept = λ before after same keeps.
+      subst (λ (tree : Tree). OnOk c.keep.result (IsClean (view c.keep.new.self.store) → Keeps view recovers c.keep.new.self.store tree)) (sym same)
+      (c.keep.ensures.kept before.tree keeps);
+}
