@@ -1,5 +1,5 @@
 -- What is taken of an input, piece by piece.
-use Rattle.std.proofs.Common.{◌≡◌, ◌∙◌, ◌++◌, List, Option, Some, None, Result, Ok, Err, IfOk, ap, append_assoc, sym, ℕ}
+use Rattle.std.proofs.Common.{◌∙◌, ◌++◌, List, Option, Some, None, Result, Ok, Err, IfOk, ap, append_assoc, sym, ℕ}
 use Rattle.std.specs.Io.KnownBytes.{Consumes}
 
 pub takes_more : (old mid new : Option (List ℕ)) (bytes more : List ℕ) → Consumes old mid bytes → Consumes mid new more → Consumes old new (bytes ++ more)

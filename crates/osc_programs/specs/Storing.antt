@@ -1,5 +1,5 @@
 -- The store of a server: what it begins with, and what of it is listed.
-use Rattle.std.specs.Prelude.{◌≡◌, ◌==◌, ◌||◌, ℕ, Bool, List, [], ◌∷◌, ◌++◌, Option, Some, None, ⊤, if◌then◌else◌, codes, decimal, drop}
+use Rattle.std.specs.Prelude.{◌≡◌, ◌==◌, ◌||◌, ℕ, Bool, List, [], ◌++◌, Option, Some, None, ⊤, if◌then◌else◌, codes, decimal, drop}
 use Rattle.std.specs.Char.{encode_utf8, is_control}
 use Rattle.std.specs.Int.{to_be_bytes, w16}
 use Rattle.std.specs.List.{flat_map}

@@ -1,5 +1,5 @@
 -- The words of `osc token`, with what its files hold. What is known of a file is its bytes, where it could be opened and they are known.
-use Rattle.std.specs.Prelude.{◌≡◌, ◌⊎◌, ℕ, List, Option, Some, None, IfSome, codes}
+use Rattle.std.specs.Prelude.{◌≡◌, ◌⊎◌, ℕ, List, Option, IfSome}
 use Rattle.osc_script.specs.{SpellsHexWithin}
 use Rattle.osc_words.specs.{with_secret, Holds, file_option_of}
 use Rattle.osc_programs.specs.Input.{IsBeyond, longest_key}

@@ -1,4 +1,4 @@
-use Rattle.std.proofs.Common.{◌≤◌, ◌+◌, ◌++◌, arith, length, length-append}
+use Rattle.std.proofs.Common.{◌++◌, arith, length-append}
 use Rattle.osc_programs.proofs.Inputs.{takes_more}
 use Rattle.osc_programs.proofs.input.bytes_within.Goals as goal
 
