@@ -9,7 +9,7 @@ use Rattle.osc_c.specs.{number_of, Makes, Tells}
 use Rattle.osc_c.specs.declared.calls.outcome.Outcome.{Outcome}
 use Rattle.osc_c.specs.declared.calls.outcome.Outcome.TheVariants as which
 use Rattle.osc_c.specs.declared.calls.round.Told.{Told}
-use Rattle.osc_c.specs.Calls.{Calls}
+use Rattle.osc_c.specs.Calls.{Calls, Looks}
 use Rattle.osc_c.specs.Inner.Lending.{Lends, Puts}
 
 module _ {A : Type 0} {old new : Option A} {outcome : Outcome} {held lent after : A} where
@@ -31,6 +31,13 @@ module _ {A : Type 0} {outcome : Outcome} {number : ℤ} (old new : Option A) (P
     by None (nothing, none) = (subst (λ (o : Outcome). number ≡ pos (number_of o)) nothing is, none)
     by (Some x) (y, now, did) = (y, now, (outcome, is, does x y did))
 
+  pub looks_by : (Does : A → Outcome → Type 0) → Lends old outcome new (λ x _ y. P x y) → number ≡ pos (number_of outcome)
+      → ((x y : A) → P x y → (y ≡ x) × Does x outcome) → Looks old number new Does
+  looks_by Does lent is does = by old lent where
+    by : (o : Option A) → Lends o outcome new (λ x _ y. P x y) → Looks o number new Does
+    by None (nothing, none) = (subst (λ (o : Outcome). number ≡ pos (number_of o)) nothing is, none)
+    by (Some x) (y, now, did) = let d = does x y did in (now ∙ ap (λ (a : A). Some a) d.0, (outcome, is, d.1))
+
   pub tells_by : {before code : ℕ} (Does : A → Told → A → Type 0) → Lends old outcome new (λ x _ y. P x y) → number ≡ pos (number_of outcome) → (old ≡ None → code ≡ before)
       → ((x y : A) → P x y → (told : Told) × (outcome ≡ told.outcome) × (code ≡ told.code) × Does x told y) → Tells old before (record { number = number; code = code }) new Does
   tells_by {before} {code} Does lent is stays does = by old lent stays where
@@ -43,6 +50,12 @@ module _ {A F : Type 0} {outcome : Outcome} {number : ℤ} (old new : Option A) 
       → ((s l : MutBor A) → Called g f (s, tt) (outcome, (l, tt)) f' → Does s.now outcome l.now) → Calls old number new Does
   calls_of Does lent is does = calls_by old new (λ x y. CalledAtMut g f x outcome f' y) Does lent is (λ x y did.
       subst (λ (a : A). Does a outcome y) did.shows (subst (λ (b : A). Does did.shown.now outcome b) did.leaves (does did.shown did.left did.called)))
+
+  pub looks_of : (Does : A → Outcome → Type 0) → Lends old outcome new (λ x r y. CalledAtMut g f x r f' y) → number ≡ pos (number_of outcome)
+      → ((s l : MutBor A) → Called g f (s, tt) (outcome, (l, tt)) f' → (l.now ≡ s.now) × Does s.now outcome) → Looks old number new Does
+  looks_of Does lent is does = looks_by old new (λ x y. CalledAtMut g f x outcome f' y) Does lent is (λ x y did.
+      let d = does did.shown did.left did.called in
+      (sym did.leaves ∙ d.0 ∙ did.shows, subst (λ (a : A). Does a outcome) did.shows d.1))
 
   pub tells_of : {before code : ℕ} (Does : A → Told → A → Type 0) → Lends old outcome new (λ x r y. CalledAtMut g f x r f' y) → number ≡ pos (number_of outcome) → (old ≡ None → code ≡ before)
       → ((s l : MutBor A) → Called g f (s, tt) (outcome, (l, tt)) f' → (told : Told) × (outcome ≡ told.outcome) × (code ≡ told.code) × Does s.now told l.now)

@@ -1,8 +1,23 @@
 -- What is made of these parts and this token; or why `Device::new` makes none of them.
-use Rattle.std.proofs.Common.{inr, subst}
-use Rattle.osc_c.specs.{AreParts, FitsDevice, device_given}
+use Rattle.std.proofs.Common.{◌≡◌, IfErr, List, Result, inl, inr, subst, sym, ℕ}
+use Rattle.std.specs.Prelude.{IsErrAnd}
+use Rattle.std.specs.declared.result.Result.TheVariants.{Err, Ok}
+use Rattle.osc_c.specs.{AreParts, FitsDevice, GivenDevice, IsNoNewDevice, device_given}
+use Rattle.osc_c.specs.Inner.Reading.{IsUnread}
+use Rattle.osc_c.specs.Making.{HasNoScope}
 use Rattle.osc_c.specs.declared.calls.making.Rules.{Rules}
+use Rattle.osc_c.specs.declared.calls.outcome.Outcome.{Outcome}
 use Rattle.osc_c.proofs.calls.device.DeviceNode.new.Goals as goal
+
+module _ (given : GivenDevice) (draw : List ℕ) where
+  -- a text of a scope says none, or there was no memory to tell that
+  unread : (Why : Type 0) (outcome : Outcome) → FitsDevice given → (Why → HasNoScope given) → IsUnread Why outcome → IsNoNewDevice given draw outcome
+  unread Why outcome fits has (inl why) = inr (inl (why.0, fits, has why.1))
+  unread Why outcome fits has (inr none) = inl (inr (none, fits))
+
+  refused : {T : Type 0} (made : Result T Outcome) (outcome : Outcome) → IsErrAnd made (λ e. e ≡ outcome) → IsNoNewDevice given draw outcome → IfErr made (IsNoNewDevice given draw)
+  refused (Ok node) outcome is why = tt
+  refused (Err e) outcome is why = subst (IsNoNewDevice given draw) (sym is) why
 
 pub returns-in-Ok-clause-ok : goal.returns-in-Ok-clause-ok
 returns-in-Ok-clause-ok g c =
@@ -22,3 +37,17 @@ returns-in-Err-clause-err g c =
     let are = subst (λ (rules : Rules). AreParts (device_given c.args.settings.now) rules c.in_ok-parts.parts) c.in_ok-rules.ensures.ok.0 c.in_ok-parts.ensures.ok in
     let fits : FitsDevice (device_given c.args.settings.now) = (c.in_ok-sized_as_settings.ensures.ok, c.in_ok-audience.ensures.ok.1, c.in_ok-rules.ensures.ok.1) in
     inr (inr (c.in_ok-parts.parts, c.in_ok-own.own, c.in-Err.error, fits, are, c.in_ok-own.ensures.ok, c.in-Err.ensures.refused, c.refused.ensures))
+
+pub returns-in_err-parts-clause-err : goal.returns-in_err-parts-clause-err
+returns-in_err-parts-clause-err g c =
+    let given = device_given c.args.settings.now in
+    let fits : FitsDevice given = (c.in_ok-sized_as_settings.ensures.ok, c.in_ok-audience.ensures.ok.1, c.in_ok-rules.ensures.ok.1) in
+    refused given c.args.draw.now.bytes c.from_residual-in_err-parts.result c.in_err-parts.field-0.0 c.from_residual-in_err-parts.ensures.1
+    (unread given c.args.draw.now.bytes _ _ fits (λ free. inl free) c.in_err-parts.ensures.err)
+
+pub returns-in_err-own-clause-err : goal.returns-in_err-own-clause-err
+returns-in_err-own-clause-err g c =
+    let given = device_given c.args.settings.now in
+    let fits : FitsDevice given = (c.in_ok-sized_as_settings.ensures.ok, c.in_ok-audience.ensures.ok.1, c.in_ok-rules.ensures.ok.1) in
+    refused given c.args.draw.now.bytes c.from_residual-in_err-own.result c.in_err-own.field-0.0 c.from_residual-in_err-own.ensures.1
+    (unread given c.args.draw.now.bytes _ _ fits (λ own. inr own) c.in_err-own.ensures.err)

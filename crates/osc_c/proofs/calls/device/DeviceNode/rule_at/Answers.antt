@@ -1,6 +1,6 @@
 -- The outcome, at the path for this id.
 use Rattle.std.proofs.Common.{◌≡◌, ◌∙◌, Bool, [], None, Some, IsSome, ap, inl, inr, refl, rules, subst, sym}
-use Rattle.osc_c.specs.{IsRefusal, are_revoked, asked_for, is_so, settled, told_of}
+use Rattle.osc_c.specs.{IsRefusal, are_revoked, asked_for, is_so, settled}
 use Rattle.osc_c.specs.declared.calls.round.Told.{Told}
 use Rattle.osc_c.proofs.Refused.{asked_kept, kept}
 use Rattle.osc_c.proofs.Settled.{done_is_so, refusal_is_told}
