@@ -58,6 +58,13 @@ fn change<K: KeepsStart>(alloc: Global, keeper: &mut K) -> Result<(), Fail> {
     }
 }
 
+fn is_opened(rt: &HostRuntime, file: &str) -> bool {
+    match rt.open_store(file, &[]) {
+        Ok(_) => true,
+        Err(_) => false,
+    }
+}
+
 // What is printed where the words are heeded.
 fn printed(rt: &HostRuntime, words: &[&str]) -> Option<Vec<u8>> {
     let Ok(Words::Store(words)) = read_words(rt.alloc(), words) else {
@@ -130,10 +137,7 @@ fn a_backup_alone_is_the_store(rt: HostRuntime) -> Result<(), Fail> {
     assert!(&rt; !fs::exists(&rt, BACKUP)?);
     // It is a server's store.
     fs::rename(&rt, "osc_programs_test/backup-wal", BACKUP)?;
-    match rt.open_store(BACKUP, &[]) {
-        Ok(_) => {}
-        Err(_) => return Err(Fail::from("the back-up isn't opened")),
-    }
+    assert!(&rt; is_opened(&rt, BACKUP));
     assert!(&rt; is_text(&printed(&rt, &["osc", "store", BACKUP]), list.as_str()));
     fs::remove_dir_all(&rt, FOLDER)?;
     Ok(())

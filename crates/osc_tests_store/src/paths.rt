@@ -2,6 +2,7 @@
 
 use crate::changes::{CHANGES, is_after, path_of, resource_of};
 use osc_store::{Keeper, Keeping, OpenError, Wary, open};
+use osc_tree::Tree;
 use std::alloc::Global;
 use std::fs;
 use std::test::Fail;
@@ -22,18 +23,38 @@ fn keep_each<K: Keeping>(alloc: Global, keeper: &mut K) -> Result<(), Fail> {
 }
 
 fn keep_all(rt: &HostRuntime) -> Result<(), Fail> {
-    let (store, tree) = match open(rt, STORE, Wary) {
-        Ok(opened) => opened,
-        Err((error, _left)) => return Err(Fail::from(error)),
-    };
-    if !is_after(rt.alloc(), &tree, 0)? {
+    match open(rt, STORE, Wary) {
+        Ok((store, tree)) => keep_in(rt, Keeper::new(rt.alloc(), store), &tree),
+        Err((error, _left)) => Err(Fail::from(error)),
+    }
+}
+
+// Keeps all the changes of a new store. While it is open, it isn't opened again.
+fn keep_in<K: Keeping + Drop>(rt: &HostRuntime, keeper: K, tree: &Tree) -> Result<(), Fail> {
+    let mut keeper = keeper;
+    if !is_after(rt.alloc(), tree, 0)? {
         return Err(Fail::from("a new store has a resource"));
     }
-    let mut keeper = Keeper::new(rt.alloc(), store);
     keep_each(rt.alloc(), &mut keeper)?;
+    if is_busy(rt) {
+        Ok(())
+    } else {
+        Err(Fail::from("a file that is open was opened again"))
+    }
+}
+
+fn is_busy(rt: &HostRuntime) -> bool {
     match open(rt, STORE, Wary) {
-        Err((OpenError::Busy, None)) => Ok(()),
-        _ => Err(Fail::from("a file that is open was opened again")),
+        Err((OpenError::Busy, None)) => true,
+        _ => false,
+    }
+}
+
+// Whether the store holds what all the changes leave.
+fn is_kept(rt: &HostRuntime) -> Result<bool, Fail> {
+    match open(rt, STORE, Wary) {
+        Ok((_store, tree)) => is_after(rt.alloc(), &tree, CHANGES.len()),
+        Err((error, _left)) => Err(Fail::from(error)),
     }
 }
 
@@ -49,10 +70,7 @@ fn a_store_outlives_its_process(rt: HostRuntime) -> Result<(), Fail> {
     let _ = fs::remove_dir_all(&rt, FOLDER);
     fs::create_dir(&rt, FOLDER)?;
     keep_all(&rt)?;
-    match open(&rt, STORE, Wary) {
-        Ok((_store, tree)) => assert!(&rt; is_after(rt.alloc(), &tree, CHANGES.len())?),
-        Err((error, _left)) => return Err(Fail::from(error)),
-    }
+    assert!(&rt; is_kept(&rt)?);
     fs::remove_file(&rt, STORE)?;
     fs::remove_file(&rt, LOG)?;
     fs::write(&rt, STORE, b"These are no resources.".as_slice())?;

@@ -2,7 +2,7 @@
 use crate::changes::{CHANGES, is_after, path_of, resource_of};
 use crate::disks::{pair, start};
 use osc_store::{FileKeeper, Keeping, OpenError, open_files, whole_file};
-use sqlite_disk::{Files, Fuse, Memory};
+use sqlite_disk::{Disk, Files, Fuse, Memory};
 use std::alloc::Global;
 use std::test::Fail;
 
@@ -20,9 +20,9 @@ const OWN: u32 = 0x0102_0304;
 const MANY: usize = 3;
 
 // Of so many bytes of a write, one is the last that is written; and of the first, where the header is, one of so many.
-const STEP: usize = 509;
+const STEP: usize = 2039;
 
-const FIRST: usize = 7;
+const FIRST: usize = 17;
 
 // The file is made whole before this change, too.
 const MIDDLE: usize = 2;
@@ -197,26 +197,38 @@ fn is_refused(alloc: Global, log: &[u8], db: &[u8], want: OpenError) -> Result<b
     }
 }
 
+// Keeps the first of the changes, and makes the file whole.
+fn keep_whole<D: Disk>(alloc: Global, keeper: &mut FileKeeper<D>, many: usize) -> Result<(), Fail> {
+    for (at, change) in CHANGES.iter().enumerate() {
+        if at < many {
+            let path = path_of(alloc, change.0)?;
+            let resource = resource_of(alloc, change.1)?;
+            keeper.keep(&path, resource.as_ref())?;
+        }
+    }
+    keeper.make_whole()?;
+    Ok(())
+}
+
+// The file of a store with the first of the changes, which was made whole.
+fn whole_after(alloc: Global, many: usize) -> Result<Vec<u8>, Fail> {
+    match open_files(alloc, pair(alloc, &[], &[])?, 7) {
+        Ok((store, _tree)) => {
+            let mut keeper = FileKeeper::new(alloc, store, 5);
+            keep_whole(alloc, &mut keeper, many)?;
+            let files = keeper.into_store().close();
+            Ok(Vec::from_slice(alloc, files.db.bytes())?)
+        }
+        Err((error, _left)) => Err(Fail::from(error)),
+    }
+}
+
 #[test]
 fn a_whole_file_is_a_store_alone(rt: HostRuntime) -> Result<(), Fail> {
     let alloc = rt.alloc();
     for many in 0..CHANGES.len() {
-        let files = pair(alloc, &[], &[])?;
-        let (store, _tree) = match open_files(alloc, files, 7) {
-            Ok(opened) => opened,
-            Err((error, _left)) => return Err(Fail::from(error)),
-        };
-        let mut keeper = FileKeeper::new(alloc, store, 5);
-        for (at, change) in CHANGES.iter().enumerate() {
-            if at < many {
-                let path = path_of(alloc, change.0)?;
-                let resource = resource_of(alloc, change.1)?;
-                keeper.keep(&path, resource.as_ref())?;
-            }
-        }
-        keeper.make_whole()?;
-        let files = keeper.into_store().close();
-        match start(alloc, &[], files.db.bytes())? {
+        let file = whole_after(alloc, many)?;
+        match start(alloc, &[], &file)? {
             Ok(tree) => assert!(&rt; is_after(alloc, &tree, many)?, "{many}"),
             Err(error) => return Err(Fail::from(error)),
         }
