@@ -4,12 +4,9 @@ use crate::flood::token_post;
 use crate::hearing::{WANTING, hears_again};
 use crate::messages::answer;
 use crate::protected::requests_under;
-use osc_authz::{ContextRules, DeskParts, ServerDesk};
-use osc_fixtures::{KEY, put};
-use osc_model::{Bytes, Method, Moment, Path};
-use osc_scope::Scope;
+use osc_fixtures::{put, revoking_server};
+use osc_model::{Bytes, Method, Moment};
 use osc_server::Server;
-use osc_token::Audience;
 use osc_tree::{MOST_RESOURCES, Tree};
 use std::alloc::{AllocError, Global};
 
@@ -40,20 +37,7 @@ fn server_of_all(alloc: Global) -> Result<Server, AllocError> {
         let text = below(alloc, number as u16)?;
         put(alloc, &mut tree, &text, b"")?;
     }
-    let rules = ContextRules {
-        revoked: Path::from_text(alloc, REVOKED)?,
-        ..ContextRules::none()
-    };
-    let desk = ServerDesk::of(
-        alloc,
-        DeskParts {
-            key: KEY,
-            old_key: None,
-            audience: Audience::new(alloc, "s")?,
-            rules,
-        },
-    );
-    Server::new(alloc, tree, desk, Scope::new(alloc))
+    revoking_server(alloc, tree, REVOKED)
 }
 
 // A path below, which stands for no token of those that have contexts.

@@ -1,6 +1,6 @@
 //! The power goes at each call of the disk, and inside each write at each byte.
-use crate::changes::{CHANGES, is_after, path_of, resource_of};
-use crate::disks::start;
+use crate::changes::{CHANGES, path_of, resource_of};
+use crate::disks::{Cut, cut_of, is_found};
 use osc_store::{keep, open_files};
 use sqlite_disk::{Files, Fuse, Memory};
 use sqlite_store::FileStore;
@@ -15,29 +15,6 @@ const CALLS: u64 = 60;
 
 // Of so many bytes of a write, one is the last that is written.
 const STEP: usize = 97;
-
-// What is left of a first start and of the changes, and how many of them were kept.
-struct Cut {
-    log: Vec<u8>,
-    db: Vec<u8>,
-    kept: usize,
-}
-
-impl Drop for Cut {
-    fn drop(self) {
-        let Cut {
-            log: _,
-            db: _,
-            kept: _,
-        } = self;
-    }
-}
-
-fn cut_of(alloc: Global, files: Files<Fuse<Memory>>, kept: usize) -> Result<Cut, Fail> {
-    let log = Vec::from_slice(alloc, files.log.inner().bytes())?;
-    let db = Vec::from_slice(alloc, files.db.inner().bytes())?;
-    Ok(Cut { log, db, kept })
-}
 
 fn keep_all(alloc: Global, mut store: FileStore<Fuse<Memory>>) -> Result<Cut, Fail> {
     let mut row = Row::new(alloc);
@@ -62,16 +39,6 @@ fn run(alloc: Global, log_calls: u64, db_calls: u64) -> Result<Cut, Fail> {
     match open_files(alloc, files, 7) {
         Ok((store, _tree)) => keep_all(alloc, store),
         Err((_error, left)) => cut_of(alloc, left.into_files(), 0),
-    }
-}
-
-// The next start finds the tree of what was kept, with the change that was under way or without.
-fn is_found(alloc: Global, log: &[u8], db: &[u8], kept: usize) -> Result<bool, Fail> {
-    match start(alloc, log, db)? {
-        Ok(tree) => Ok(
-            is_after(alloc, &tree, kept)? || is_after(alloc, &tree, kept.saturating_add(1))?,
-        ),
-        Err(_) => Ok(false),
     }
 }
 

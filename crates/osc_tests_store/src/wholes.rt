@@ -1,6 +1,6 @@
 //! A database file that holds the whole store, one that says that a log belongs to it, and what isn't taken for one store.
 use crate::changes::{CHANGES, is_after, path_of, resource_of};
-use crate::disks::{pair, start};
+use crate::disks::{Cut, cut_of, is_found, pair, start};
 use osc_store::{FileKeeper, Keeping, OpenError, open_files, whole_file};
 use sqlite_disk::{Disk, Files, Fuse, Memory};
 use std::alloc::Global;
@@ -26,29 +26,6 @@ const FIRST: usize = 17;
 
 // The file is made whole before this change, too.
 const MIDDLE: usize = 2;
-
-// The contents of the two files, and how many of the changes were kept.
-struct Cut {
-    log: Vec<u8>,
-    db: Vec<u8>,
-    kept: usize,
-}
-
-impl Drop for Cut {
-    fn drop(self) {
-        let Cut {
-            log: _,
-            db: _,
-            kept: _,
-        } = self;
-    }
-}
-
-fn cut_of(alloc: Global, files: Files<Fuse<Memory>>, kept: usize) -> Result<Cut, Fail> {
-    let log = Vec::from_slice(alloc, files.log.inner().bytes())?;
-    let db = Vec::from_slice(alloc, files.db.inner().bytes())?;
-    Ok(Cut { log, db, kept })
-}
 
 // Keeps so many of the changes, from a file that is made whole, and whole again on the way; gives how many were kept.
 fn keep_some(
@@ -93,16 +70,6 @@ fn run_by(
             cut_of(alloc, keeper.into_store().close(), kept)
         }
         Err((_error, left)) => cut_of(alloc, left.into_files(), 0),
-    }
-}
-
-// The next start finds the tree of what was kept, with the change that was under way or without.
-fn is_found(alloc: Global, log: &[u8], db: &[u8], kept: usize) -> Result<bool, Fail> {
-    match start(alloc, log, db)? {
-        Ok(tree) => Ok(
-            is_after(alloc, &tree, kept)? || is_after(alloc, &tree, kept.saturating_add(1))?,
-        ),
-        Err(_) => Ok(false),
     }
 }
 
