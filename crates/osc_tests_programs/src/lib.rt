@@ -1,17 +1,31 @@
-//! Tests of settings, scripts, simulations and programs, by what callers see. They are apart, so that a test that changes has no crate below proved
-//! again.
+//! Tests of stores, settings, scripts, simulations and programs, by what callers see: stores over disks in memory that are cut, damaged or foreign, and
+//! over files. They are apart, so that a test that changes has no crate below proved again.
 #![tactic(auto)]
 
 #[cfg(test)]
 mod broken;
 #[cfg(test)]
+mod changes;
+#[cfg(test)]
 mod checks;
 #[cfg(test)]
+mod cuts;
+#[cfg(test)]
+mod damage;
+#[cfg(test)]
+mod device;
+#[cfg(test)]
+mod disks;
+#[cfg(test)]
 mod faults;
+#[cfg(test)]
+mod foreign;
 #[cfg(test)]
 mod lab;
 #[cfg(test)]
 mod logs;
+#[cfg(test)]
+mod paths;
 #[cfg(test)]
 mod programs;
 #[cfg(test)]
@@ -26,5 +40,7 @@ mod sweeps;
 mod token_files;
 #[cfg(test)]
 mod tokens;
+#[cfg(test)]
+mod wholes;
 #[cfg(test)]
 mod words;

@@ -1,6 +1,6 @@
 //! What `osc store` prints of a store in a file of the system, as a list or as settings, and the back-up that it writes.
 use osc_model::{Bytes, Path, Resource};
-use osc_programs::{Ended, KeepsStart, Stores, list_store};
+use osc_programs::{Ended, KeepsServer, Stores, list_store};
 use osc_settings::{ResourceSetting, ServerSettings, read_server_settings};
 use osc_words::{Words, read_words};
 use std::alloc::Global;
@@ -44,7 +44,7 @@ fn make(rt: &HostRuntime, is_changed: bool) -> Result<(), Fail> {
     }
 }
 
-fn change<K: KeepsStart>(alloc: Global, keeper: &mut K) -> Result<(), Fail> {
+fn change<K: KeepsServer>(alloc: Global, keeper: &mut K) -> Result<(), Fail> {
     let Some(path) = Path::from_text(alloc, b"/log")? else {
         return Err(Fail::from("no path"));
     };
