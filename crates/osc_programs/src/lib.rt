@@ -42,7 +42,7 @@ pub use key::issue_key;
 pub use noted::{Kept, Noted};
 pub use osc_simulation::TraceForm;
 pub use payload_file::with_payload;
-pub use revoking::KeepsStart;
+pub use revoking::KeepsServer;
 pub use running::{bound, forward, send, serve};
 pub use simulate::{run_script, sim};
 pub use store::{Stores, list_store};

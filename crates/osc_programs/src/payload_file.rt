@@ -44,6 +44,7 @@ fn filled(words: ClientWords, payload: Bytes) -> ClientWords
 
 // All that the file gives, if it was opened and that is no more than a payload's file may have.
 fn payload_in<F: Read + Drop>(alloc: Global, file: Option<F>) -> Result<Bytes, WordsError>
+    ensures within { IfOk result (λ _. IsWithin longest_payload_file (option_and_then F.remaining file)) }
     ensures bytes { IfOk result (λ payload. IfSome (option_and_then F.remaining file) (λ known. payload ≡ known)) }
     ensures fault { IfErr result spec.IsUnreadPayload }
 {

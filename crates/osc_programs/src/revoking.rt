@@ -20,8 +20,8 @@ use osc_tree::Tree;
 use std::alloc::{AllocError, Global};
 use std::io::Eprint;
 
-/// What keeps the steps of a server, and what its resources are given before the first.
-pub trait KeepsStart: KeepsSteps<Suite, Server> {
+/// What keeps the steps of a server, what its resources are given before the first, and, after the last, all that was kept in one place.
+pub trait KeepsServer: KeepsSteps<Suite, Server> {
     /// Keeps what the path has from now on, or that it has nothing.
     fn keep_start(&mut self, path: &Path, resource: Option<&Resource>) -> Result<(), KeepError>
         ensures kept { (before after : AnyServer) → after.tree ≡ changed before.tree path.now (option_copied resource.entry)
@@ -33,7 +33,7 @@ pub trait KeepsStart: KeepsSteps<Suite, Server> {
         ensures crash { (server : AnyServer) → Self.keeps self.old server → Self.may_hold self.new server server };
 }
 
-impl KeepsStart for Forgetful {
+impl KeepsServer for Forgetful {
     fn keep_start(&mut self, _path: &Path, _resource: Option<&Resource>) -> Result<(), KeepError> {
         Ok(())
     }
@@ -45,7 +45,7 @@ impl KeepsStart for Forgetful {
 
 /// Revokes the tokens of the ids in these settings, by an empty resource for each where there is none, and has each kept. A line on the standard
 /// error tells it where there is no room for one.
-pub(crate) fn revoke_at_start<R: Eprint, K: KeepsStart>(
+pub(crate) fn revoke_at_start<R: Eprint, K: KeepsServer>(
     alloc: Global,
     runtime: &R,
     keeper: &mut K,
@@ -77,7 +77,7 @@ pub(crate) fn revoke_at_start<R: Eprint, K: KeepsStart>(
 // What is told where an id of the settings can't be revoked.
 const NO_ROOM: &str = "revoked_ids: no room for one of them: there are 1024 resources";
 
-fn revoke_all<K: KeepsStart>(
+fn revoke_all<K: KeepsServer>(
     alloc: Global,
     keeper: &mut K,
     tree: &mut Tree,
@@ -95,7 +95,7 @@ fn revoke_all<K: KeepsStart>(
     Ok(())
 }
 
-fn revoke<K: KeepsStart>(
+fn revoke<K: KeepsServer>(
     alloc: Global,
     keeper: &mut K,
     tree: &mut Tree,
@@ -121,7 +121,7 @@ fn revoke<K: KeepsStart>(
 }
 
 // An empty resource at the path, if nothing is there.
-fn place<K: KeepsStart>(
+fn place<K: KeepsServer>(
     alloc: Global,
     keeper: &mut K,
     tree: &mut Tree,
@@ -158,7 +158,7 @@ fn put_empty(alloc: Global, tree: &mut Tree, path: &Path) -> Result<(), AllocErr
 }
 
 // Keeps what the path has.
-fn keep_place<K: KeepsStart>(keeper: &mut K, tree: &Tree, path: &Path) -> Result<(), Ended>
+fn keep_place<K: KeepsServer>(keeper: &mut K, tree: &Tree, path: &Path) -> Result<(), Ended>
     ensures kept { (before : AnyTree) → tree.now ≡ changed before path.now (map.get tree.now path.now)
         → spec.KeepsTree K.keeps keeper.old before → OnOk result (spec.KeepsTree K.keeps keeper.new tree.now) }
     ensures ends { IfErr result ends.EndsUnkept }

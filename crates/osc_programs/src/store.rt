@@ -19,7 +19,7 @@ use crate::checking::said;
 use crate::copies::{Uncopied, copy_files};
 use crate::dumping::dump_text;
 use crate::ended::{Ended, ended_by_io};
-use crate::revoking::KeepsStart;
+use crate::revoking::KeepsServer;
 use crate::running::add_resource;
 use crate::saving::save_tree;
 use libc::clock_gettime;
@@ -46,7 +46,7 @@ use std::os::unix::fs::OpenOptionsExt;
 /// What opens the stores of servers. Contracts see what each held.
 pub trait Stores {
     /// What keeps the changes of a server.
-    type Keeper: KeepsStart + Drop;
+    type Keeper: KeepsServer + Drop;
 
     // The store in the file of this name was opened, or first made of these resources: what keeps its changes, and the resources that it holds.
     ghost holds: { Self → List ℕ → List AnySetting → Self.Keeper → AnyTree → Type 0 };
@@ -176,7 +176,7 @@ impl KeepsSteps<Suite, Server> for StoreFile {
     }
 }
 
-impl KeepsStart for StoreFile {
+impl KeepsServer for StoreFile {
     fn keep_start(&mut self, path: &Path, resource: Option<&Resource>) -> Result<(), KeepError> {
         self.changed = Some(seconds());
         self.keeper.keep(path, resource)

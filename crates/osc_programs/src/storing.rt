@@ -14,7 +14,7 @@ ghost use Rattle.osc_programs.specs.Turning as turning;
 use crate::ended::Ended;
 use crate::holding::Holding;
 use crate::kept::take_kept_turns;
-use crate::revoking::KeepsStart;
+use crate::revoking::KeepsServer;
 use crate::running::{opened, server_with, tell_address, tell_end};
 use crate::supply::supply_of;
 use crate::udp::{SocketPort, Sockets};
@@ -32,7 +32,7 @@ use std::io::Eprint;
 use std::time::Clock;
 
 /// Runs a server with these settings and the resources of a store, of which this keeps the changes, and after its turns the whole.
-pub(crate) fn serve_stored<R: Clock + Eprint + Seeds + Sockets, K: KeepsStart + Drop, L: Log>(
+pub(crate) fn serve_stored<R: Clock + Eprint + Seeds + Sockets, K: KeepsServer + Drop, L: Log>(
     alloc: Global,
     runtime: &R,
     settings: ServerSettings,
@@ -59,7 +59,7 @@ pub(crate) fn serve_stored<R: Clock + Eprint + Seeds + Sockets, K: KeepsStart + 
 }
 
 // Where all turns were taken, what was kept is put where it is kept alone.
-fn kept_whole<K: KeepsStart>(keeper: &mut K, ended: Ended) -> Ended
+fn kept_whole<K: KeepsServer>(keeper: &mut K, ended: Ended) -> Ended
     ensures done { result ≡ Ended.Done → ended ≡ Ended.Done }
     ensures kept { (server : AnyServer) → result ≡ Ended.Done → K.keeps keeper.old server → K.keeps keeper.new server }
     ensures ends { ends.EndsKept ended → ends.EndsKept result }

@@ -1,7 +1,7 @@
 use Rattle.sqlite_store.specs.FileStore.{view}
 use Rattle.osc_store.proofs.CauseLemmas.{on_ok_if}
 use Rattle.osc_store.proofs.ViewLemmas.{clean_before}
-use Rattle.osc_programs.proofs.store.StoreFileKeepsStart.keep_end.Goals as goal
+use Rattle.osc_programs.proofs.store.StoreFileKeepsServer.keep_end.Goals as goal
 
 pub returns-clause-kept : goal.returns-clause-kept
 returns-clause-kept c server held =

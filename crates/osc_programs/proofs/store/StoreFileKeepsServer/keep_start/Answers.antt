@@ -3,7 +3,7 @@ use Rattle.sqlite_store.specs.FileStore.{recovers, view}
 use Rattle.sqlite_trees.specs.View.{IsClean}
 use Rattle.osc_model.specs.Tree.{Tree}
 use Rattle.osc_store.specs.{Keeps}
-use Rattle.osc_programs.proofs.store.StoreFileKeepsStart.keep_start.Goals as goal
+use Rattle.osc_programs.proofs.store.StoreFileKeepsServer.keep_start.Goals as goal
 
 pub returns : goal.returns
 returns c = record {
