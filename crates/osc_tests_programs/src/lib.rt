@@ -37,8 +37,6 @@ mod stores;
 #[cfg(test)]
 mod sweeps;
 #[cfg(test)]
-mod token_files;
-#[cfg(test)]
 mod tokens;
 #[cfg(test)]
 mod wholes;
