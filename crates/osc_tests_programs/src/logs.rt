@@ -28,6 +28,11 @@ fn answers(alloc: Global, bytes: &[&[u8]]) -> Result<Datagrams, AllocError> {
     Ok(out)
 }
 
+/// A step that sends these answers, and neither serves nor refuses.
+fn sending(alloc: Global, bytes: &[&[u8]]) -> Result<Step, AllocError> {
+    Ok(Step::sending(answers(alloc, bytes)?))
+}
+
 /// A step that answers 4.01 outside.
 fn refusing(alloc: Global, code: Code, reason: Option<u8>) -> Result<Step, AllocError> {
     let out = answers(alloc, &[&[0x60, 0x81, 0, 1]])?;
@@ -97,17 +102,17 @@ fn tell<W: Write + Drop>(alloc: Global, lines: &mut Lines<W>, now: Moment, step:
     lines.turn(alloc, &turn, &Shelf);
 }
 
-/// What is told of the step alone.
-fn told(alloc: Global, form: Form, step: &Step) -> Vec<u8> {
+/// Whether this is told of the step alone.
+fn is_told(alloc: Global, form: Form, step: Step, text: &[u8]) -> bool {
     let mut lines = Lines::new(alloc, form, Vec::new(alloc));
-    tell(alloc, &mut lines, moment(), step);
-    lines.into_writer()
+    tell(alloc, &mut lines, moment(), &step);
+    lines.into_writer().as_slice() == text
 }
 
 /// Whether what is told of the step is this, after the moment and the address.
-fn tells(alloc: Global, step: &Step, what: &str) -> Result<bool, AllocError> {
+fn tells(alloc: Global, step: Step, what: &str) -> Result<bool, AllocError> {
     let wanted = format!(in alloc; "{NOW} 192.0.2.7:40000 {what}\n")?;
-    Ok(told(alloc, Form::Text, step).as_slice() == wanted.as_bytes())
+    Ok(is_told(alloc, Form::Text, step, wanted.as_bytes()))
 }
 
 /// Refusals, by code and number.
@@ -193,8 +198,10 @@ const REFUSED: [(Code, Option<u8>, &str); 16] = [
 #[test]
 fn what_is_refused(rt: HostRuntime) -> Result<(), Fail> {
     for &(code, reason, what) in &REFUSED {
-        let step = refusing(rt.alloc(), code, reason)?;
-        assert!(rt; tells(rt.alloc(), &step, what)?, "{what}");
+        assert!(rt;
+            tells(rt.alloc(), refusing(rt.alloc(), code, reason)?, what)?,
+            "{what}"
+        );
     }
     Ok(())
 }
@@ -214,8 +221,10 @@ const SERVED: [(&[u8], &str); 7] = [
 #[test]
 fn what_is_served(rt: HostRuntime) -> Result<(), Fail> {
     for &(plaintext, what) in &SERVED {
-        let step = serving(rt.alloc(), plaintext)?;
-        assert!(rt; tells(rt.alloc(), &step, what)?, "{what}");
+        assert!(rt;
+            tells(rt.alloc(), serving(rt.alloc(), plaintext)?, what)?,
+            "{what}"
+        );
     }
     Ok(())
 }
@@ -224,15 +233,19 @@ fn what_is_served(rt: HostRuntime) -> Result<(), Fail> {
 #[test]
 fn what_is_sent(rt: HostRuntime) -> Result<(), Fail> {
     let alloc = rt.alloc();
-    let one = Step::sending(answers(alloc, &[&[0x60, 0x45, 0, 1]])?);
-    assert!(rt; tells(alloc, &one, "sent 2.05")?);
-    let two = Step::sending(answers(alloc, &[&[0x60, 0, 0, 1], &[0x40, 2, 0, 2]])?);
-    assert_eq!(rt;
-        told(alloc, Form::Text, &two).as_slice(),
-        b"1700000000123 192.0.2.7:40000 sent 0.00\n1700000000123 192.0.2.7:40000 sent 0.02\n".as_slice()
+    let one = sending(alloc, &[&[0x60, 0x45, 0, 1]])?;
+    assert!(rt; tells(alloc, one, "sent 2.05")?);
+    let two = sending(alloc, &[&[0x60, 0, 0, 1], &[0x40, 2, 0, 2]])?;
+    assert!(rt;
+        is_told(
+            alloc,
+            Form::Text,
+            two,
+            b"1700000000123 192.0.2.7:40000 sent 0.00\n1700000000123 192.0.2.7:40000 sent 0.02\n"
+        )
     );
-    let none = Step::sending(Datagrams::new(alloc));
-    assert_eq!(rt; told(alloc, Form::Text, &none).len(), 0);
+    let none = sending(alloc, &[])?;
+    assert!(rt; is_told(alloc, Form::Text, none, b""));
     Ok(())
 }
 
@@ -370,9 +383,9 @@ fn dropped_lines_are_told_of(rt: HostRuntime) -> Result<(), Fail> {
 // ---- objects
 
 /// Whether the only line that is told of the step is this object.
-fn is_object(alloc: Global, step: &Step, object: &str) -> Result<bool, AllocError> {
+fn is_object(alloc: Global, step: Step, object: &str) -> Result<bool, AllocError> {
     let wanted = format!(in alloc; "{object}\n")?;
-    Ok(told(alloc, Form::Json, step).as_slice() == wanted.as_bytes())
+    Ok(is_told(alloc, Form::Json, step, wanted.as_bytes()))
 }
 
 #[test]
@@ -382,7 +395,7 @@ fn each_line_is_an_object(rt: HostRuntime) -> Result<(), Fail> {
     assert!(rt;
         is_object(
             alloc,
-            &refused,
+            refused,
             r#"{"code":"4.01","level":"refused","peer":"192.0.2.7:40000","reason":23,"time":"2023-11-14T22:13:20.123Z","why":"it came before, or is too old"}"#
         )?
     );
@@ -390,7 +403,7 @@ fn each_line_is_an_object(rt: HostRuntime) -> Result<(), Fail> {
     assert!(rt;
         is_object(
             alloc,
-            &unprotected,
+            unprotected,
             r#"{"code":"4.01","level":"refused","peer":"192.0.2.7:40000","time":"2023-11-14T22:13:20.123Z","why":"it is not protected"}"#
         )?
     );
@@ -399,7 +412,7 @@ fn each_line_is_an_object(rt: HostRuntime) -> Result<(), Fail> {
     assert!(rt;
         is_object(
             alloc,
-            &served,
+            served,
             r#"{"code":"2.05","level":"served","method":"POST","path":"/l\"\\?","peer":"192.0.2.7:40000","time":"2023-11-14T22:13:20.123Z"}"#
         )?
     );
@@ -407,15 +420,15 @@ fn each_line_is_an_object(rt: HostRuntime) -> Result<(), Fail> {
     assert!(rt;
         is_object(
             alloc,
-            &unread,
+            unread,
             r#"{"code":"2.05","level":"served","peer":"192.0.2.7:40000","time":"2023-11-14T22:13:20.123Z"}"#
         )?
     );
-    let sent = Step::sending(answers(alloc, &[&[0x60, 0x45, 0, 1]])?);
+    let sent = sending(alloc, &[&[0x60, 0x45, 0, 1]])?;
     assert!(rt;
         is_object(
             alloc,
-            &sent,
+            sent,
             r#"{"code":"2.05","level":"sent","peer":"192.0.2.7:40000","time":"2023-11-14T22:13:20.123Z"}"#
         )?
     );
@@ -497,7 +510,7 @@ fn who_is_served_is_told(rt: HostRuntime) -> Result<(), Fail> {
     let post = posting(alloc, *b"12345678")?;
     let known = serving_by(alloc, b"\x41s\x48abcdefgh\x4812345678")?;
     let other = serving_by(alloc, b"\x41s\x48abcdefgh\x4812345679")?;
-    for step in [&known, &post, &known, &other] {
+    for &step in &[&known, &post, &known, &other] {
         tell(alloc, &mut lines, moment(), step);
     }
     assert_eq!(rt;
@@ -523,7 +536,7 @@ fn two_hours(alloc: Global, form: Form) -> Result<Vec<u8>, AllocError> {
     let served = serving(alloc, b"\x01\xb3log")?;
     let none = Step::sending(Datagrams::new(alloc));
     let mut lines = Lines::new(alloc, form, Vec::new(alloc));
-    for (ms, step) in [
+    for &(ms, step) in &[
         (0, &refused),
         (1, &replayed),
         (2, &replayed),
