@@ -1,5 +1,5 @@
-//! Tests of stores, settings, scripts, simulations and programs, by what callers see: stores over disks in memory that are cut, damaged or foreign, and
-//! over files. They are apart, so that a test that changes has no crate below proved again.
+//! Tests of stores, settings, simulations and programs, by what callers see and rows don't show: stores over disks in memory that are cut, damaged or
+//! foreign, and over files; logs; inputs and outputs that break. They are apart, so that a test that changes has no crate below proved again.
 #![tactic(auto)]
 
 #[cfg(test)]
@@ -21,15 +21,11 @@ mod faults;
 #[cfg(test)]
 mod foreign;
 #[cfg(test)]
-mod lab;
-#[cfg(test)]
 mod logs;
 #[cfg(test)]
 mod paths;
 #[cfg(test)]
 mod programs;
-#[cfg(test)]
-mod scripts;
 #[cfg(test)]
 mod settings;
 #[cfg(test)]
@@ -40,5 +36,3 @@ mod sweeps;
 mod tokens;
 #[cfg(test)]
 mod wholes;
-#[cfg(test)]
-mod words;
