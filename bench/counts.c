@@ -1,4 +1,4 @@
-/* Calls one function of osc_bench so many times: `counts NAME ROUNDS SIZE`, for bench/counts. */
+/* Calls one function of osc_bench so many times: `counts NAME ROUNDS SIZE`, for `bench/run counts`. */
 #include <stddef.h>
 #include <stdint.h>
 #include <stdio.h>

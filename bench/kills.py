@@ -1,7 +1,6 @@
-#!/usr/bin/env python3
 """Whether what a server with a store acknowledged is there after it was killed, by a real file and sockets on loopback.
 
-    bench/kills [KILLS]
+    bash bench/run kills [KILLS]
 
 A server with a store is killed (kill -9) KILLS times, 1000 where they are left out, each time at a random time up to half a second after its start, and
 once in ten right at its start. Meanwhile a client appends the numbers 1, 2, .. to a path of this start, one after the other, and notes each that is
@@ -11,66 +10,36 @@ under way may be there after them, and nothing else. In the end each path is rea
 Then a server's store is on a disk of 512 kB, where this user may mount one: it has to end by itself once the disk is full, with status 4 and a line that
 says so. On a larger disk it starts again, and has what it answered.
 
-The status is 1 where something isn't so. It needs the port 5985 of this machine. It uses ./osc, which scripts/build makes first where it is missing or
-older than the crates, or the program that OSC names. OSC_SEED is the seed of its times, which the first line tells."""
+The status is 1 where something isn't so. It needs the port 5985 of this machine. OSC_SEED is the seed of its times, which the first line tells."""
 import os
 import pathlib
 import random
 import subprocess
-import sys
 import tempfile
 import time
 
-ROOT = pathlib.Path(__file__).resolve().parent.parent
-KEY, SECRET = "404142434445464748494a4b4c4d4e4f", "000102030405060708090a0b0c0d0e0f"
+from lib import Holder, Server, fail, given, osc
+
+PORT = 5985
 # A store has room for 1,024 resources, and each for 512 bytes.
 MOST, LONGEST = 1000, 500
 
 
-def fail(why):
-    print(f"kills: {why}", file=sys.stderr)
-    sys.exit(1)
+class Node(Server):
+    """A server over this store, and a client of it."""
 
-
-class Node:
-    """A server over the store, and a client of it."""
-
-    def __init__(self, program, folder, store):
-        self.program, self.folder, self.server, self.store = program, folder, None, store
-        settings = f'bind = "127.0.0.1:5985"\nkey = "{KEY}"\naudience = "door"\nopen = []\nstore = "{self.store}"\n'
-        (folder / "server.toml").write_text(settings)
-        words = ["--key", KEY, "--aud", "door", "--id", "01", "--secret", SECRET, "--scope", "/log:GET+POST+SUB", "--for", "1d"]
-        token = subprocess.run([program, "token", *words], capture_output=True, text=True, check=True).stdout.strip()
-        (folder / "client.toml").write_text(f'bind = "127.0.0.1:0"\npeer = "127.0.0.1:5985"\ntoken = "{token}"\nsecret = "{SECRET}"\n')
-
-    def start(self):
-        self.server = subprocess.Popen([self.program, "server", "--config", self.folder / "server.toml"], stderr=subprocess.PIPE, text=True)
-
-    def wait(self):
-        line = self.server.stderr.readline()
-        if not line.startswith("listening on"):
-            fail(f"the server doesn't start from its store: {line}{self.server.stderr.read()}")
-
-    def kill(self):
-        self.server.kill()
-        self.server.wait()
-        self.server.stderr.close()
-
-    def end(self):
-        if self.server is not None and self.server.poll() is None:
-            self.kill()
-
-    def words(self, method, path, *more):
-        return [self.program, "client", "--timeout", "20", "--method", method, "--path", path, *more, "--config", self.folder / "client.toml"]
+    def __init__(self, folder, store):
+        super().__init__(folder, PORT, "open = []", f'store = "{store}"')
+        self.store, self.client = store, Holder(folder, PORT, "/log:GET+POST+SUB")
 
     def held(self, path):
         """What the path holds: its bytes, or none where it has nothing."""
-        client = subprocess.run(self.words("GET", path, "--raw"), capture_output=True, check=False)
-        if client.returncode == 0:
-            return client.stdout
-        if client.stderr.startswith(b"c1 answer 4.04"):
+        ran = subprocess.run(self.client.words("GET", path, "--raw"), capture_output=True, check=False)
+        if ran.returncode == 0:
+            return ran.stdout
+        if ran.stderr.startswith(b"c1 answer 4.04"):
             return b""
-        fail(f"GET {path}: {client.stderr.decode()}")
+        fail(f"GET {path}: {ran.stderr.decode()}")
 
 
 def spelled(numbers):
@@ -81,11 +50,11 @@ def append(node, path, until):
     """Appends numbers until the server is killed at this time; gives how many were answered, and whether one more was under way."""
     answered = 0
     while len(spelled(range(1, answered + 2))) <= LONGEST:
-        client = subprocess.Popen(node.words("POST", path, "--text", f"{answered + 1} "), stdout=subprocess.PIPE, text=True)
-        while client.poll() is None and node.server.poll() is None and time.monotonic() < until:
+        client = subprocess.Popen(node.client.words("POST", path, "--text", f"{answered + 1} "), stdout=subprocess.PIPE, text=True)
+        while client.poll() is None and node.process.poll() is None and time.monotonic() < until:
             time.sleep(0.0005)
         if client.poll() is None:
-            node.end()
+            node.kill()
             # An answer that came before the kill may still be printed.
             time.sleep(0.05)
             if client.poll() is None:
@@ -94,11 +63,11 @@ def append(node, path, until):
                 return answered, True
         said = client.stdout.read().split()
         if said[:2] != ["c1", "answer"] or said[2] not in ("2.01", "2.04"):
-            if node.server.poll() is None:
+            if node.process.poll() is None:
                 fail(f"POST {path}: {' '.join(said)}")
             return answered, True
         answered += 1
-        if node.server.poll() is not None or time.monotonic() >= until:
+        if node.process.poll() is not None or time.monotonic() >= until:
             break
     return answered, False
 
@@ -112,23 +81,18 @@ def check(path, held, answered, more):
 
 
 def main():
-    kills = int(sys.argv[1]) if len(sys.argv) > 1 else 1000
+    kills = given(1000)
     if not 0 < kills <= MOST:
         fail(f"at most {MOST} kills, each with a path of its own")
-    program = os.environ.get("OSC")
-    if not program:
-        subprocess.run(["bash", ROOT / "scripts/build"], check=True, stdout=sys.stderr)
-        program = ROOT / "osc"
-    program = pathlib.Path(program).resolve()
     seed = int(os.environ.get("OSC_SEED", random.randrange(1 << 32)))
     times = random.Random(seed)
     print(f"kills: {kills}, seed {seed}", flush=True)
     with tempfile.TemporaryDirectory(dir=os.environ.get("OSC_FOLDER")) as folder:
-        node = Node(program, pathlib.Path(folder), pathlib.Path(folder) / "store")
+        node = Node(pathlib.Path(folder), pathlib.Path(folder) / "store")
         try:
             total, found = kill_all(node, kills, times)
         finally:
-            node.end()
+            node.kill()
     print(f"kills: {total} numbers were answered, and each is there in order, once; {found} that were under way are there too")
     with tempfile.TemporaryDirectory() as folder:
         small = pathlib.Path(folder) / "small"
@@ -136,11 +100,11 @@ def main():
         if subprocess.run(["mount", "-t", "tmpfs", "-o", "size=512k", "tmpfs", small], capture_output=True, check=False).returncode != 0:
             print("kills: left out: a full disk, since no folder can be mounted")
             return
-        node = Node(program, pathlib.Path(folder), small / "store")
+        node = Node(pathlib.Path(folder), small / "store")
         try:
             print(f"kills: a disk was full after {fill(node, small)} numbers, and each is there")
         finally:
-            node.end()
+            node.kill()
             subprocess.run(["umount", small], check=True)
 
 
@@ -149,18 +113,16 @@ def fill(node, small):
     node.start()
     node.wait()
     was = {}
-    while node.server.poll() is None:
+    while node.process.poll() is None:
         path = f"/log/{len(was)}"
         was[path] = append(node, path, time.monotonic() + 3600)
-    said = node.server.stderr.read()
-    if node.server.returncode != 4 or said != f"store {node.store}: the disk or the file is full\n":
-        fail(f"on a full disk the server ends with status {node.server.returncode}: {said}")
+    said = node.said().split("\n", 1)[1]
+    if node.process.returncode != 4 or said != f"store {node.store}: the disk or the file is full\n":
+        fail(f"on a full disk the server ends with status {node.process.returncode}: {said}")
     subprocess.run(["mount", "-o", "remount,size=8m", small], check=True)
-    node.start()
-    node.wait()
-    for path, (answered, more) in was.items():
-        check(path, node.held(path), answered, more)
-    node.kill()
+    with node:
+        for path, (answered, more) in was.items():
+            check(path, node.held(path), answered, more)
     return sum(answered for answered, _ in was.values())
 
 
@@ -179,18 +141,16 @@ def kill_all(node, kills, times):
         for before in list(was)[-2:]:
             check(before, node.held(before), *was[before])
         was[path] = append(node, path, time.monotonic() + times.random() * 0.5)
-        node.end()
+        node.kill()
         total += was[path][0]
-    node.start()
-    node.wait()
     listed = {}
-    for path, (answered, more) in was.items():
-        held = node.held(path)
-        found += check(path, held, answered, more)
-        if held:
-            listed[path] = len(held)
-    node.kill()
-    lines = subprocess.run([node.program, "store", node.store], capture_output=True, text=True, check=True).stdout.splitlines()
+    with node:
+        for path, (answered, more) in was.items():
+            held = node.held(path)
+            found += check(path, held, answered, more)
+            if held:
+                listed[path] = len(held)
+    lines = subprocess.run([osc(), "store", node.store], capture_output=True, text=True, check=True).stdout.splitlines()
     if lines != [f"resource {path} none {listed[path]} bytes" for path in sorted(listed)]:
         fail(f"osc store lists {lines}")
     return total, found

@@ -1,7 +1,6 @@
-#!/usr/bin/env python3
 """Whether posts and requests that were captured on their way do a holder harm, by sockets on loopback.
 
-    bench/replays [CALLS]
+    bash bench/run replays [CALLS]
 
 A token's holder makes CALLS calls, 50 where they are left out, one after the other: each posts the token and asks once. Meanwhile a captured post of
 its token comes again 200 times a second from another port, each time under a new message ID:
@@ -10,22 +9,19 @@ its token comes again 200 times a second from another port, each time under a ne
   context once in eight calls: one in eight may fail;
 - the same under another nonce each time, which no server can tell from a post of the holder's own: any call may fail.
 Then a request is held back for 3 seconds at a server whose contexts count for 2 seconds. It has to be refused without protection, and so has the post
-that came before it; a new call has to be answered. The status is 1 where something isn't so. It needs the ports 5983 and 5990 of this machine. It
-uses ./osc, which scripts/build makes first where it is missing or older than the crates, or the program that OSC names."""
+that came before it; a new call has to be answered. The status is 1 where something isn't so. It needs the ports 5983 and 5990 of this machine."""
 import os
 import pathlib
 import select
 import socket
-import subprocess
 import sys
 import tempfile
 import threading
 import time
 
-ROOT = pathlib.Path(__file__).resolve().parent.parent
-SERVER, RELAY = ("127.0.0.1", 5983), ("127.0.0.1", 5990)
-KEY, SECRET = "404142434445464748494a4b4c4d4e4f", "000102030405060708090a0b0c0d0e0f"
-SETTINGS = f'bind = "{SERVER[0]}:{SERVER[1]}"\nkey = "{KEY}"\naudience = "door"\nopen = []\n'
+from lib import HOST, Holder, Server, given
+
+SERVER, RELAY, SCOPE = (HOST, 5983), (HOST, 5990), "/e:GET+PUT"
 # How often a second a post comes again, how many seconds a datagram takes, how many posts of a token id a server knows, and the number of the
 # OSCORE option.
 RATE, DELAY, KNOWN, OSCORE = 200, 0.02, 8, 9
@@ -164,39 +160,13 @@ class Relay:
         self.outer.close()
 
 
-class Server:
-    def __init__(self, osc, work, settings):
-        (work / "server.toml").write_text(settings)
-        self.log = work / "log"
-        with open(self.log, "w") as log:
-            self.process = subprocess.Popen([osc, "server", "--log", "--config", work / "server.toml"], stdin=subprocess.DEVNULL, stderr=log)
-        until = time.monotonic() + 10
-        while "listening" not in self.log.read_text():
-            if self.process.poll() is not None or time.monotonic() > until:
-                sys.exit(f"replays: the server doesn't listen: {self.log.read_text()}")
-            time.sleep(0.02)
-
-    def __enter__(self):
-        return self
-
-    def __exit__(self, *_):
-        self.process.terminate()
-        self.process.wait()
+def server(work, *more):
+    return Server(work, SERVER[1], "open = []", *more, words=["--log"])
 
 
-class Holder:
-    def __init__(self, osc, work):
-        self.osc, self.work = osc, work
-        made = [osc, "token", "--key", KEY, "--aud", "door", "--id", "01", "--secret", SECRET, "--scope", "/e:GET+PUT", "--for", "1d"]
-        self.token = subprocess.run(made, check=True, capture_output=True, text=True).stdout.strip()
-
-    def call(self, peer, seconds=10):
-        """What one call prints, and whether it was answered."""
-        settings = f'bind = "127.0.0.1:0"\npeer = "{peer[0]}:{peer[1]}"\ntoken = "{self.token}"\nsecret = "{SECRET}"\n'
-        words = [self.osc, "client", "--timeout", str(seconds), "--method", "PUT", "--path", "/e", "--text", "hi"]
-        ended = subprocess.run(words, input=settings, capture_output=True, text=True)
-        printed = ended.stdout.strip()
-        return printed or ended.stderr.strip(), ended.returncode == 0 and printed.startswith("c1 answer 2.0")
+def call(holder, timeout=10):
+    """What one call prints."""
+    return holder.ask("PUT", "/e", "--text", "hi", timeout=timeout)
 
 
 def once_more(datagram):
@@ -211,34 +181,34 @@ def once_more(datagram):
 
 def answered(what, told, again, least):
     """Says how many of the calls were answered."""
-    good = sum(it for _, it in told)
+    others = [(number, it) for number, it in enumerate(told, 1) if not it.startswith("c1 answer 2.0")]
+    good = len(told) - len(others)
     print(f"replays: {what} comes again {again.told()}: {good} of {len(told)} calls are answered" + ("" if good >= least else f", and {least} should be"))
-    for number, (printed, it) in enumerate(told, 1):
-        if not it and good < least:
-            print(f"replays: call {number}: {printed}")
+    for number, printed in others if good < least else ():
+        print(f"replays: call {number}: {printed}")
     return good >= least
 
 
-def newest_again(osc, work, calls):
-    with Server(osc, work, SETTINGS):
-        holder = Holder(osc, work)
+def newest_again(work, calls):
+    with server(work):
+        holder = Holder(work, RELAY[1], SCOPE)
         with Again() as again, Relay(again):
-            told = [holder.call(RELAY) for _ in range(calls)]
+            told = [call(holder) for _ in range(calls)]
     return answered("the newest post", told, again, calls)
 
 
-def first_again(osc, work, calls, what, least, *change):
-    with Server(osc, work, SETTINGS):
-        holder = Holder(osc, work)
+def first_again(work, calls, what, least, *change):
+    with server(work):
+        holder = Holder(work, RELAY[1], SCOPE)
         with Relay() as relay:
-            holder.call(RELAY)
+            call(holder)
         with Again(*change) as again, Relay(delay=DELAY):
             again.datagram = relay.post
-            told = [holder.call(RELAY) for _ in range(calls)]
+            told = [call(holder) for _ in range(calls)]
     return answered(what, told, again, least)
 
 
-def held_back(osc, work):
+def held_back(work):
     """A request that is held back for longer than its context counts."""
     status = True
 
@@ -247,40 +217,29 @@ def held_back(osc, work):
         status &= is_ == wanted
         print(f"replays: {what}: {is_}" + ("" if is_ == wanted else f", and should be {wanted}"))
 
-    with Server(osc, work, SETTINGS + "context_seconds = 2\n") as server:
-        holder = Holder(osc, work)
+    with server(work, "context_seconds = 2") as node:
+        holder = Holder(work, RELAY[1], SCOPE)
         with Relay(holds_back=True) as relay:
-            told("a call whose request is held back", holder.call(RELAY, 1)[0], "c1 open")
+            told("a call whose request is held back", call(holder, 1), "c1 open")
         time.sleep(3)
         protection = {True: "protected", False: "unprotected"}
         for what, datagram in ("its request 3 seconds later", relay.request), ("its post again", relay.post):
             answer, protected = once_more(datagram)
             told(what, f"{answer} {protection[protected]}", "4.01 unprotected")
-        told("a new call", holder.call(SERVER)[0], "c1 answer 2.01 none -")
-        reasons = [line.rsplit(" ", 1)[1] for line in server.log.read_text().splitlines() if " refused 4.01" in line]
+        holder.asks_at(SERVER[1])
+        told("a new call", call(holder), "c1 answer 2.01 none -")
+        reasons = [line.rsplit(" ", 1)[1] for line in node.said().splitlines() if " refused 4.01" in line]
         told("the reasons of the two refusals", " ".join(reasons), "(22) (23)")
     return status
 
 
-def main(arguments):
-    if len(arguments) > 1 or not all(it.isdecimal() for it in arguments):
-        print("replays: it takes a number of calls, or nothing", file=sys.stderr)
-        return 2
-    calls = int(arguments[0]) if arguments else 50
-    osc = os.environ.get("OSC")
-    if not osc:
-        subprocess.run(["bash", ROOT / "scripts/build"], check=True, stdout=sys.stderr)
-        osc = ROOT / "osc"
-    with tempfile.TemporaryDirectory() as folder:
-        work = pathlib.Path(folder)
-        good = [
-            newest_again(osc, work, calls),
-            first_again(osc, work, calls, "the first post", calls - calls // KNOWN - 1),
-            first_again(osc, work, calls, "the first post under other nonces", 0, with_other_nonce),
-            held_back(osc, work),
-        ]
-    return 0 if all(good) else 1
-
-
-if __name__ == "__main__":
-    sys.exit(main(sys.argv[1:]))
+calls = given(50)
+with tempfile.TemporaryDirectory() as folder:
+    work = pathlib.Path(folder)
+    good = [
+        newest_again(work, calls),
+        first_again(work, calls, "the first post", calls - calls // KNOWN - 1),
+        first_again(work, calls, "the first post under other nonces", 0, with_other_nonce),
+        held_back(work),
+    ]
+sys.exit(0 if all(good) else 1)

@@ -1,29 +1,25 @@
-#!/usr/bin/env python3
 """Whether each line of a log as JSON is an object that says what happened, while a client asks and a stranger floods.
 
-    bench/log [SECONDS]
+    bash bench/run log [SECONDS]
 
 A server runs with `--log json`. For SECONDS, 60 where they are left out, `osc client` posts its token and asks, again and again, and another socket sends unprotected
 requests as fast as it can: by turns one that is refused, and a GET of an open path. Then each line but `listening on` has to be an object with the members of its level and
 a time that doesn't go back; each request of the client has to be served under the token's id; of one second at most 20 refusals and 20 sent lines are told, and told and
 left out they have to be as many as the server sent. No line may have the key, the secret, the token or the payload in it. The status is 1 where something isn't so. It needs
-the port 5983 of this machine. It uses ./osc, which scripts/build makes first where it is missing or older than the crates, or the program that OSC names."""
+the port 5983 of this machine."""
 import collections
 import datetime
 import json
-import os
 import pathlib
 import socket
-import subprocess
 import sys
 import tempfile
 import threading
 import time
 
-ROOT = pathlib.Path(__file__).resolve().parent.parent
-SERVER = ("127.0.0.1", 5983)
-KEY, SECRET, ID, PAYLOAD = "404142434445464748494a4b4c4d4e4f", "000102030405060708090a0b0c0d0e0f", "a1b2", "5ec2e7"
-SETTINGS = f'bind = "{SERVER[0]}:{SERVER[1]}"\nkey = "{KEY}"\naudience = "door"\nopen = ["/o"]\n'
+from lib import HOST, KEY, SECRET, Holder, Server, given
+
+PORT, ID, PAYLOAD = 5983, "a1b2", "5ec2e7"
 # The members of the lines of each level; of a line of how many were left out they are others.
 MEMBERS = {
     "served": {"code", "level", "method", "path", "peer", "time", "token"},
@@ -44,7 +40,7 @@ def flood(ends, sent):
             number += 1
             try:
                 # GET /e is refused, GET /o is open.
-                out.sendto(bytes([0x50, 1, number >> 8 & 255, number & 255, 0xB1, 0x65 if number % 2 else 0x6F]), SERVER)
+                out.sendto(bytes([0x50, 1, number >> 8 & 255, number & 255, 0xB1, 0x65 if number % 2 else 0x6F]), (HOST, PORT))
                 sent["asked"] += 1
             except BlockingIOError:
                 pass
@@ -55,15 +51,11 @@ def flood(ends, sent):
                 pass
 
 
-def client(osc, work, ends):
+def client(holder, ends):
     """How many requests were asked and answered until then."""
     asked = 0
     while time.monotonic() < ends:
-        told = subprocess.run(
-            [osc, "client", "--timeout", "20", "--method", "PUT", "--path", "/e", "--payload", PAYLOAD, "--config", f"{work}/client.toml"],
-            stdout=subprocess.PIPE, check=False,
-        )
-        asked += told.stdout.startswith(b"c1 answer 2.0")
+        asked += holder.ask("PUT", "/e", "--payload", PAYLOAD).startswith("c1 answer 2.0")
     return asked
 
 
@@ -107,38 +99,26 @@ def wrong_of(lines, told):
 
 
 def main():
-    seconds = float(sys.argv[1]) if len(sys.argv) > 1 else 60
-    osc = os.environ.get("OSC")
-    if not osc:
-        subprocess.run(["bash", "scripts/build"], cwd=ROOT, stdout=sys.stderr, check=True)
-        osc = ROOT / "osc"
+    seconds = given(60.0)
     with tempfile.TemporaryDirectory() as work:
-        work = pathlib.Path(work)
-        (work / "server.toml").write_text(SETTINGS)
-        words = ["token", "--key", KEY, "--secret", SECRET, "--aud", "door", "--id", ID, "--scope", "/e:GET+PUT", "--for", "1h"]
-        token = subprocess.run([osc, *words], stdout=subprocess.PIPE, text=True, check=True).stdout.strip()
-        (work / "client.toml").write_text(f'bind = "127.0.0.1:0"\npeer = "{SERVER[0]}:{SERVER[1]}"\ntoken = "{token}"\nsecret = "{SECRET}"\n')
-        with open(work / "log", "wb") as log:
-            server = subprocess.Popen([osc, "server", "--log", "json", "--config", work / "server.toml"], stderr=log)
-            time.sleep(0.5)
+        holder = Holder(pathlib.Path(work), PORT, "/e:GET+PUT", ID)
+        with Server(pathlib.Path(work), PORT, 'open = ["/o"]', words=["--log", "json"]) as server:
             told = collections.Counter()
             ends = time.monotonic() + seconds
             stranger = threading.Thread(target=flood, args=(ends, told))
             stranger.start()
-            told["client"] = client(osc, work, ends)
+            told["client"] = client(holder, ends)
             stranger.join()
             time.sleep(1.5)
             # The next line of a later second tells how many of each kind were left out before.
             with socket.socket(socket.AF_INET, socket.SOCK_DGRAM) as out:
-                out.sendto(bytes([0x50, 1, 0, 0, 0xB1, 0x65]), SERVER)
+                out.sendto(bytes([0x50, 1, 0, 0, 0xB1, 0x65]), (HOST, PORT))
             time.sleep(0.5)
-            server.terminate()
-            server.wait()
-        text = (work / "log").read_text()
+        text = server.said()
     lines = text.splitlines()
     wrong = [] if lines and lines[0].startswith("listening on ") else ["no line `listening on`"]
     wrong += wrong_of(lines[1:], told)
-    wrong += [f"a line has `{secret[:8]}..` in it" for secret in (KEY, SECRET, token, PAYLOAD) if secret in text]
+    wrong += [f"a line has `{secret[:8]}..` in it" for secret in (KEY, SECRET, holder.token, PAYLOAD) if secret in text]
     if not told["client"]:
         wrong.append("the client was never answered")
     for line in wrong[:20]:
@@ -146,5 +126,4 @@ def main():
     sys.exit(1 if wrong else 0)
 
 
-if __name__ == "__main__":
-    main()
+main()
