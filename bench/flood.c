@@ -4,24 +4,17 @@
    or a proxy isn't free again. Where most datagrams of a kind are dropped at their first bytes, calls above 100 times that kind's own median are counted
    beside it.
 
-   The heap is counted at malloc, free and realloc, by what was asked for. Each flood is run several times, and a call's time is the least of these runs, since
-   other work on the machine stops one run here and another there. */
-#include <stddef.h>
-#include <stdint.h>
-#include <stdio.h>
-#include <stdlib.h>
-#include <string.h>
+   Each flood is run several times, and a call's time is the least of these runs, since other work on the machine stops one run here and another there. */
+#define MARK 65521
+#include "measured.h"
+
 #include <time.h>
 
 uint64_t osc_bench_flood_valid(uint16_t number, uint8_t *out, size_t room);
 uint64_t osc_bench_flood_server(const uint8_t *flood, size_t length, uint32_t count);
 uint64_t osc_bench_flood_proxy(uint8_t open, const uint8_t *flood, size_t length, uint32_t count);
 
-void *__real_malloc(size_t size);
-void *__real_realloc(void *block, size_t size);
-void __real_free(void *block);
-
-enum { COUNT = 200000, KINDS = 5, RUNS = 5, MARK = 65521, LIMIT = 1152, TOKENS = 1000, TIMES = 100 };
+enum { COUNT = 200000, KINDS = 5, RUNS = 5, LIMIT = 1152, TOKENS = 1000, TIMES = 100 };
 
 /* ---- limits, in bytes, none above the figures of docs/LIBRARY.md */
 
@@ -34,18 +27,7 @@ enum { SERVER_LIMIT = 18177 + 160 + 128 * 665 + REPEATS };
 /* A proxy, 64 exchanges, and the messages that may be open to one target and to the peers of these exchanges: 17 and 64. */
 enum { PROXY_LIMIT = 105345 + 104 + 63 * 24 + (17 + 64) * LIMIT + REPEATS };
 
-/* ---- the heap, and the marks */
-
-/* In front of each block: its size. */
-typedef union {
-    size_t size;
-    max_align_t align;
-} header;
-
-static size_t live, peak;
-
-/* The block that is handed out at a mark: it isn't in the heap, so that taking it costs no more than the clock. */
-static max_align_t mark_block[MARK / sizeof(max_align_t) + 1];
+/* ---- the marks */
 
 /* What the marks of one flood tell: the first comes before the node, and two behind it. */
 static struct {
@@ -91,40 +73,6 @@ static void *at_mark(void) {
         flood_now.end = held;
     }
     return mark_block;
-}
-
-static void grow(size_t size) {
-    live += size;
-    if (live > peak) peak = live;
-}
-
-void *__wrap_malloc(size_t size) {
-    if (size == MARK) return at_mark();
-    header *block = __real_malloc(sizeof(header) + size);
-    if (!block) return NULL;
-    block->size = size;
-    grow(size);
-    return block + 1;
-}
-
-void __wrap_free(void *bytes) {
-    if (!bytes || bytes == mark_block) return;
-    header *block = (header *)bytes - 1;
-    live -= block->size;
-    __real_free(block);
-}
-
-void *__wrap_realloc(void *bytes, size_t size) {
-    if (!bytes) return __wrap_malloc(size);
-    header *block = (header *)bytes - 1;
-    size_t before = block->size;
-    block = __real_realloc(block, sizeof(header) + size);
-    if (!block) return NULL;
-    block->size = size;
-    /* While the bytes move, both blocks may be held. */
-    if (live + size > peak) peak = live + size;
-    live = live - before + size;
-    return block + 1;
 }
 
 /* ---- the datagrams */
@@ -370,7 +318,7 @@ static void row_of_all(void) {
 
 typedef uint64_t (*flooded)(void);
 
-static void row(const char *name, uint64_t seed, void (*one)(uint32_t place), flooded run, size_t limit, int is_proxy, uint64_t least_open, uint64_t most_open) {
+static void flood_row(const char *name, uint64_t seed, void (*one)(uint32_t place), flooded run, size_t limit, int is_proxy, uint64_t least_open, uint64_t most_open) {
     state = seed;
     flood_length = 0;
     for (uint32_t place = 0; place < COUNT; place++) one(place);
@@ -402,7 +350,7 @@ static uint64_t at_server(void) { return osc_bench_flood_server(flood, flood_len
 static uint64_t at_proxy(void) { return osc_bench_flood_proxy(64, flood, flood_length, COUNT); }
 static uint64_t at_idle_proxy(void) { return osc_bench_flood_proxy(0, flood, flood_length, COUNT); }
 
-static void at_servers(const char *name, uint64_t seed, void (*one)(uint32_t place)) { row(name, seed, one, at_server, SERVER_LIMIT, 0, 0, 0); }
+static void at_servers(const char *name, uint64_t seed, void (*one)(uint32_t place)) { flood_row(name, seed, one, at_server, SERVER_LIMIT, 0, 0, 0); }
 
 int main(void) {
     setvbuf(stdout, NULL, _IOLBF, 0);
@@ -429,11 +377,11 @@ int main(void) {
     at_servers("posts of 999 other tokens that open", 5, good_token);
     row_of_all();
     printf("Proxy::on_datagram; it may hold %d bytes. Last: how many exchanges were open behind the flood; in the end it is free\n", PROXY_LIMIT);
-    row("random bytes, 64 exchanges open", 6, random_one, at_proxy, PROXY_LIMIT, 1, 64, 64);
-    row("valid requests, altered, 64 open", 7, mutated_for_proxy, at_proxy, PROXY_LIMIT, 1, 64, 64);
-    row("ACKs, Resets and responses, 64 open", 8, from_anyone, at_proxy, PROXY_LIMIT, 1, 64, 64);
-    row("the same from the target itself, 64 open", 9, from_target, at_proxy, PROXY_LIMIT, 1, 0, 64);
-    row("requests that are forwarded, none open", 10, forwarded, at_idle_proxy, PROXY_LIMIT, 1, 1, 64);
+    flood_row("random bytes, 64 exchanges open", 6, random_one, at_proxy, PROXY_LIMIT, 1, 64, 64);
+    flood_row("valid requests, altered, 64 open", 7, mutated_for_proxy, at_proxy, PROXY_LIMIT, 1, 64, 64);
+    flood_row("ACKs, Resets and responses, 64 open", 8, from_anyone, at_proxy, PROXY_LIMIT, 1, 64, 64);
+    flood_row("the same from the target itself, 64 open", 9, from_target, at_proxy, PROXY_LIMIT, 1, 0, 64);
+    flood_row("requests that are forwarded, none open", 10, forwarded, at_idle_proxy, PROXY_LIMIT, 1, 1, 64);
     row_of_all();
     if (failed) {
         puts("floods: something doesn't hold");

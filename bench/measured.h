@@ -1,4 +1,5 @@
-/* How many bytes of the heap a call holds, and how deep a stack of its own it writes. Link with -Wl,--wrap=malloc,--wrap=realloc,--wrap=calloc,--wrap=free. */
+/* How many bytes of the heap a call holds, how many blocks it takes, and how deep a stack of its own it writes. The heap is counted by what was asked
+   for: link with -Wl,--wrap=malloc,--wrap=realloc,--wrap=free, and with --wrap=calloc where that is called. */
 #include <stddef.h>
 #include <stdint.h>
 #include <stdio.h>
@@ -17,25 +18,45 @@ void __wrap_free(void *block);
 /* In front of each block: its size. */
 typedef union {
     size_t size;
-    long double align;
+    max_align_t align;
 } header;
 
-static size_t live, peak;
+/* Blocks: calls of malloc, of realloc without a block, and of realloc with one that has to grow. */
+static size_t live, peak, blocks;
 
 /* A block that would take what is held above this is refused. */
 static size_t cap = SIZE_MAX;
 
-static void grow(size_t size) {
-    live += size;
-    if (live > peak) peak = live;
+#ifdef MARK
+/* The block that is handed out where one of MARK bytes is taken: it isn't in the heap, so that taking it costs no more than what is done at the mark. */
+static max_align_t mark_block[MARK / sizeof(max_align_t) + 1];
+static void *at_mark(void);
+#endif
+
+enum { STACK = 4 << 20, PAINT = 0xa5 };
+static uint8_t stack[STACK] __attribute__((aligned(64)));
+
+/* How many blocks are taken when the stack is painted again, where that is asked. */
+static size_t paint_at;
+
+/* Paints what is free of the stack, from within a call; below the frame 128 bytes are left. */
+static __attribute__((noinline)) void paint_again(void) {
+    uint8_t *here = __builtin_frame_address(0);
+    memset(stack, PAINT, (size_t)(here - stack) - 128);
 }
 
 void *__wrap_malloc(size_t size) {
+#ifdef MARK
+    if (size == MARK) return at_mark();
+#endif
     if (size > cap || live > cap - size) return NULL;
+    blocks++;
+    if (blocks == paint_at) paint_again();
     header *block = __real_malloc(sizeof(header) + size);
     if (!block) return NULL;
     block->size = size;
-    grow(size);
+    live += size;
+    if (live > peak) peak = live;
     return block + 1;
 }
 
@@ -45,6 +66,9 @@ void *__wrap_calloc(size_t count, size_t size) {
 }
 
 void __wrap_free(void *bytes) {
+#ifdef MARK
+    if (bytes == mark_block) return;
+#endif
     if (!bytes) return;
     header *block = (header *)bytes - 1;
     live -= block->size;
@@ -59,14 +83,13 @@ void *__wrap_realloc(void *bytes, size_t size) {
     block = __real_realloc(block, sizeof(header) + size);
     if (!block) return NULL;
     block->size = size;
+    if (size > before) blocks++;
     /* While the bytes move, both blocks may be held. */
     if (live + size > peak) peak = live + size;
     live = live - before + size;
     return block + 1;
 }
 
-enum { STACK = 4 << 20, PAINT = 0xa5 };
-static uint8_t stack[STACK] __attribute__((aligned(64)));
 static ucontext_t outside, inside;
 static void (*called)(void);
 

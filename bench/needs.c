@@ -1,11 +1,5 @@
-/* What nodes need: the most bytes of the heap that a call of osc_bench held, how many blocks it took, and how deep the stack went. The heap is
-   counted at malloc, free and realloc, by what was asked for; the stack is one of this program's own, painted before each call. */
-#include <stddef.h>
-#include <stdint.h>
-#include <stdio.h>
-#include <stdlib.h>
-#include <string.h>
-#include <ucontext.h>
+/* What nodes need: the most bytes of the heap that a call of osc_bench held, how many blocks it took, and how deep the stack went. */
+#include "measured.h"
 
 uint64_t osc_bench_serve(uint16_t resources, uint32_t apart, const uint8_t *datagram, size_t length, uint64_t rounds);
 uint64_t osc_bench_serve_gets(uint8_t contexts, uint16_t rounds);
@@ -16,103 +10,10 @@ uint64_t osc_bench_post(uint8_t others, uint64_t rounds);
 uint64_t osc_bench_client(uint8_t posts);
 uint64_t osc_bench_forward(uint8_t requests);
 
-void *__real_malloc(size_t size);
-void *__real_realloc(void *block, size_t size);
-void __real_free(void *block);
-
-/* In front of each block: its size. */
-typedef union {
-    size_t size;
-    max_align_t align;
-} header;
-
-/* Blocks: calls of malloc, of realloc without a block, and of realloc with one that has to grow. */
-static size_t live, peak, blocks;
-
-enum { STACK = 4 << 20, PAINT = 0xa5 };
-static uint8_t stack[STACK] __attribute__((aligned(64)));
-
-/* How many blocks are taken when the stack is painted anew, where that is asked. */
-static size_t paint_at;
-
-/* Paints what is free of the stack, from within a call; below the frame 128 bytes are left. */
-static __attribute__((noinline)) void paint_anew(void) {
-    uint8_t *here = __builtin_frame_address(0);
-    memset(stack, PAINT, (size_t)(here - stack) - 128);
-}
-
-static void grow(size_t size) {
-    blocks++;
-    if (blocks == paint_at) paint_anew();
-    live += size;
-    if (live > peak) peak = live;
-}
-
-void *__wrap_malloc(size_t size) {
-    header *block = __real_malloc(sizeof(header) + size);
-    if (!block) return NULL;
-    block->size = size;
-    grow(size);
-    return block + 1;
-}
-
-void __wrap_free(void *bytes) {
-    if (!bytes) return;
-    header *block = (header *)bytes - 1;
-    live -= block->size;
-    __real_free(block);
-}
-
-void *__wrap_realloc(void *bytes, size_t size) {
-    if (!bytes) return __wrap_malloc(size);
-    header *block = (header *)bytes - 1;
-    size_t before = block->size;
-    block = __real_realloc(block, sizeof(header) + size);
-    if (!block) return NULL;
-    block->size = size;
-    if (size > before) blocks++;
-    /* While the bytes move, both blocks may be held. */
-    if (live + size > peak) peak = live + size;
-    live = live - before + size;
-    return block + 1;
-}
-
-static ucontext_t outside, inside;
-static uint64_t (*called)(void);
-static uint64_t answer;
-
-static void call(void) { answer = called(); }
-
-typedef struct {
-    uint64_t answer;
-    size_t heap, stack;
-} need;
-
-/* What the call needs. What glibc itself needs for the switch is taken off by `nothing`. */
-static need need_of(uint64_t (*of)(void)) {
-    memset(stack, PAINT, STACK);
-    called = of;
-    size_t before = live;
-    peak = live;
-    getcontext(&inside);
-    inside.uc_stack.ss_sp = stack;
-    inside.uc_stack.ss_size = STACK;
-    inside.uc_link = &outside;
-    makecontext(&inside, call, 0);
-    swapcontext(&outside, &inside);
-    size_t clean = 0;
-    while (clean < STACK && stack[clean] == PAINT) clean++;
-    if (live != before) {
-        fprintf(stderr, "needs: %zu bytes weren't given back\n", live - before);
-        exit(1);
-    }
-    return (need){answer, peak - before, STACK - clean};
-}
-
 /* A confirmable GET of /r000, which is open. */
 static const uint8_t GET[] = {0x44, 0x01, 0x00, 0x01, 1, 2, 3, 4, 0xb4, 'r', '0', '0', '0'};
 
-static uint64_t nothing(void) { return 1; }
+static uint64_t no_call(void) { return 1; }
 static uint64_t server_alone(void) { osc_bench_serve(0, 1, GET, sizeof GET, 0); return 1; }
 static uint64_t server_of_1(void) { osc_bench_serve(1, 1, GET, sizeof GET, 0); return 1; }
 static uint64_t server_of_1024(void) { osc_bench_serve(1024, 1, GET, sizeof GET, 0); return 1; }
@@ -135,9 +36,19 @@ static uint64_t proxy_alone(void) { osc_bench_forward(0); return 1; }
 static uint64_t proxy_1(void) { return osc_bench_forward(1); }
 static uint64_t proxy_64(void) { return osc_bench_forward(64); }
 
+static uint64_t (*asked)(void);
+static uint64_t answer;
+
+static void call_asked(void) { answer = asked(); }
+
 static need measured(uint64_t (*of)(void)) {
-    need it = need_of(of);
-    if (!it.answer) {
+    asked = of;
+    need it = need_of(call_asked);
+    if (it.left != 0) {
+        fprintf(stderr, "needs: %zu bytes weren't given back\n", it.left);
+        exit(1);
+    }
+    if (!answer) {
         fprintf(stderr, "needs: a call did not do what it was to do\n");
         exit(1);
     }
@@ -188,7 +99,7 @@ static size_t stack_behind(uint64_t (*set_up)(void), uint64_t (*of)(void)) {
     set_up();
     size_t taken = blocks - before;
     paint_at = blocks + taken;
-    size_t depth = measured(of).stack;
+    size_t depth = measured(of).deep;
     paint_at = 0;
     return depth;
 }
@@ -196,19 +107,19 @@ static size_t stack_behind(uint64_t (*set_up)(void), uint64_t (*of)(void)) {
 static void heap_row(const char *name, size_t bytes) { printf("%-52s %9zu bytes\n", name, bytes); }
 
 int main(void) {
-    size_t frame = measured(nothing).stack;
+    size_t frame = measured(no_call).deep;
     need empty = measured(server_alone), one = measured(server_of_1), many = measured(server_of_1024);
     puts("Heap");
-    heap_row("Server, without resources and contexts", empty.heap);
-    heap_row("for each open resource of 4 bytes, 1 of 1,024", (many.heap - one.heap) / 1023);
-    heap_row("for each security context, 1 of 64", (measured(contexts_64).heap - measured(contexts_1).heap) / 63);
-    heap_row("a GET, while it is served and noted", measured(get_once).heap - one.heap);
-    heap_row("what 1,000 GETs leave for repeats, and the last", measured(get_often).heap - one.heap);
-    heap_row("Client, with a token of 73 bytes", measured(client_alone).heap);
-    heap_row("its post, while it is open", measured(client_posting).heap - measured(client_alone).heap);
-    heap_row("Proxy, of one target", measured(proxy_alone).heap);
-    heap_row("the first open exchange", measured(proxy_1).heap - measured(proxy_alone).heap);
-    heap_row("for each open exchange, 1 of 64", (measured(proxy_64).heap - measured(proxy_1).heap) / 63);
+    heap_row("Server, without resources and contexts", empty.most);
+    heap_row("for each open resource of 4 bytes, 1 of 1,024", (many.most - one.most) / 1023);
+    heap_row("for each security context, 1 of 64", (measured(contexts_64).most - measured(contexts_1).most) / 63);
+    heap_row("a GET, while it is served and noted", measured(get_once).most - one.most);
+    heap_row("what 1,000 GETs leave for repeats, and the last", measured(get_often).most - one.most);
+    heap_row("Client, with a token of 73 bytes", measured(client_alone).most);
+    heap_row("its post, while it is open", measured(client_posting).most - measured(client_alone).most);
+    heap_row("Proxy, of one target", measured(proxy_alone).most);
+    heap_row("the first open exchange", measured(proxy_1).most - measured(proxy_alone).most);
+    heap_row("for each open exchange, 1 of 64", (measured(proxy_64).most - measured(proxy_1).most) / 63);
     puts("Blocks of the heap");
     blocks_row("a GET that isn't protected", open_get);
     blocks_row("a protected GET", protected_get);
@@ -216,15 +127,15 @@ int main(void) {
     blocks_row("a forged request", osc_bench_serve_forged);
     blocks_row("Client::ask", ask);
     puts("Stack");
-    heap_row("Server::on_datagram, a GET that isn't protected", measured(get_once).stack - frame);
-    heap_row("Server::on_datagram, protected GETs", measured(gets).stack - frame);
-    heap_row("Server::on_datagram, protected POSTs", measured(posts).stack - frame);
+    heap_row("Server::on_datagram, a GET that isn't protected", measured(get_once).deep - frame);
+    heap_row("Server::on_datagram, protected GETs", measured(gets).deep - frame);
+    heap_row("Server::on_datagram, protected POSTs", measured(posts).deep - frame);
     heap_row("the same, protected GETs behind the token's post", stack_behind(no_gets, gets) - frame);
     heap_row("the same, protected POSTs behind the token's post", stack_behind(no_posts, posts) - frame);
     heap_row("the same, forged requests behind the token's post", stack_behind(no_forgeries, forgeries) - frame);
-    heap_row("ServerDesk::post", measured(token_post).stack - frame);
-    heap_row("Client::exchange", measured(client_posting).stack - frame);
+    heap_row("ServerDesk::post", measured(token_post).deep - frame);
+    heap_row("Client::exchange", measured(client_posting).deep - frame);
     heap_row("Client::ask", stack_behind(no_asks, asks) - frame);
-    heap_row("Proxy::on_datagram", measured(proxy_64).stack - frame);
+    heap_row("Proxy::on_datagram", measured(proxy_64).deep - frame);
     return 0;
 }
