@@ -1,4 +1,4 @@
-//! What `bench/secrets` calls with keys and texts that valgrind holds for undefined: each function does one thing under a key that
+//! What `bench/run secrets` calls with keys and texts that valgrind holds for undefined: each function does one thing under a key that
 //! its caller gives, so no compiler sees the bytes sooner.
 #![tactic(auto)]
 
