@@ -1,5 +1,5 @@
 # Completion of osc for bash: `source completion/osc.bash`, or copy it to /usr/share/bash-completion/completions/osc.
-# What is between the marks `words:` is written by `python3 scripts/words --write`, from the program's help.
+# What is between the marks `words:` is written by `python3 scripts/pages --write`, from the program's help.
 
 # words: words
 declare -gA _osc_words=(

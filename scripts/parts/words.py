@@ -1,29 +1,15 @@
-#!/usr/bin/env python3
-"""The words of osc, in its manual page and in its completion for bash, as the program itself tells them in its help.
+"""The words of osc in its manual page and in its completion for bash, as the program itself tells them in its help, and as the code has the keys of
+settings. They are between marks `words:`; all else in both files is written by hand. Each word is offered by the completion."""
 
-    scripts/words --check    status 1 where man/osc.1 or completion/osc.bash isn't what --write writes, or doesn't complete a word of the help
-    scripts/words --write    writes what is between the marks `words:` of both files; all else in them is written by hand
-
-It asks ./osc, or the program that OSC names, for `osc help` and for `osc help COMMAND` of each command, and reads the keys of settings in
-crates/osc_settings/src.
-"""
-
-import os
+import functools
 import re
 import subprocess
-import sys
-from pathlib import Path
 
-ROOT = Path(__file__).resolve().parent.parent
-PROGRAM = os.environ.get("OSC", str(ROOT / "osc"))
+from parts.shared import ROOT, Wrong, filled, osc, own, read
+
 MAN = ROOT / "man/osc.1"
 BASH = ROOT / "completion/osc.bash"
 SETTINGS = ROOT / "crates/osc_settings/src"
-
-
-def fail(why):
-    print(f"words: {why}", file=sys.stderr)
-    sys.exit(1)
 
 
 # ---- what the program tells
@@ -37,7 +23,7 @@ class Option:
     def __init__(self, line):
         found = self.LINE.match(line)
         if not found:
-            fail(f"this isn't an option as help shows one: {line}")
+            raise Wrong(f"osc help: this isn't an option as help shows one: {line}")
         self.short, self.name, joint, self.value, self.what = found.groups()
         self.may_lack_value = joint == " ["
 
@@ -49,13 +35,10 @@ class Help:
     """What `osc help`, or `osc help COMMAND`, says."""
 
     def __init__(self, *words):
-        told = subprocess.run([PROGRAM, "help", *words], capture_output=True, text=True, check=False)
-        if told.returncode != 0:
-            fail(f"osc help {' '.join(words)}: status {told.returncode}")
-        self.what = told.stdout.split("\n", 1)[0]
+        self.what, *told = osc("help", *words).split("\n")
         self.commands, self.arguments, self.options, self.usage, self.example = {}, {}, [], None, None
         part = None
-        for line in told.stdout.split("\n")[1:]:
+        for line in told:
             if line.startswith("Usage: "):
                 self.usage = line.removeprefix("Usage: ")
             elif line.startswith("Example: "):
@@ -71,16 +54,17 @@ class Help:
             elif line and part == "Options:":
                 self.options.append(Option(line))
             elif line:
-                fail(f"osc help {' '.join(words)} has a line that isn't known here: {line}")
+                raise Wrong(f"osc help {' '.join(words)}: a line that isn't known here: {line}")
 
     def words(self):
         return [word for option in self.options for word in option.words()]
 
 
 class Program:
+    """The program's version, and the help of each of its commands."""
+
     def __init__(self):
-        told = subprocess.run([PROGRAM, "--version"], capture_output=True, text=True, check=False)
-        self.version = told.stdout.split()[1].rstrip(",")
+        self.version = osc("--version").split()[1].rstrip(",")
         self.top = Help()
         self.commands = {name: Help(name) for name in self.top.commands if name != "help"}
 
@@ -89,7 +73,7 @@ class Settings:
     """The keys of settings and what should stand at each, as the code lists them."""
 
     def __init__(self):
-        text = (SETTINGS / "key.rt").read_text()
+        text = read(SETTINGS / "key.rt")
         self.names = dict(re.findall(r'SettingsKey::(\w+) => "([a-z_]+)",', text))
         forms = text[text.index("pub fn form") :]
         self.forms = {}
@@ -98,11 +82,13 @@ class Settings:
                 self.forms[self.names[key]] = form
 
     def keys(self, file, const):
-        text = (SETTINGS / file).read_text()
-        found = re.search(rf"const {const}: \[SettingsKey; \d+\] =\s*\[(.*?)\];", text, re.S)
+        found = re.search(rf"const {const}: \[SettingsKey; \d+\] =\s*\[(.*?)\];", read(SETTINGS / file), re.S)
         if not found:
-            fail(f"{file} has no list {const} of keys")
+            raise Wrong(f"{own(SETTINGS / file)}: it has no list {const} of keys")
         return [self.names[key] for key in re.findall(r"SettingsKey::(\w+)", found[1])]
+
+
+known = functools.cache(Program)
 
 
 # ---- the manual page
@@ -211,12 +197,13 @@ def completed(words):
     script = 'source "$1"; shift; COMP_WORDS=("$@"); COMP_CWORD=$(($# - 1)); _osc; printf "%s\\n" "${COMPREPLY[@]}"'
     told = subprocess.run(["bash", "-c", script, "-", str(BASH), *words], capture_output=True, text=True, cwd=ROOT, check=False)
     if told.returncode != 0 or told.stderr:
-        fail(f"{BASH.name} fails on {words}: {told.stderr}")
+        raise Wrong(f"{own(BASH)}: it fails on {' '.join(words)}: {told.stderr.strip()}")
     return sorted(told.stdout.split())
 
 
-def check_completion(program):
-    """Each word that help knows is offered, and no other."""
+def faults(only, say):
+    """That each word that help knows is offered, and no other."""
+    program = known()
     tries = [(["osc", ""], [*program.top.commands, *program.top.words()]), (["osc", "help", ""], program.commands)]
     for name, help in program.commands.items():
         tries.append((["osc", name, "-"], help.words()))
@@ -229,56 +216,22 @@ def check_completion(program):
         (["osc", "token", "--alg", ""], ["10", "30"]),
         (["osc", "server", "--config", "crates.t"], ["crates.txt"]),
     ]
-    wrong = [(words, wanted) for words, wanted in tries if completed(words) != sorted(wanted)]
-    for words, wanted in wrong:
-        print(f"words: {' '.join(words)}: bash offers {' '.join(completed(words))}, and help says {' '.join(sorted(wanted))}")
-    return not wrong
+    for words, wanted in tries:
+        offered = completed(words)
+        if offered != sorted(wanted):
+            yield f"{own(BASH)}: {' '.join(words)}: bash offers {' '.join(offered)}, and help says {' '.join(sorted(wanted))}"
+    say(f"words: {len(program.commands)} commands, {sum(len(help.options) for help in program.commands.values())} options, as osc says")
 
 
-# ---- what is between marks
+# ---- both files
 
 
-def filled(text, mark, parts, file):
-    for name, lines in parts.items():
-        begin, end = f"{mark} words: {name}\n", f"{mark} words: end\n"
-        if text.count(begin) != 1 or end not in text[text.index(begin) :]:
-            fail(f"{file} has no line `{begin.strip()}` with a line `{end.strip()}` below it")
-        at = text.index(begin) + len(begin)
-        text = text[:at] + "".join(line + "\n" for line in lines) + text[at + text[at:].index(end) :]
-    return text
-
-
-def main():
-    if sys.argv[1:] not in (["--check"], ["--write"]):
-        print(__doc__.strip(), file=sys.stderr)
-        sys.exit(2)
-    if not os.access(PROGRAM, os.X_OK):
-        fail(f"there is no program {PROGRAM}: bash scripts/build")
-    program, settings = Program(), Settings()
-    man = {
-        "title": man_title(program),
-        "synopsis": man_synopsis(program),
-        "commands": man_commands(program),
-        "settings": man_settings(settings),
-    }
+def made():
+    program, settings = known(), Settings()
+    man = {"title": man_title(program), "synopsis": man_synopsis(program), "commands": man_commands(program), "settings": man_settings(settings)}
     bash = {"words": bash_words(program), "values": bash_values(program)}
-    is_same = True
-    for file, mark, parts in ((MAN, '.\\"', man), (BASH, "#", bash)):
-        old = file.read_text()
-        new = filled(old, mark, parts, file.relative_to(ROOT))
-        if sys.argv[1] == "--write":
-            file.write_text(new)
-        elif old != new:
-            is_same = False
-            for was, now in zip(old.split("\n"), new.split("\n")):
-                if was != now:
-                    print(f"words: {file.relative_to(ROOT)} has `{was}`, and osc says `{now}`: python3 scripts/words --write")
-                    break
-    if not check_completion(program):
-        is_same = False
-    count = sum(len(help.options) for help in program.commands.values())
-    print(f"words: {len(program.commands)} commands, {count} options, {'as' if is_same else 'not as'} osc says")
-    sys.exit(0 if is_same else 1)
-
-
-main()
+    for path, mark, parts in ((MAN, '.\\"', man), (BASH, "#", bash)):
+        text = read(path)
+        for name, lines in parts.items():
+            text = filled(path, text, f"{mark} words: {name}", f"{mark} words: end", lines)
+        yield path, text

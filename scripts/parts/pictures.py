@@ -1,27 +1,18 @@
-#!/usr/bin/env python3
 """The pictures of docs/pictures, made from crates.txt, from names of the code, and by the program.
 
-    scripts/pictures --write     writes them
-    scripts/pictures --check     status 1 where one isn't what this writes, or names a function or clause that isn't there
-
-replay.svg is the run of examples/rows/repeated_and_replayed, and restart.svg that of examples/rows/server_restarts, as `osc sim --diagram=svg` draws them: by ./osc, or the
-program that OSC names. floors.svg has each crate of crates.txt on its floor. post.svg is the way of a
-protected POST through the functions of the crates. theorem.svg leads from the promises to the laws, the contracts and the code. Each follows the reader's light or dark setting, and has a
-title and a description for a screen reader.
+replay.svg is the run of examples/rows/repeated_and_replayed, and restart.svg that of examples/rows/server_restarts, as `osc sim --diagram=svg` draws
+them. floors.svg has each crate of crates.txt on its floor. post.svg is the way of a protected POST through the functions of the crates. theorem.svg
+leads from the promises to the laws, the contracts and the code. Each follows the reader's light or dark setting, and has a title and a description
+for a screen reader.
 """
 
-import importlib.machinery
-import importlib.util
-import os
 import re
-import subprocess
-import sys
 from html import escape
 from pathlib import Path
 
-ROOT = Path(__file__).resolve().parent.parent
-FOLDER = ROOT / "docs" / "pictures"
-PROGRAM = os.environ.get("OSC", str(ROOT / "osc"))
+from parts.shared import ROOT, osc, own, read, world
+
+FOLDER = ROOT / "docs/pictures"
 
 STYLE = """
   .ground { fill: #ffffff } .band { fill: #f3f5f8 } .box { fill: #ffffff; stroke: #56657a } .strong { fill: #e4edfa; stroke: #2c5aa0 }
@@ -108,7 +99,7 @@ def floors_of(text):
 
 
 def floors():
-    groups = floors_of((ROOT / "crates.txt").read_text(encoding="utf-8"))
+    groups = floors_of(read(ROOT / "crates.txt"))
     there = sorted({it[0] for it in groups if it[0] is not None}, reverse=True)
     told = [f"Floor {floor}: " + "; ".join(f"{name}: {', '.join(crates)}" for at, name, crates in groups if at == floor) + "." for floor in there]
     wide, left, right = 960, 66, 944
@@ -172,13 +163,7 @@ class Run:
         self.name, self.row = name, row
 
     def svg(self):
-        if not os.access(PROGRAM, os.X_OK):
-            sys.exit(f"pictures: there is no program {PROGRAM}: bash scripts/build")
-        script = (ROOT / "examples" / "rows" / self.row).read_bytes()
-        drawn = subprocess.run([PROGRAM, "sim", "--diagram=svg"], input=script, capture_output=True, check=False)
-        if drawn.returncode:
-            sys.exit(f"pictures: osc sim --diagram=svg < examples/rows/{self.row}: status {drawn.returncode}")
-        return drawn.stdout.decode("utf-8")
+        return osc("sim", "--diagram=svg", given=(ROOT / "examples/rows" / self.row).read_bytes())
 
 
 # ---- the way of a protected POST
@@ -337,49 +322,26 @@ def theorem():
     return picture
 
 
-# ---- what they name
+# ---- all of them
 
 
-def missing():
-    """Names of the pictures that aren't in the code."""
-    loader = importlib.machinery.SourceFileLoader("believe", str(ROOT / "scripts" / "believe"))
-    spec = importlib.util.spec_from_loader("believe", loader)
-    believe = importlib.util.module_from_spec(spec)
-    sys.setrecursionlimit(10000)
-    sys.dont_write_bytecode = True
-    loader.exec_module(believe)
+def made():
+    for picture in (*(Run(*it) for it in RUNS), floors(), post(), theorem()):
+        yield FOLDER / f"{picture.name}.svg", picture.svg()
+
+
+def faults(only, say):
+    """That each function and clause that they name is in the code."""
     clauses = {}
-    for name, function in believe.World().functions():
+    for name, function in world().functions():
         clauses.setdefault(name, set()).update(it.label for it in function.clauses)
     named = [name for _, _, name, _, _ in STEPS if name]
     named += [it for _, names, _ in PROMISES for it in names] + [it for names in LAWS.values() for it in names]
     named += [it for _, names in CONTRACTS + BELOW for it in names]
-    for name in named:
+    here = Path(__file__).resolve()
+    for name in dict.fromkeys(named):
         path, _, clause = name.partition(".")
         if path not in clauses or clause and clause not in clauses[path]:
-            yield name
-
-
-def main(arguments):
-    if arguments not in (["--write"], ["--check"]):
-        print(__doc__.strip())
-        return 0 if arguments in (["-h"], ["--help"]) else 2
-    status = 0
-    for name in missing():
-        print(f"pictures: there is no {name}")
-        status = 1
-    for picture in (*(Run(*it) for it in RUNS), floors(), post(), theorem()):
-        path, wanted = FOLDER / f"{picture.name}.svg", picture.svg()
-        if arguments == ["--write"]:
-            FOLDER.mkdir(exist_ok=True)
-            path.write_text(wanted, encoding="utf-8")
-        elif not path.exists() or path.read_text(encoding="utf-8") != wanted:
-            print(f"pictures: docs/pictures/{path.name} isn't what scripts/pictures --write writes")
-            status = 1
-    if not status:
-        print("pictures: each is as its script makes it, and each name in them is found")
-    return status
-
-
-if __name__ == "__main__":
-    sys.exit(main(sys.argv[1:]))
+            number = next(number for number, line in enumerate(read(here).split("\n"), 1) if f'"{name}"' in line)
+            yield f"{own(here)}:{number}: there is no {name}"
+    say("pictures: each is as its script makes it, and each name in them is found")

@@ -1,18 +1,20 @@
-#!/usr/bin/env python3
-"""Compares include/nozzlefern.h with what crates/osc_c exports and c/words.c defines: each call with its arguments and what it returns, and that a call
-takes its handle as const where its clause is that it only looks; each structure with its fields, and the size that a first member is to have; the numbers
-that calls answer, those of reasons, of results and of methods; and the limits. No call may have more than six arguments. Says what differs, and ends
-with 1 where something does; else one line with the counts."""
-import re
-import sys
-from pathlib import Path
+"""Whether include/nozzlefern.h is what crates/osc_c exports and c/words.c defines.
 
-ROOT = Path(__file__).resolve().parent.parent
+It compares each call with its arguments and what it returns, and that a call takes its handle as const where its clause is that it only looks; each
+structure with its fields, and the size that a first member is to have; the numbers that calls answer, those of reasons, of results and of
+methods; and the limits. No call may have more than six arguments.
+"""
+
+import re
+
+from parts.shared import ROOT, Wrong, own, read
+
 HEADER = ROOT / "include/nozzlefern.h"
 CRATE = ROOT / "crates/osc_c/src"
 WORDS = ROOT / "c/words.c"
 SIZES = ROOT / "crates/osc_c/specs/Given.antt"
 NUMBERS = ROOT / "crates/osc_model/src/refusals.rt"
+CODES = ROOT / "crates/osc_model/src/code.rt"
 
 MOST_ARGUMENTS = 6
 PLAIN = {"u8": "uint8_t", "u16": "uint16_t", "u32": "uint32_t", "u64": "uint64_t", "i32": "int32_t", "usize": "size_t"}
@@ -30,7 +32,7 @@ LIMITS = {
 
 
 def without_comments(text):
-    text = re.sub(r"/\*.*?\*/", " ", text, flags=re.S)
+    text = re.sub(r"/\*.*?\*/", lambda found: " " + "\n" * found.group().count("\n"), text, flags=re.S)
     return re.sub(r"//[^\n]*", "", text)
 
 
@@ -47,7 +49,7 @@ def c_name(rust):
         found = re.match(shape, rust)
         if found:
             return "nzf_" + snake(found.group(1))
-    raise SystemExit(f"header: {rust} has no name in C")
+    raise Wrong(f"{own(CRATE)}: {rust} has no name in C")
 
 
 def c_of(rust, looks):
@@ -91,22 +93,23 @@ def split(text):
 def prototypes_in(text, end):
     calls = {}
     for found in re.finditer(r"\b(int32_t|uint32_t|void|const char \*) ?(nzf_\w+)\(([^)]*)\)" + end, text):
+        back, name, args = found.groups()
         types = []
-        for arg in split(found.group(3)):
+        for arg in split(args):
             if arg == "void":
                 continue
             kind = re.match(r"((?:const )?\w+) (\*?)\w+$", arg)
             if not kind:
-                raise SystemExit(f"header: {arg} is not read")
+                raise Wrong(f"{place(name)}: {arg} is not read")
             types.append(kind.group(1) + (" *" if kind.group(2) else ""))
-        calls[found.group(2)] = (found.group(1).strip(), types)
+        calls[name] = (back.strip(), types)
     return calls
 
 
 def exported():
     calls = {}
     for file in sorted(CRATE.rglob("*.rt")):
-        text = without_comments(file.read_text())
+        text = without_comments(read(file))
         for found in re.finditer(r'#\[unsafe\(no_mangle\)\]\s*pub extern "C" fn (\w+)\(', text):
             args, end = between(text, found.end())
             looks = re.match(r"\s*(?:-> \w+)?\s*ensures { Looks ", text[end:]) is not None
@@ -115,7 +118,7 @@ def exported():
                 types += c_of(arg.split(":", 1)[1], looks)
             back = re.match(r"\s*->\s*(\w+)", text[end:])
             calls[found.group(1)] = (PLAIN[back.group(1)] if back else "void", types)
-    calls.update(prototypes_in(without_comments(WORDS.read_text()), r" \{"))
+    calls.update(prototypes_in(without_comments(read(WORDS)), r" \{"))
     return calls
 
 
@@ -139,7 +142,7 @@ def fields_of(rust):
 def structures_made():
     made = {}
     for file in sorted(CRATE.rglob("*.rt")):
-        text = without_comments(file.read_text())
+        text = without_comments(read(file))
         for found in re.finditer(r"#\[repr\(C\)\]\s*(?:#\[[^\]]*\]\s*)*pub struct (Plain\w+)(?:<'\w+>)? \{(.*?)\n\}", text, flags=re.S):
             made[c_name(found.group(1))] = fields_of(found.group(2))
     return made
@@ -172,11 +175,11 @@ def sizes_of(made):
 
 
 def sizes_said():
-    return {"nzf_" + name: int(size) for name, size in re.findall(r"^(\w+)_size = (\d+)$", SIZES.read_text(), re.M)}
+    return {"nzf_" + name: int(size) for name, size in re.findall(r"^(\w+)_size = (\d+)$", read(SIZES), re.M)}
 
 
 def outcomes():
-    text = without_comments((CRATE / "calls/outcome.rt").read_text())
+    text = without_comments(read(CRATE / "calls/outcome.rt"))
     numbers = refusals()
     found = {"DONE": int(re.search(r"Outcome::Done => (\d+)", text).group(1))}
     for name, number in re.findall(r"Outcome::(\w+) => refusals::(\w+) as i32", text):
@@ -186,15 +189,19 @@ def outcomes():
 
 
 def refusals():
-    return {name: int(number) for name, number in re.findall(r"pub const (\w+): u8 = (\d+);", NUMBERS.read_text())}
+    return {name: int(number) for name, number in re.findall(r"pub const (\w+): u8 = (\d+);", read(NUMBERS))}
 
 
 def results():
-    text = (CRATE / "calls/results.rt").read_text()
+    text = read(CRATE / "calls/results.rt")
     names = {"Made": "MADE", "Unverified": "ENDED", "TimedOut": "TIMED_OUT", "Refused": "REFUSED"}
     made = {names[name]: int(number) for name, number in re.findall(r"ClientResult::(\w+)[^=]*=> bare\((\d+),", text)}
     made["ANSWER"] = int(re.search(r"ClientResult::Answer\(reply\) => PlainResult \{\s*what: (\d+)", text).group(1))
     return made
+
+
+def methods():
+    return {name.upper(): int(number) for name, number in re.findall(r"Method::(\w+) => Code\((\d+)\)", read(CODES))}
 
 
 def enumerated(header, prefix):
@@ -204,44 +211,48 @@ def enumerated(header, prefix):
 def wrong_limits(header):
     said = dict(re.findall(r"\b(NZF_\w+_MAX) = (\d+)", header))
     for name, (file, before) in LIMITS.items():
-        found = re.search(before + r"([\d_]+)", (ROOT / "crates" / file).read_text())
+        found = re.search(before + r"([\d_]+)", read(ROOT / "crates" / file))
         if not found or int(found.group(1).replace("_", "")) != int(said.get(name, -1)):
-            yield f"limit {name}: it isn't that of crates/{file}"
+            yield f"{place(name)}: limit {name}: it isn't that of crates/{file}"
 
 
-def differences(what, made, said, show):
+def place(name):
+    """The line of the header that first has a name, its comments left out."""
+    for number, line in enumerate(without_comments(read(HEADER)).split("\n"), 1):
+        if re.search(rf"\b{name}\b", line):
+            return f"{own(HEADER)}:{number}"
+    return own(HEADER)
+
+
+def differences(what, made, said, show, prefix=""):
     for name in sorted(set(made) | set(said)):
         if name not in said:
-            yield f"{what} {name}: the header has it not"
+            yield f"{place(prefix + name)}: {what} {name}: the header has it not"
         elif name not in made:
-            yield f"{what} {name}: the crate has it not"
+            yield f"{place(prefix + name)}: {what} {name}: the crate has it not"
         elif made[name] != said[name]:
-            yield f"{what} {name}: the crate has {show(made[name])}, the header {show(said[name])}"
+            yield f"{place(prefix + name)}: {what} {name}: the crate has {show(made[name])}, the header {show(said[name])}"
 
 
-def main():
-    header = without_comments(HEADER.read_text())
+def faults(only, say):
+    header = without_comments(read(HEADER))
     calls, prototypes = exported(), declared(header)
     made, said = structures_made(), structures_declared(header)
     handles = {name for name, fields in said.items() if fields == [("held", "void *", 0)]}
     said = {name: fields for name, fields in said.items() if name not in handles}
     answers = re.search(r"typedef enum nzf_outcome \{(.*?)\}", header, re.S).group(1)
-    reasons, known = enumerated(header, "NZF_REASON_"), refusals()
-    wrong = list(differences("call", calls, prototypes, lambda c: f"{c[0]} ({', '.join(c[1])})"))
-    wrong += [f"call {name}: it has {len(types)} arguments" for name, (_, types) in prototypes.items() if len(types) > MOST_ARGUMENTS]
-    wrong += differences("structure", made, said, lambda f: "; ".join(f"{k} {n}{f'[{r}]' if r else ''}" for n, k, r in f))
-    wrong += differences("size of", sizes_said(), sizes_of(made), str)
-    wrong += differences("number", outcomes(), enumerated(answers, "NZF_"), str)
-    wrong += differences("result", results(), enumerated(header, "NZF_RESULT_"), str)
-    wrong += [f"reason {name}: it isn't that of the crates" for name, number in reasons.items() if number != known.get(name, 0 if name == "NONE" else -1)]
-    wrong += wrong_limits(header)
-    for line in wrong:
-        print(f"header: {line}")
-    if wrong:
-        return 1
-    print(f"header: {len(calls)} calls, {len(made)} structures and {len(outcomes())} numbers are those of the crate")
-    return 0
-
-
-if __name__ == "__main__":
-    sys.exit(main())
+    yield from differences("call", calls, prototypes, lambda c: f"{c[0]} ({', '.join(c[1])})")
+    for name, (_, types) in prototypes.items():
+        if len(types) > MOST_ARGUMENTS:
+            yield f"{place(name)}: call {name}: it has {len(types)} arguments"
+    yield from differences("structure", made, said, lambda f: "; ".join(f"{k} {n}{f'[{r}]' if r else ''}" for n, k, r in f))
+    yield from differences("size of", sizes_said(), sizes_of(made), str)
+    yield from differences("number", outcomes(), enumerated(answers, "NZF_"), str, "NZF_")
+    yield from differences("result", results(), enumerated(header, "NZF_RESULT_"), str, "NZF_RESULT_")
+    yield from differences("method", methods(), enumerated(header, "NZF_METHOD_"), str, "NZF_METHOD_")
+    known = refusals()
+    for name, number in enumerated(header, "NZF_REASON_").items():
+        if number != known.get(name, 0 if name == "NONE" else -1):
+            yield f"{place('NZF_REASON_' + name)}: reason {name}: it isn't that of the crates"
+    yield from wrong_limits(header)
+    say(f"header: {len(calls)} calls, {len(made)} structures and {len(outcomes())} numbers are those of the crate")
