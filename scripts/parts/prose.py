@@ -57,7 +57,7 @@ FORBIDDEN = [
 SEEN = [(re.compile(rf"(?<![\w-])(?:{pattern})(?![\w-])", re.I), instead, but and re.compile(but, re.I)) for pattern, instead, but in FORBIDDEN]
 
 # The tables that are made from the code.
-TABLES = re.compile(r"<!-- (believe|folders|proofs) -->.*?<!-- /\1 -->", re.S)
+TABLES = re.compile(r"<!-- (believe|folders|gate|proofs) -->.*?<!-- /\1 -->", re.S)
 
 
 def plain(text):

@@ -1,5 +1,6 @@
 //! The payload of a request that is in a file.
 ghost use Rattle.std.specs.Prelude.{◌≡◌, IfErr, IfOk, IfSome, MatchResult, option_and_then};
+ghost use Rattle.osc_programs.specs.Input.{IsWithin, longest_payload_file};
 ghost use Rattle.osc_programs.specs.PayloadFile as spec;
 
 use crate::ended::Ended;
