@@ -31,40 +31,6 @@ fn noted_until(table: &Duplicates, at: u32, peer: Peer, id: u16) -> Option<u64> 
     Some(table.look(now, peer, id)?.until)
 }
 
-/// Moments and messages, and whether each is noted then, after 65 of one peer.
-const AFTER_65: [(u32, Peer, u16, bool); 6] = [
-    (0, PEER, 1, false),
-    (0, PEER, 2, true),
-    (246_999, PEER, 65, true),
-    (247_000, PEER, 65, false),
-    (0, OTHER_ADDRESS, 65, false),
-    (0, OTHER_PORT, 65, false),
-];
-
-/// Notes 65 messages of one peer.
-fn note_65(alloc: Global, table: &mut Duplicates) -> Result<(), AllocError> {
-    for id in 1..66u16 {
-        table.note(Moment { ms: 0 }, PEER, id, answered(alloc, 247_000)?);
-    }
-    Ok(())
-}
-
-/// Whether each message of the rows is noted where it should be.
-fn are_noted(table: &Duplicates) -> bool {
-    let mut same = true;
-    for (at, peer, id, noted) in AFTER_65 {
-        same = noted_until(table, at, peer, id).is_some() == noted && same;
-    }
-    same
-}
-
-#[test]
-fn the_oldest_of_65_is_gone(rt: HostRuntime) {
-    let mut table = Duplicates::new(rt.alloc()).expect(&rt, "memory");
-    note_65(rt.alloc(), &mut table).expect(&rt, "memory");
-    assert!(rt; are_noted(&table));
-}
-
 /// The table as a plain list: peer, ID and end of each entry, the oldest first.
 #[derive(Drop)]
 struct Plain {

@@ -1,20 +1,22 @@
-//! Tests of messages and contexts, by what callers see. They are apart, so that a test that changes has no crate below proved
-//! again.
+//! Tests of messages, contexts, rights and the notes of runs, by what callers see, that are no rows of `osc_rows_messages`. They are apart, so that a
+//! test that changes has no crate below proved again.
 #![tactic(auto)]
 
+#[cfg(test)]
+mod authz;
 #[cfg(test)]
 mod context;
 #[cfg(test)]
 mod dedup;
 #[cfg(test)]
-mod info;
-#[cfg(test)]
 mod message;
 #[cfg(test)]
 mod options;
 #[cfg(test)]
+mod premise;
+#[cfg(test)]
 mod protect;
 #[cfg(test)]
-mod value;
+mod readers;
 #[cfg(test)]
-mod window;
+mod steps;

@@ -1,0 +1,86 @@
+//! The line that a row gives.
+
+use osc_model::Peer;
+use std::alloc::Global;
+use std::fmt;
+use std::fmt::Write;
+
+/// A line, word by word. A word for which there is no memory is missing.
+#[derive(Drop)]
+pub struct Line {
+    /// The words, each after a space.
+    text: String,
+}
+
+impl Line {
+    /// A line without words.
+    pub fn new(alloc: Global) -> Line {
+        Line {
+            text: String::new(alloc),
+        }
+    }
+
+    /// The words, parted by one space each.
+    pub fn as_str(&self) -> &str {
+        self.text
+            .as_str()
+            .strip_prefix(' ')
+            .unwrap_or(self.text.as_str())
+    }
+
+    /// Adds a text.
+    pub fn text(&mut self, text: &str) {
+        let _ = write!(self.text, " {text}");
+    }
+
+    /// Adds a number.
+    pub fn number(&mut self, number: u64) {
+        let _ = write!(self.text, " {number}");
+    }
+
+    /// Adds a number, or `none`.
+    pub fn some_number(&mut self, number: Option<u64>) {
+        match number {
+            Some(number) => self.number(number),
+            None => self.text("none"),
+        }
+    }
+
+    /// Adds `true` or `false`.
+    pub fn test(&mut self, holds: bool) {
+        self.text(if holds { "true" } else { "false" });
+    }
+
+    /// Adds what a value is printed as.
+    pub fn value<T: fmt::Debug>(&mut self, value: &T) {
+        let _ = write!(self.text, " {value:?}");
+    }
+
+    /// Adds what is said of a value.
+    pub fn display<T: fmt::Display>(&mut self, value: &T) {
+        let _ = write!(self.text, " {value}");
+    }
+
+    /// Adds bytes, as a row has them.
+    pub fn bytes(&mut self, bytes: &[u8]) {
+        self.text("x");
+        for byte in bytes {
+            let _ = write!(self.text, "{byte:02x}");
+        }
+    }
+
+    /// Adds bytes, or `none`.
+    pub fn some_bytes(&mut self, bytes: Option<&[u8]>) {
+        match bytes {
+            Some(bytes) => self.bytes(bytes),
+            None => self.text("none"),
+        }
+    }
+
+    /// Adds an address and a port, as a row has them.
+    pub fn peer(&mut self, peer: Peer) {
+        let [a, b, c, d] = peer.address;
+        let [high, low] = peer.port.to_be_bytes();
+        self.bytes(&[a, b, c, d, high, low]);
+    }
+}
