@@ -1,4 +1,4 @@
-//! Tests of messages, contexts, rights and the notes of runs, by what callers see, that are no rows of `osc_rows_messages`. They are apart, so that a
+//! Tests of messages, contexts, rights and the notes of runs, by what callers see, that are no rows of `osc_rows`. They are apart, so that a
 //! test that changes has no crate below proved again.
 #![tactic(auto)]
 

@@ -1,7 +1,7 @@
 use Rattle.std.proofs.Common.{sym, subst}
 use Rattle.osc_context.specs.{Recipient}
 use Rattle.osc_window.specs.{IsFresh}
-use Rattle.osc_rows_messages.proofs.authz_info.accepted.Goals as goal
+use Rattle.osc_rows.proofs.authz_info.accepted.Goals as goal
 
 pub accept-number-requires-clause-fresh : goal.accept-number-requires-clause-fresh
 accept-number-requires-clause-fresh c = (
