@@ -1,5 +1,6 @@
 //! The line that a row gives.
 
+use osc_hkdf::hmac;
 use osc_model::Peer;
 use std::alloc::Global;
 use std::fmt;
@@ -66,6 +67,16 @@ impl Line {
         self.text("x");
         for byte in bytes {
             let _ = write!(self.text, "{byte:02x}");
+        }
+    }
+
+    /// Adds bytes as a row has them; of more than 100 how many there are, and their HMAC-SHA-256 under an empty key.
+    pub fn short_bytes(&mut self, bytes: &[u8]) {
+        if bytes.len() > 100 {
+            self.number(bytes.len() as u64);
+            self.bytes(&hmac(b"", bytes));
+        } else {
+            self.bytes(bytes);
         }
     }
 

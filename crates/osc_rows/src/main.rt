@@ -1,12 +1,18 @@
-//! Rows in, what each gives out, a line for a line: messages, security contexts, tokens and rights, byte by byte. A row is a verb and its
+//! Rows in, what each gives out, a line for a line: ciphers, items, messages, security contexts, tokens and rights, byte by byte. A row is a verb and its
 //! words; one that begins with `#` is a heading, and stays as it is. What a row should give is from the RFCs, or from another
 //! implementation of them.
 #![tactic(auto)]
 
+mod aes;
 mod authz_info;
+mod cbor;
+mod ccm;
 mod claims;
+mod coap;
 mod context;
+mod cose;
 mod dedup;
+mod hkdf;
 mod line;
 mod message_layer;
 mod nodes;
@@ -16,6 +22,7 @@ mod options;
 mod plaintext;
 mod protection;
 mod requests;
+mod scope;
 mod token;
 mod told;
 mod window;

@@ -4,8 +4,8 @@ use crate::line::Line;
 use crate::nodes::Nodes;
 use crate::words::{Word, words};
 use crate::{
-    authz_info, claims, context, dedup, message_layer, option_value, options, plaintext,
-    protection, requests, token, window,
+    aes, authz_info, cbor, ccm, claims, coap, context, cose, dedup, hkdf, message_layer,
+    option_value, options, plaintext, protection, requests, scope, token, window,
 };
 use std::alloc::Global;
 
@@ -104,6 +104,46 @@ fn by_tokens(alloc: Global, verb: &str, words: &[Word<'_>], line: &mut Line) -> 
         "mint" => token::minted(alloc, words, line),
         "judge" => claims::judged(alloc, words, line),
         "verdict" => claims::verdict(alloc, words, line),
+        _ => by_ciphers(alloc, verb, words, line),
+    }
+}
+
+/// Ciphers, and objects under them.
+fn by_ciphers(alloc: Global, verb: &str, words: &[Word<'_>], line: &mut Line) -> Option<()> {
+    match verb {
+        "aes" => aes::encrypted(words, line),
+        "ccm_seal" => ccm::sealed(alloc, words, line),
+        "ccm_open" => ccm::opened(alloc, words, line),
+        "ccm_reopen" => ccm::reopened(alloc, words, line),
+        "hmac" => hkdf::code(words, line),
+        "extract" => hkdf::extracted(words, line),
+        "expand" => hkdf::expanded(alloc, words, line),
+        "expand_twice" => hkdf::expanded_twice(alloc, words, line),
+        "encrypt0" => cose::parsed(alloc, words, line),
+        "enc_structure" => cose::structure(alloc, words, line),
+        "seal0" => cose::sealed(alloc, words, line),
+        "open0" => cose::opened(alloc, words, line),
+        _ => by_formats(alloc, verb, words, line),
+    }
+}
+
+/// Items, messages in bytes and scopes, and what is of a context.
+fn by_formats(alloc: Global, verb: &str, words: &[Word<'_>], line: &mut Line) -> Option<()> {
+    match verb {
+        "item" => cbor::item(alloc, words, line),
+        "memory" => cbor::memory(alloc, words, line),
+        "value" => cbor::value(alloc, words, line),
+        "same_item" => cbor::same(alloc, words, line),
+        "inside" => cbor::inside(words, line),
+        "lent" => cbor::lent(words, line),
+        "head" => cbor::head_of(words, line),
+        "message" => coap::parsed(words, line),
+        "plaintext" => coap::plaintext(words, line),
+        "code" => coap::code(words, line),
+        "option_length" => coap::length_of_option(words, line),
+        "write_scope" => scope::written(alloc, words, line),
+        "scope" => scope::read(alloc, words, line),
+        "allow" => scope::allowed(alloc, words, line),
         _ => context::told(alloc, verb, words, line),
     }
 }
