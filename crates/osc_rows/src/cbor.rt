@@ -108,10 +108,16 @@ pub fn same(alloc: Global, words: &[Word<'_>], line: &mut Line) -> Option<()> {
         return None;
     };
     let (one, other) = (one.bytes()?, other.bytes()?);
-    let (one, _) = read(alloc, one).ok()?;
-    let (other, _) = read(alloc, other).ok()?;
-    line.test(one.is(&other));
+    let (item, _) = read(alloc, one).ok()?;
+    line.test(is_read(alloc, other, &item));
     Some(())
+}
+
+fn is_read(alloc: Global, bytes: &[u8], item: &Item) -> bool {
+    match read(alloc, bytes) {
+        Ok((read, _)) => read.is(item),
+        Err(_) => false,
+    }
 }
 
 /// `inside BYTES`: the bytes under 4 in the map under 8, which are lent.

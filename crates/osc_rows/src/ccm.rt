@@ -10,9 +10,9 @@ pub fn sealed(alloc: Global, words: &[Word<'_>], line: &mut Line) -> Option<()> 
     let [tag, before, words @ ..] = words else {
         return None;
     };
-    let before = before.bytes()?;
+    let (tag, before) = (tag.number()?, before.bytes()?);
     let mut out = Vec::from_slice(alloc, before).ok()?;
-    let sealed = match tag.number()? {
+    let sealed = match tag {
         8 => seal::<Ccm<8>>(words, &mut out)?,
         16 => seal::<Ccm<16>>(words, &mut out)?,
         _ => return None,
@@ -38,9 +38,9 @@ pub fn opened(alloc: Global, words: &[Word<'_>], line: &mut Line) -> Option<()> 
     let [tag, before, words @ ..] = words else {
         return None;
     };
-    let before = before.bytes()?;
+    let (tag, before) = (tag.number()?, before.bytes()?);
     let mut out = Vec::from_slice(alloc, before).ok()?;
-    let opened = match tag.number()? {
+    let opened = match tag {
         8 => open::<Ccm<8>>(words, &mut out)?,
         16 => open::<Ccm<16>>(words, &mut out)?,
         _ => return None,

@@ -39,8 +39,9 @@ pub fn structure(alloc: Global, words: &[Word<'_>], line: &mut Line) -> Option<(
     let [protected, external_aad] = words else {
         return None;
     };
+    let (protected, external_aad) = (protected.bytes()?, external_aad.bytes()?);
     let mut out = Vec::new(alloc);
-    enc_structure(protected.bytes()?, external_aad.bytes()?, &mut out).ok()?;
+    enc_structure(protected, external_aad, &mut out).ok()?;
     line.bytes(&out);
     Some(())
 }

@@ -11,8 +11,9 @@ pub fn written(alloc: Global, words: &[Word<'_>], line: &mut Line) -> Option<()>
     let [text, before] = words else {
         return None;
     };
+    let text = text.text()?.as_bytes();
     let mut out = Vec::from_slice(alloc, before.bytes()?).ok()?;
-    let done = text_to_cbor(alloc, text.text()?.as_bytes(), &mut out);
+    let done = text_to_cbor(alloc, text, &mut out);
     line.bytes(&out);
     if let Err(error) = done {
         line.number(error.number().into());
@@ -25,8 +26,9 @@ pub fn read(alloc: Global, words: &[Word<'_>], line: &mut Line) -> Option<()> {
     let [bytes, path] = words else {
         return None;
     };
+    let bytes = bytes.bytes()?;
     let path = path_of(alloc, path)?;
-    match Scope::from_cbor(alloc, bytes.bytes()?) {
+    match Scope::from_cbor(alloc, bytes) {
         Ok(scope) => write_verdicts(&scope, &path, line),
         Err(error) => line.number(error.number().into()),
     }
@@ -49,19 +51,20 @@ pub fn allowed(alloc: Global, words: &[Word<'_>], line: &mut Line) -> Option<()>
     let [path, code, methods @ ..] = words else {
         return None;
     };
-    let (path, code) = (path_of(alloc, path)?, Code(code.byte()?));
-    let scope = scope_with(alloc, methods)?;
+    let code = Code(code.byte()?);
+    let path = path_of(alloc, path)?;
+    let mut scope = Scope::new(alloc);
+    let done = allow(alloc, &mut scope, methods);
     line.value(&scope.verdict(path.as_ref(), code));
     drop(scope);
-    Some(())
+    done
 }
 
-fn scope_with(alloc: Global, methods: &[Word<'_>]) -> Option<Scope> {
-    let mut scope = Scope::new(alloc);
+fn allow(alloc: Global, scope: &mut Scope, methods: &[Word<'_>]) -> Option<()> {
     for method in methods {
-        let path = Path::from_text(alloc, b"/a/b").ok()??;
         let method = Method::from_code(Code(method.byte()?))?;
+        let path = Path::from_text(alloc, b"/a/b").ok()??;
         scope.allow(alloc, path, method).ok()?;
     }
-    Some(scope)
+    Some(())
 }

@@ -62,7 +62,7 @@ impl<'a> Word<'a> {
         }
     }
 
-    /// A key.
+    /// A key, or a block of a cipher.
     pub fn key(&self) -> Option<[u8; 16]> {
         <[u8; 16]>::try_from(self.bytes()?).ok()
     }

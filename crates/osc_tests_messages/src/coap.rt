@@ -1,20 +1,11 @@
-//! Messages and plaintexts that are built, step by step, and parts that outlive their message. What is read is in rows.
-use osc_coap::*;
-use std::process::Abort;
+//! A message that is built step by step, and parts that outlive their message. The others are rows.
+use osc_coap::{DATAGRAM_LIMIT, DatagramTooLong, Kind, MessageBuilder, MessageRef};
 
 /// A GET with the token 00003974 and the options Uri-Host "localhost" and Uri-Path "tv1".
 const REQUEST: [u8; 22] = [
     0x44, 0x01, 0x5d, 0x1f, 0x00, 0x00, 0x39, 0x74, 0x39, 0x6c, 0x6f, 0x63, 0x61, 0x6c, 0x68, 0x6f,
     0x73, 0x74, 0x83, 0x74, 0x76, 0x31,
 ];
-
-#[test]
-fn a_written_request(rt: HostRuntime) {
-    let mut builder = MessageBuilder::start(Kind::Confirmable, 1, 0x5d1f, b"\x00\x00\x39\x74");
-    builder.option(3, b"localhost").expect(&rt, "room");
-    builder.option(11, b"tv1").expect(&rt, "room");
-    assert!(rt; builder.bytes() == REQUEST.as_slice());
-}
 
 /// A 2.05 to a request with a token of two bytes: an ETag and a payload of 31 bytes.
 #[test]
@@ -27,30 +18,6 @@ fn a_reply(rt: HostRuntime) {
     assert!(rt; builder.bytes().starts_with(start));
     assert!(rt; builder.message().payload() == Some([0; 31].as_slice()));
     assert!(rt; builder.into_bytes().len() == 47);
-}
-
-/// A message with options at deltas of 60, 274 and 65201, of lengths 13, 300 and 1, and with a payload.
-fn with_wide_options(rt: &impl Abort) -> MessageBuilder {
-    let mut builder = MessageBuilder::start(Kind::NonConfirmable, 0x45, 7, b"");
-    builder.option(60, &[7; 13]).expect(rt, "room");
-    builder.option(334, &[8; 300]).expect(rt, "room");
-    builder.option(65535, b"x").expect(rt, "room");
-    builder.payload(b"!").expect(rt, "room");
-    builder
-}
-
-/// Whether it begins with these bytes, and has those in the middle and at the end.
-fn is_spelled_wide(datagram: &[u8]) -> bool {
-    datagram.starts_with(b"\x50\x45\x00\x07\xdd\x2f\x00\x07")
-        && datagram.get(20..25) == Some(b"\xee\x00\x05\x00\x1f".as_slice())
-        && datagram.get(325..) == Some(b"\xe1\xfd\xa4x\xff!".as_slice())
-}
-
-/// Wide options are written.
-#[test]
-fn wide_options(rt: HostRuntime) {
-    let builder = with_wide_options(&rt);
-    assert!(rt; is_spelled_wide(builder.bytes()));
 }
 
 /// The payload of a datagram, which outlives the message that lent it.
@@ -84,35 +51,6 @@ fn printed(rt: HostRuntime) {
     let error = DatagramTooLong;
     let printed = format!(in rt.alloc(); "{} {error}", error.number()).expect(&rt, "memory");
     assert!(rt; printed.as_str() == "14 the message is longer than 1152 bytes");
-}
-
-/// Whether it is a GET with the option Uri-Path "tv1" alone.
-fn is_a_get(request: &PlaintextRef<'_>) -> bool {
-    let mut options = request.options();
-    let option = Some((11, b"tv1".as_slice()));
-    request.code() == 1
-        && request.payload().is_none()
-        && options.rest().next() == option
-        && options.next() == option
-        && options.next().is_none()
-}
-
-/// The plaintext of a GET with Uri-Path "tv1".
-#[test]
-fn a_requests_plaintext(rt: HostRuntime) {
-    let mut builder = PlaintextBuilder::start(1);
-    builder.option(11, b"tv1").expect(&rt, "room");
-    assert!(rt; builder.bytes() == b"\x01\xb3tv1".as_slice());
-    let request = PlaintextRef::parse(b"\x01\xb3tv1").expect(&rt, "a plaintext");
-    assert!(rt; is_a_get(&request));
-}
-
-/// The plaintext of a 2.05 with a payload.
-#[test]
-fn a_replys_plaintext(rt: HostRuntime) {
-    let mut builder = PlaintextBuilder::start(0x45);
-    builder.payload(b"Hello World!").expect(&rt, "room");
-    assert!(rt; builder.bytes() == b"\x45\xffHello World!".as_slice());
 }
 
 /// The token and the first option's value of a datagram, which outlive the message and the options that lent them.
