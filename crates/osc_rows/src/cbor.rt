@@ -115,7 +115,7 @@ pub fn same(alloc: Global, words: &[Word<'_>], line: &mut Line) -> Option<()> {
 
 fn is_read(alloc: Global, bytes: &[u8], item: &Item) -> bool {
     match read(alloc, bytes) {
-        Ok((read, _)) => read.is(item),
+        Ok((other, _)) => other.is(item),
         Err(_) => false,
     }
 }

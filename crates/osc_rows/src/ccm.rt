@@ -13,8 +13,8 @@ pub fn sealed(alloc: Global, words: &[Word<'_>], line: &mut Line) -> Option<()> 
     let (tag, before) = (tag.number()?, before.bytes()?);
     let mut out = Vec::from_slice(alloc, before).ok()?;
     let sealed = match tag {
-        8 => seal::<Ccm<8>>(words, &mut out)?,
-        16 => seal::<Ccm<16>>(words, &mut out)?,
+        8 => seal_under::<Ccm<8>>(words, &mut out)?,
+        16 => seal_under::<Ccm<16>>(words, &mut out)?,
         _ => return None,
     };
     match sealed {
@@ -25,7 +25,7 @@ pub fn sealed(alloc: Global, words: &[Word<'_>], line: &mut Line) -> Option<()> 
 }
 
 /// What comes of sealing with `KEY NONCE AAD TEXT`.
-fn seal<A: Aead>(words: &[Word<'_>], out: &mut [u8]) -> Option<Result<usize, SealError>> {
+fn seal_under<A: Aead>(words: &[Word<'_>], out: &mut [u8]) -> Option<Result<usize, SealError>> {
     let [key, nonce, aad, text] = words else {
         return None;
     };
@@ -41,8 +41,8 @@ pub fn opened(alloc: Global, words: &[Word<'_>], line: &mut Line) -> Option<()> 
     let (tag, before) = (tag.number()?, before.bytes()?);
     let mut out = Vec::from_slice(alloc, before).ok()?;
     let opened = match tag {
-        8 => open::<Ccm<8>>(words, &mut out)?,
-        16 => open::<Ccm<16>>(words, &mut out)?,
+        8 => open_under::<Ccm<8>>(words, &mut out)?,
+        16 => open_under::<Ccm<16>>(words, &mut out)?,
         _ => return None,
     };
     match opened {
@@ -53,7 +53,7 @@ pub fn opened(alloc: Global, words: &[Word<'_>], line: &mut Line) -> Option<()> 
 }
 
 /// What comes of opening with `KEY NONCE AAD SEALED`.
-fn open<A: Aead>(words: &[Word<'_>], out: &mut [u8]) -> Option<Result<usize, OpenError>> {
+fn open_under<A: Aead>(words: &[Word<'_>], out: &mut [u8]) -> Option<Result<usize, OpenError>> {
     let [key, nonce, aad, sealed] = words else {
         return None;
     };
@@ -69,7 +69,7 @@ pub fn reopened(alloc: Global, words: &[Word<'_>], line: &mut Line) -> Option<()
     };
     let (other, before) = (other.bytes()?, before.bytes()?);
     let mut sealed = Vec::from_slice(alloc, space.bytes()?).ok()?;
-    let count = seal::<Ccm<8>>(words, &mut sealed)?.ok()?;
+    let count = seal_under::<Ccm<8>>(words, &mut sealed)?.ok()?;
     let mut out = Vec::from_slice(alloc, before).ok()?;
     match open_again(other, sealed.get(..count)?, words, &mut out)? {
         Ok(count) => write_out(count, before, &out, line),
