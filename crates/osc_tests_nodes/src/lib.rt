@@ -1,28 +1,16 @@
-//! Tests of trees, nodes, turns, devices and worlds, by what callers see. They are apart, so that a test that changes has no crate below proved again.
+//! Tests of trees, nodes, turns and devices, by what callers see. They are apart, so that a test that changes has no crate below proved again.
 #![tactic(auto)]
 
 #[cfg(test)]
-mod algorithms;
-#[cfg(test)]
-mod ample;
-#[cfg(test)]
 mod client;
-#[cfg(test)]
-mod common;
-#[cfg(test)]
-mod conditions;
 #[cfg(test)]
 mod deadlines;
 #[cfg(test)]
 mod device;
 #[cfg(test)]
-mod enrolling;
-#[cfg(test)]
 mod flooded;
 #[cfg(test)]
 mod forwarding;
-#[cfg(test)]
-mod isolation;
 #[cfg(test)]
 mod lost_answer;
 #[cfg(test)]
@@ -34,23 +22,11 @@ mod nodes;
 #[cfg(test)]
 mod protected;
 #[cfg(test)]
-mod proxies;
-#[cfg(test)]
 mod proxy_uri;
 #[cfg(test)]
 mod queues;
 #[cfg(test)]
-mod quiet;
-#[cfg(test)]
-mod ready;
-#[cfg(test)]
-mod refused;
-#[cfg(test)]
-mod revoked;
-#[cfg(test)]
 mod revoking;
-#[cfg(test)]
-mod room;
 #[cfg(test)]
 mod server;
 #[cfg(test)]
@@ -62,14 +38,8 @@ mod sweep;
 #[cfg(test)]
 mod telling;
 #[cfg(test)]
-mod through;
-#[cfg(test)]
 mod tokens;
 #[cfg(test)]
 mod tree;
 #[cfg(test)]
-mod trees;
-#[cfg(test)]
 mod waiting;
-#[cfg(test)]
-mod world;
