@@ -1,10 +1,25 @@
-//! Tests of trees, nodes, turns and devices, by what callers see. They are apart, so that a test that changes has no crate below proved again.
+//! Tests of ciphers, codecs, messages, contexts, rights, trees, nodes, turns and devices, by what callers see, that are no rows of `osc_rows`. They
+//! are apart, so that a test that changes has no crate below proved again.
 #![tactic(auto)]
 
 #[cfg(test)]
+mod aes;
+#[cfg(test)]
+mod authz;
+#[cfg(test)]
+mod cbor;
+#[cfg(test)]
+mod ccm;
+#[cfg(test)]
 mod client;
 #[cfg(test)]
+mod coap;
+#[cfg(test)]
+mod context;
+#[cfg(test)]
 mod deadlines;
+#[cfg(test)]
+mod dedup;
 #[cfg(test)]
 mod device;
 #[cfg(test)]
@@ -12,13 +27,23 @@ mod flooded;
 #[cfg(test)]
 mod forwarding;
 #[cfg(test)]
+mod hkdf;
+#[cfg(test)]
 mod lost_answer;
 #[cfg(test)]
 mod memory;
 #[cfg(test)]
+mod message;
+#[cfg(test)]
 mod network;
 #[cfg(test)]
 mod nodes;
+#[cfg(test)]
+mod options;
+#[cfg(test)]
+mod premise;
+#[cfg(test)]
+mod protect;
 #[cfg(test)]
 mod protected;
 #[cfg(test)]
@@ -26,13 +51,21 @@ mod proxy_uri;
 #[cfg(test)]
 mod queues;
 #[cfg(test)]
+mod readers;
+#[cfg(test)]
+mod reference;
+#[cfg(test)]
 mod revoking;
+#[cfg(test)]
+mod same;
 #[cfg(test)]
 mod server;
 #[cfg(test)]
 mod serving;
 #[cfg(test)]
 mod stage;
+#[cfg(test)]
+mod steps;
 #[cfg(test)]
 mod sweep;
 #[cfg(test)]
