@@ -2,7 +2,8 @@
 
 A word is found where it is a word of the code, the definitions, the scripts or the headers, or a file. `Type::name` is found where a crate
 declares both, and `module::name` where a module of this name does. Hexadecimal, numbers and addresses aren't names. A link is found where
-its file is there, and has the heading that it names. A block that begins with ```LANGUAGE FILE is a part of that file.
+its file is there, and has the heading that it names. A block that begins with ```LANGUAGE FILE is a part of that file. The table of the gate is of
+runs, and may name a crate that is gone until the next one writes it again: it isn't looked at.
 """
 
 import functools
@@ -99,9 +100,13 @@ def anchors(page):
             yield re.sub(r"[^\w\- ]", "", line.lower()).replace(" ", "-")
 
 
+# The table that scripts/minutes writes.
+OF_RUNS = re.compile(r"<!-- gate -->.*?<!-- /gate -->", re.S)
+
+
 def of_page(page):
     text, name = read(page), own(page)
-    for number, _, line in lines(text):
+    for number, _, line in lines(OF_RUNS.sub(lambda found: "\n" * found.group().count("\n"), text)):
         for code in re.findall(r"`([^`]+)`", line):
             for missing in known().missing(code):
                 yield f"{name}:{number}: there is no {missing} (`{code}`)"
