@@ -1,6 +1,6 @@
 -- The nodes of a diagram.
 use Rattle.std.specs.Prelude.{◌≡◌, List, [], ◌∷◌, ◌++◌, map}
-use Rattle.osc_chart.specs.declared.chart.Column.{Column}
+use Rattle.osc_diagram.specs.declared.chart.chart.Column.{Column}
 pub use Rattle.osc_script.specs.{address_of, name_of}
 use Rattle.osc_script.specs.declared.node.Node.{Node}
 use Rattle.osc_script.specs.declared.node.Node.TheVariants.{Client, Proxy, Server, Stranger}

@@ -1,7 +1,7 @@
 -- The diagram of a script.
 use Rattle.std.specs.Prelude.{◌≡◌, ℕ, List, filter, reverse}
-use Rattle.osc_chart.specs.{is_met}
-use Rattle.osc_chart.specs.declared.chart.Column.{Column}
+use Rattle.osc_diagram.specs.Chart.{is_met}
+use Rattle.osc_diagram.specs.declared.chart.chart.Column.{Column}
 use Rattle.osc_script.specs.{IsScript}
 use Rattle.osc_script.specs.declared.line.Line.{Line}
 use Rattle.osc_diagram.specs.Columns.{AreColumns, nodes_of}

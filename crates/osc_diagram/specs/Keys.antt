@@ -2,7 +2,7 @@
 use Rattle.std.specs.Prelude.{ℕ, Bool, if◌then◌else◌, List, [], ◌∷◌, ◌++◌, fold, Option, Some, None}
 use Rattle.std.specs.List.{list_any}
 use Rattle.std.specs.Str.{bytes_eq}
-use Rattle.osc_chart.specs.{key_line}
+use Rattle.osc_diagram.specs.Chart.{key_line}
 use Rattle.osc_model.specs.declared.step.Note.{Note}
 use Rattle.osc_run.specs.{Noted}
 

@@ -1,8 +1,8 @@
 -- What is drawn of a script that was done.
 use Rattle.std.specs.Prelude.{ℕ, ◌+◌, ◌-◌, ◌==◌, ◌&&◌, if◌then◌else◌, not, List, [], ◌∷◌, ◌++◌, drop, take, flat_map, length, Option, Some, None, option_and_then, option_map, slice_get}
-use Rattle.osc_chart.specs.declared.chart.Mark.{Mark}
-use Rattle.osc_chart.specs.declared.chart.Mark.TheVariants as mark
-use Rattle.osc_chart.specs.declared.chart.Way.TheVariants.{Sent}
+use Rattle.osc_diagram.specs.declared.chart.chart.Mark.{Mark}
+use Rattle.osc_diagram.specs.declared.chart.chart.Mark.TheVariants as mark
+use Rattle.osc_diagram.specs.declared.chart.chart.Way.TheVariants.{Sent}
 use Rattle.osc_model.specs.declared.code.Code.{Code}
 use Rattle.osc_model.specs.declared.node.Moment.{Moment}
 use Rattle.osc_model.specs.declared.step.ClientResult.{ClientResult}

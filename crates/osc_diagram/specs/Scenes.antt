@@ -2,10 +2,10 @@
 use Rattle.std.specs.Prelude.{◌≡◌, ℕ, ◌+◌, ◌==◌, ◌||◌, Bool, true, false, not, if◌then◌else◌, List, [], ◌∷◌, ◌++◌, filter, length, Option, Some, None, codes, slice_get}
 use Rattle.std.specs.List.{list_any}
 use Rattle.std.specs.Option.{option_map_or}
-use Rattle.osc_chart.specs.declared.chart.Mark.{Mark}
-use Rattle.osc_chart.specs.declared.chart.Mark.TheVariants as mark
-use Rattle.osc_chart.specs.declared.chart.Way.{Way}
-use Rattle.osc_chart.specs.declared.chart.Way.TheVariants.{Again, Forged}
+use Rattle.osc_diagram.specs.declared.chart.chart.Mark.{Mark}
+use Rattle.osc_diagram.specs.declared.chart.chart.Mark.TheVariants as mark
+use Rattle.osc_diagram.specs.declared.chart.chart.Way.{Way}
+use Rattle.osc_diagram.specs.declared.chart.chart.Way.TheVariants.{Again, Forged}
 use Rattle.osc_model.specs.declared.node.Moment.{Moment}
 use Rattle.osc_model.specs.declared.node.Peer.{Peer}
 use Rattle.osc_script.specs.{address_of}

@@ -2,7 +2,7 @@
 ghost use Rattle.std.specs.Prelude.{◌≡◌, ◌++◌, ◌∷◌, [], IfOk, OnOk, map};
 ghost use Rattle.osc_diagram.specs.Columns as spec;
 
-use osc_chart::Column;
+use crate::Column;
 use osc_script::{ClientName, Node, ProxyName};
 use osc_simulation::Names;
 use std::alloc::{AllocError, Global};

@@ -10,7 +10,7 @@ use crate::columns::columns_of;
 use crate::keys::keys_of;
 use crate::marks::marks_of;
 use crate::play::{Played, play_lines};
-use osc_chart::{Column, Mark, met_columns};
+use crate::{Column, Mark, met_columns};
 use osc_model::Bytes;
 use osc_script::{Line, ScriptError, read_script};
 use osc_simulation::laws::a_script_fits;

@@ -1,9 +1,9 @@
 //! The keys of a run's contexts, for Wireshark.
 ghost use Rattle.std.specs.Prelude.{◌≡◌, ◌++◌, ◌∷◌, [], IfOk, OnOk, option_map};
-ghost use Rattle.osc_chart.specs.{key_line as line_of};
+ghost use Rattle.osc_diagram.specs.Chart.{key_line as line_of};
 ghost use Rattle.osc_diagram.specs.Keys as spec;
 
-use osc_chart::key_line;
+use crate::key_line;
 use osc_model::{Bytes, ContextName, Note};
 use osc_run::Noted;
 use std::alloc::{AllocError, Global};

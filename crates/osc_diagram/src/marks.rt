@@ -4,7 +4,7 @@ ghost use Rattle.osc_diagram.specs.Marks as spec;
 
 use crate::play::Played;
 use crate::scene::{Scene, has};
-use osc_chart::{Arrow, Mark, Way};
+use crate::{Arrow, Mark, Way};
 use osc_model::{Bytes, ClientResult, Code, Entry, Moment, Note};
 use osc_run::{Actor, Noted};
 use osc_script::{ClientName, Node};

@@ -5,8 +5,8 @@ ghost use Rattle.osc_simulation.specs.{CanPutAll};
 ghost use Rattle.osc_diagram.specs.Scenes as spec;
 ghost use Rattle.osc_diagram.specs.Runs.{IsPlayed};
 
+use crate::Mark;
 use crate::scene::{Scene, before_of, lose};
-use osc_chart::Mark;
 use osc_script::Line;
 use osc_simulation::{Names, Stage, first_world};
 use std::alloc::{AllocError, Global};

@@ -2,7 +2,7 @@
 ghost use Rattle.std.specs.Prelude.{◌≡◌, ◌+◌, ◌<◌, ◌^◌, ◌++◌, ◌∷◌, [], IfOk, OnOk};
 ghost use Rattle.osc_diagram.specs.Scenes as spec;
 
-use osc_chart::{Arrow, Mark, Way};
+use crate::{Arrow, Mark, Way};
 use osc_model::{Bytes, Moment, Peer};
 use osc_script::{Line, Node};
 use osc_simulation::{Names, Stage, datagram_number, what_of};

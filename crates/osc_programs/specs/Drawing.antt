@@ -1,6 +1,6 @@
 -- How a diagram is written.
 use Rattle.std.specs.Prelude.{ℕ, List, flat_map}
-use Rattle.osc_chart.specs.{chart_text, picture}
+use Rattle.osc_diagram.specs.Chart.{chart_text, picture}
 use Rattle.osc_diagram.specs.declared.diagram.Diagram.{Diagram}
 use Rattle.osc_words.specs.declared.sim_words.DiagramForm.{DiagramForm}
 use Rattle.osc_words.specs.declared.sim_words.DiagramForm.TheVariants.{Text, Svg}

@@ -1,7 +1,7 @@
 //! A script in, the diagram of its run out.
 ghost use Rattle.std.specs.Prelude.{◌≡◌, ◌≢◌, ◌⊎◌, ◌+◌, ℕ, List, IfErr, IfOk, IfSome};
 ghost use Rattle.std.specs.Io.KnownBytes.{Appends};
-ghost use Rattle.osc_chart.specs.{capture as capture_of};
+ghost use Rattle.osc_diagram.specs.Chart.{capture as capture_of};
 ghost use Rattle.osc_diagram.specs.{IsDiagramOf};
 ghost use Rattle.osc_diagram.specs.declared.diagram.Diagram.{Diagram as AnyDiagram};
 ghost use Rattle.osc_programs.specs.Drawing as spec;
@@ -14,8 +14,7 @@ use crate::ended::Ended;
 use crate::input::script_bytes;
 use crate::issue::written;
 use crate::simulate::{tell_bad_line, told_last};
-use osc_chart::{capture, chart_text, picture};
-use osc_diagram::{Diagram, diagram_of};
+use osc_diagram::{Diagram, capture, chart_text, diagram_of, picture};
 use osc_model::Bytes;
 use osc_script::ScriptError;
 use osc_words::DiagramForm;

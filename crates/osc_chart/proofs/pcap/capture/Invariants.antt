@@ -1,7 +1,0 @@
-use Rattle.std.proofs.Common.{◌≡◌, ◌++◌, drop, flat_map}
-use Rattle.osc_chart.specs.Capture.{capture, of_mark}
-use Rattle.osc_chart.proofs.pcap.capture.Given as goal
-
--- the records so far, and those of the marks that are left
-abbrev pub invariant-loop-mark : goal.invariant-loop-mark
-invariant-loop-mark l = l.file.items ++ flat_map of_mark (drop l.mark-index l.marks) ≡ capture l.marks

@@ -1,9 +1,0 @@
-use Rattle.std.proofs.Common.{◌≡◌, ◌++◌, drop}
-use Rattle.osc_chart.specs.Picture.{groups}
-use Rattle.osc_chart.proofs.svg.add_groups.Given as goal
-
-abbrev pub invariant-loop-mark : goal.invariant-loop-mark
-invariant-loop-mark l = record {
-  row : l.row ≡ l.mark-index;
-  drawn : l.text.items ++ groups l.columns l.row (drop l.mark-index l.marks) ≡ l.initial.text.items ++ groups l.columns 0 l.marks;
-}

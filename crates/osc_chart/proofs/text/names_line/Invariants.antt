@@ -1,6 +1,0 @@
-use Rattle.std.proofs.Common.{◌≡◌, ◌++◌, drop, flat_map}
-use Rattle.osc_chart.specs.Text.{name_cell}
-use Rattle.osc_chart.proofs.text.names_line.Given as goal
-
-abbrev pub invariant-loop-column : goal.invariant-loop-column
-invariant-loop-column l = l.text.items ++ flat_map name_cell (drop l.column-index l.columns) ≡ flat_map name_cell l.columns
