@@ -9,7 +9,7 @@ use Rattle.osc_model.specs.declared.node.Moment.{Moment}
 use Rattle.osc_model.specs.declared.step.Datagram.{Datagram}
 use Rattle.osc_model.specs.declared.step.Step.{Step}
 use Rattle.osc_ccm.specs.{Sealings, Tags}
-use Rattle.osc_kept.specs.{IsChangeOf}
+use Rattle.osc_turn.specs.Kept.{IsChangeOf}
 use Rattle.osc_run.specs.{ServerState, ServerStep}
 use Rattle.osc_server.specs.{core}
 use Rattle.osc_server.specs.State.{State as Server}

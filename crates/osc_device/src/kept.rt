@@ -5,7 +5,7 @@ ghost use Rattle.osc_model.specs.declared.code.Method.TheVariants.{Delete, Get, 
 ghost use Rattle.osc_authz.specs.{ClientContextState};
 ghost use Rattle.osc_client.specs.{IsFree};
 ghost use Rattle.osc_scope.specs.{Entry as ScopeEntry, IsScope};
-ghost use Rattle.osc_kept.specs.{IsChangeOf};
+ghost use Rattle.osc_turn.specs.Kept.{IsChangeOf};
 ghost use Rattle.osc_device.specs.Answered.{own_request as own_request_of};
 ghost use Rattle.osc_device.specs.Begun.{IsBegun, IsGranted, IsNoDevice, own_claims};
 ghost use Rattle.osc_device.specs.Carrying.{ServerTakesMemory};
@@ -18,10 +18,10 @@ use crate::error::{CallError, NewError};
 use crate::own_token::{OwnToken, ServerParts};
 use crate::round::Round;
 use osc_ccm::Ciphers;
-use osc_kept::keep_change;
-use osc_kept::laws::one_path_changes;
 use osc_model::{Draw, Entry, Method, Moment, Path, Peer, Request, Resource, Step};
 use osc_store::{KeepError, Keeping};
+use osc_turn::keep_change;
+use osc_turn::laws::one_path_changes;
 use std::alloc::Global;
 use std::marker::Model;
 

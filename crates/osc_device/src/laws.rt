@@ -122,7 +122,7 @@ pub fn runs_keep_their_promises<A: Ciphers>()
 /// The lives of a device with a store are one run, for each run that it is in. Calls lead it from where it began to where its resources are found
 /// after a power cut: before the call in which the power goes, or after it. A device begins of the same parts with these resources, and with the
 /// same token. Then the run goes on by what the calls noted, and a restart; so what holds of each run holds of all lives together, as by
-/// `osc_kept::laws::lives_are_one_run`. Which resources are found, `kept` and `crash` of the calls of a `KeptDevice` say, with
+/// `osc_turn::laws::lives_are_one_run`. Which resources are found, `kept` and `crash` of the calls of a `KeptDevice` say, with
 /// `osc_store::laws::starts_go_on`.
 pub fn lives_are_one_run<A: Ciphers>()
     ensures calls { (old between new : State) (steps later : ℕ → List Noted) → AllGoOn old steps between → AllGoOn between later new

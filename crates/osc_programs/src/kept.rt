@@ -12,11 +12,12 @@ use crate::holding::Holding;
 use crate::supply::moment_and_draw;
 use crate::turns::tell_turn;
 use osc_ccm::Suite;
-use osc_kept::{KeepsSteps, KeptNode, Unsent, kept_turn};
 use osc_log::Log;
 use osc_log::laws::telling_goes_on;
 use osc_run::Node;
-use osc_turn::{ClockAndRandom, Pace, Port, TurnError, Watch};
+use osc_turn::{
+    ClockAndRandom, KeepsSteps, KeptNode, Pace, Port, TurnError, Unsent, Watch, kept_turn,
+};
 use std::alloc::Global;
 
 /// The node takes so many turns, unless one fails, and the log tells of each. What a step changed is kept before anything of the step is handed

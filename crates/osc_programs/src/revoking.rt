@@ -10,13 +10,13 @@ ghost use Rattle.osc_programs.specs.Revoking as spec;
 
 use crate::ended::Ended;
 use osc_ccm::Suite;
-use osc_kept::KeepsSteps;
 use osc_model::laws::paths_are_ordered;
 use osc_model::{Bytes, Path, Resource, revoked_path};
 use osc_server::Server;
 use osc_settings::ServerSettings;
 use osc_store::{Forgetful, KeepError};
 use osc_tree::Tree;
+use osc_turn::KeepsSteps;
 use std::alloc::{AllocError, Global};
 use std::io::Eprint;
 

@@ -25,8 +25,6 @@ use crate::saving::save_tree;
 use libc::clock_gettime;
 use libc::types::timespec;
 use osc_ccm::Suite;
-use osc_kept::laws::one_path_changes;
-use osc_kept::{KeepsSteps, keep_change};
 use osc_model::laws::paths_are_ordered;
 use osc_model::{Code, Entry, Path, Resource, StepNotes};
 use osc_server::Server;
@@ -35,6 +33,8 @@ use osc_store::{
     FileKeeper, KeepError, Keeper, Keeping, OpenError, Start, Unknown, Wary, draw_mark, read_store,
 };
 use osc_tree::Tree;
+use osc_turn::laws::one_path_changes;
+use osc_turn::{KeepsSteps, keep_change};
 use osc_words::{FileName, StoreWords};
 use sqlite_std_file::FileFrom;
 use sqlite_store::FileStore;

@@ -4,6 +4,7 @@ pub mod Turns
 pub mod Errors
 pub mod Pace
 pub mod ClockAndRandom
+pub mod Kept
 pub use ClockAndRandom.{ClockAndRandomState, Gives, IsDrawn, IsOfSeed, IsSeeded}
 pub use Pace.{CameIn, IsRefusedIn, busy_after, must_tick}
 pub use Ports.{CountsFault, Received, cause_of, grown, received_in}

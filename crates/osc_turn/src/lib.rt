@@ -4,6 +4,7 @@
 
 mod clock_and_random;
 mod error;
+mod kept;
 mod pace;
 mod port;
 mod seeds;
@@ -12,6 +13,7 @@ mod watch;
 
 pub use clock_and_random::{ClockAndRandom, generator_of, not_before};
 pub use error::TurnError;
+pub use kept::{KeepsSteps, KeptNode, Unsent, keep_change, kept_turn, laws};
 pub use pace::{Pace, paced_step, paced_turn};
 pub use port::{Port, PortFault};
 pub use seeds::Seeds;

@@ -1,5 +1,5 @@
 use Rattle.std.proofs.Common.{◌∙◌, ◌∷◌, [], ap, refl, Err}
-use Rattle.osc_kept.specs.declared.error.Unsent.{Unsent}
+use Rattle.osc_turn.specs.declared.kept.error.Unsent.{Unsent}
 use Rattle.osc_turn.specs.{busy_after, must_tick}
 use Rattle.osc_log.specs.Log as log
 use Rattle.osc_programs.specs.Turning as turning

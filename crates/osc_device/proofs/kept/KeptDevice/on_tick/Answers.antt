@@ -1,5 +1,5 @@
 use Rattle.std.proofs.Common.{rules, ap, subst, sym, Option}
-use Rattle.osc_kept.specs.{IsChangeOf}
+use Rattle.osc_turn.specs.Kept.{IsChangeOf}
 use Rattle.osc_model.specs.declared.step.Entry.{Entry}
 use Rattle.osc_device.specs.{HasTicked, Yields}
 use Rattle.osc_device.specs.State.{State}

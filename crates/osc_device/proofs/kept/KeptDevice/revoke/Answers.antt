@@ -1,6 +1,6 @@
 use Rattle.std.proofs.Common.{rules, ap, subst, sym, [], None, Option}
 use Rattle.osc_model.specs.declared.code.Method.TheVariants.{Put}
-use Rattle.osc_kept.specs.{IsChangeOf}
+use Rattle.osc_turn.specs.Kept.{IsChangeOf}
 use Rattle.osc_model.specs.declared.step.Entry.{Entry}
 use Rattle.osc_device.specs.{HasRuled, Yields, own_request}
 use Rattle.osc_device.specs.State.{State}

@@ -9,7 +9,7 @@ use Rattle.osc_server.specs.{core}
 use Rattle.osc_store.specs.{Keeps, MayLeave}
 use Rattle.osc_store.proofs.CauseLemmas.{on_ok_if}
 use Rattle.osc_store.proofs.ViewLemmas.{clean_before}
-use Rattle.osc_kept.specs.{IsChangeOf}
+use Rattle.osc_turn.specs.Kept.{IsChangeOf}
 use Rattle.osc_programs.proofs.Openings.{leaves_after}
 use Rattle.osc_programs.proofs.store.StoreFileKeepsStepsSuiteServer.keep_step.Goals as goal
 

@@ -1,0 +1,13 @@
+//! Turns of a node whose resources outlive a power cut: what a step changed is kept before anything of the step is sent. And what follows of it:
+//! over all lives of a server, from one power cut to the next, there is one history.
+
+mod changes;
+mod error;
+mod keeping;
+pub mod laws;
+mod turning;
+
+pub use changes::keep_change;
+pub use error::Unsent;
+pub use keeping::KeepsSteps;
+pub use turning::{KeptNode, kept_turn};

@@ -1,0 +1,19 @@
+//! Why nothing of a turn was sent.
+ghost use Rattle.osc_turn.specs.declared.error.TurnError.{TurnError as NoStep};
+ghost use Rattle.std.specs.Prelude.{◌≡◌};
+
+use crate::TurnError;
+use osc_store::KeepError;
+use thiserror::Error;
+
+/// Why nothing of a turn was sent.
+#[derive(Clone, Copy, Debug, PartialEq, Eq, Error)]
+pub enum Unsent {
+    /// No step was made; the node and what keeps its steps are as before.
+    #[error("{0}")]
+    NoStep(TurnError),
+    /// A step was made, and what it changed isn't kept, or may not be. The node has moved on, so it may take no other turn: whoever starts
+    /// it again finds the resources before the step, or after it.
+    #[error("a change is not kept: {0}")]
+    NotKept(KeepError),
+}
