@@ -422,16 +422,18 @@ static void pass(void) {
     if (who == 0) {
         number = nzf_device_next_deadline(&device, &due);
         ANSWERS(number, OR(NZF_DONE) | OR(NZF_NOTHING));
-        SHOULD(nzf_device_on_tick(&device, now, &random) == NZF_DONE);
+        number = nzf_device_on_tick(&device, now, &random);
+        ANSWERS(number, OR(NZF_DONE) | (has_refused ? OR(NZF_LOST) : 0));
         uint8_t code;
         ANSWERS(nzf_device_learnt(&device, &code), OR(NZF_DONE) | OR(NZF_UNVERIFIED) | OR(NZF_NOTHING));
         take_all(next_of_device, &device, &DEVICE);
     } else if (who == 1) {
         number = nzf_proxy_on_tick(&proxy, now, &random);
-        ANSWERS(number, OR(NZF_DONE) | (has_refused ? OR(NZF_NO_MEMORY) : 0));
-        if (number == NZF_DONE) take_all(next_of_proxy, &proxy, &PROXY);
+        ANSWERS(number, OR(NZF_DONE) | (has_refused ? OR(NZF_NO_MEMORY) | OR(NZF_LOST) : 0));
+        if (number != NZF_NO_MEMORY) take_all(next_of_proxy, &proxy, &PROXY);
     } else {
-        SHOULD(nzf_client_on_tick(&clients[who - 2], now) == NZF_DONE);
+        number = nzf_client_on_tick(&clients[who - 2], now);
+        ANSWERS(number, OR(NZF_DONE) | (has_refused ? OR(NZF_LOST) : 0));
         heed_client(who - 2);
         take_all(next_of_client, &clients[who - 2], &AT[who - 2]);
     }

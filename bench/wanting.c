@@ -172,13 +172,16 @@ static int made(void) {
 
 /* ---- the client: what nobody answers ends as a time-out, once */
 
-/* How often it ended so, or -1 where a tick answered anything but NZF_DONE. */
+/* A tick does what is due, or says that what should have gone out was lost. */
+static int is_ticked(int32_t told) { return told == NZF_DONE || told == NZF_LOST; }
+
+/* How often it ended so, or -1 where a tick was refused. */
 static int client_waits(void) {
     int timed_out = 0;
     nzf_result result;
     for (uint64_t end = now + WAIT; now < end;) {
         now += TICK;
-        if (AT(client_heap, nzf_client_on_tick(&client, now)) != NZF_DONE) return -1;
+        if (!is_ticked(AT(client_heap, nzf_client_on_tick(&client, now)))) return -1;
         if (AT(client_heap, nzf_client_result(&client, &result, bytes, sizeof bytes)) == NZF_DONE && result.what == NZF_RESULT_TIMED_OUT) timed_out++;
         while (AT(client_heap, nzf_client_next(&client, &to, bytes, sizeof bytes, &length)) == NZF_DONE) continue;
     }
@@ -237,7 +240,7 @@ static int device_ends(void) {
     for (uint64_t end = now + WAIT; now < end;) {
         nzf_draw it = draw();
         now += TICK;
-        if (AT(device_heap, nzf_device_on_tick(&device, now, &it)) != NZF_DONE) return 0;
+        if (!is_ticked(AT(device_heap, nzf_device_on_tick(&device, now, &it)))) return 0;
         if (AT(device_heap, nzf_device_learnt(&device, &code)) != NZF_NOTHING) told++;
         while (AT(device_heap, nzf_device_next(&device, &to, bytes, sizeof bytes, &length)) == NZF_DONE) continue;
     }
@@ -279,7 +282,7 @@ static int proxy_ends(void) {
     for (uint64_t end = now + WAIT; now < end;) {
         nzf_draw it = draw();
         now += TICK;
-        if (AT(proxy_heap, nzf_proxy_on_tick(&proxy, now, &it)) != NZF_DONE) return 0;
+        if (!is_ticked(AT(proxy_heap, nzf_proxy_on_tick(&proxy, now, &it)))) return 0;
         while (AT(proxy_heap, nzf_proxy_next(&proxy, &to, bytes, sizeof bytes, &length)) == NZF_DONE) continue;
     }
     return 1;
@@ -585,7 +588,7 @@ static void proxy_worst(void) {
 }
 
 /* What each node may hold at the most, as docs/LIBRARY.md has it: this run comes to within a fiftieth of it, and doesn't pass it. */
-enum { DEVICE_LIMIT = 1730000, CLIENT_LIMIT = 28500, PROXY_LIMIT = 1465000 };
+enum { DEVICE_LIMIT = 1730000, CLIENT_LIMIT = 34500, PROXY_LIMIT = 1500000 };
 
 static void within(const char *who, const heap *of, size_t limit) {
     int holds = of->most <= limit && of->most >= limit - limit / 50;

@@ -2,13 +2,14 @@
  * client asks it, and a forward proxy passes requests on. Each is a value held by a handle. There is no socket, no clock, no generator and no thread
  * here: the caller hands in what came, when it came and random bytes, and sends what comes out.
  *
- * Calls. Each answers a number of nzf_outcome: NZF_DONE, or why not. NZF_LOST, NZF_UNVERIFIED and NZF_REFUSED say that something was begun. After any
+ * Calls. Each answers a number of nzf_outcome: NZF_DONE, or why not. NZF_LOST, NZF_UNVERIFIED and NZF_REFUSED say that something was done. After any
  * other number than these and NZF_DONE the node is as it was before the call. NZF_BAD_ARGUMENT says that an argument is out of its range, whatever memory there
  * is: a call with such an argument never answers NZF_NO_MEMORY, but where it says so.
  *
  * Steps. What a step leaves is there until the next: the datagrams that are to be sent, and what was served, refused or learnt. So take the
  * datagrams by `next` before another step. A device's own calls (`open`, `put` and the like) leave nothing of the step before them, once
- * something was begun. A call that is refused leaves the last step as it was: look at what was served, refused or learnt only after NZF_DONE.
+ * something was begun. A call that is refused leaves the last step as it was: look at what was served, refused or learnt only after NZF_DONE, and
+ * after a tick's NZF_LOST.
  *
  * Structs. One that a call reads has `size` as its first member, which is to be its sizeof: a later version of the library may know longer ones, and
  * takes the shorter ones of an earlier version for what they meant there. Another size is NZF_BAD_ARGUMENT. Begin with the initializer that is named after it (NZF_DEVICE_SETTINGS for nzf_device_settings), and set what differs.
@@ -74,7 +75,7 @@ typedef enum nzf_outcome {
     NZF_BAD_SCOPE = 24,    /* the text is no scope */
     NZF_NOTHING = 33,      /* there is none: no node, no datagram, nothing served, nothing learnt, no resource, no deadline */
     NZF_BAD_ARGUMENT = 34, /* an argument is out of its range: a size, a time, a path, a method, a format, a length */
-    NZF_LOST = 35,         /* there was no memory on the way: what was begun is open, and a tick goes on with it */
+    NZF_LOST = 35,         /* there was no memory on the way: what is open stays so, and a later tick goes on with it */
     NZF_UNVERIFIED = 36,   /* what was begun ended by an unprotected answer, whose code is told, or by none in time: the code is 0 then */
     NZF_NOT_NOW = 37,      /* the proxy has heard something already */
     NZF_REFUSED = 39       /* what was asked was answered, and refused: the code is told */
@@ -336,8 +337,9 @@ int32_t nzf_device_get(const nzf_device *device, const void *path, size_t path_l
  * NZF_NO_MEMORY, where it would answer. Heap: for the step. */
 int32_t nzf_device_on_datagram(nzf_device *device, uint64_t now, const nzf_peer *from, const void *bytes, size_t length, const nzf_draw *draw) NZF_CALL;
 
-/* What is due by then is done, whatever memory there is: at least each second, also while datagrams come. Also NZF_BAD_ARGUMENT. Heap: for what is sent,
- * which is lost without. */
+/* What is due by then is done, whatever memory there is: at least each second, also while datagrams come. NZF_LOST: all of
+ * it is done, but for some of what should have gone out there was no memory: that is lost, as on the way, and a later tick goes on. Also
+ * NZF_BAD_ARGUMENT. Heap: for what is sent. */
 int32_t nzf_device_on_tick(nzf_device *device, uint64_t now, const nzf_draw *draw) NZF_CALL;
 
 /* What the last step learnt, where it was a tick, of what `open`, `put`, `append`, `remove`, `revoke` or `allow` left open where it answered
@@ -355,8 +357,7 @@ int32_t nzf_device_next(nzf_device *device, nzf_peer *to, void *bytes, size_t ro
 
 /* The protected request that the last step served. Its path, its payload and its id context are written one after the other, without anything between
  * them, where there is room for all: NZF_PATH_MAX + NZF_DATAGRAM_MAX + NZF_CONTEXT_MAX bytes are always enough. NZF_NOTHING where it served none;
- * NZF_TOO_SHORT where `room` is less than the three lengths together, which are told then, too. Also NZF_NO_MEMORY, where it served one. Heap: for the
- * call. */
+ * NZF_TOO_SHORT where `room` is less than the three lengths together, which are told then, too. Heap: none. */
 int32_t nzf_device_served(const nzf_device *device, nzf_served *served, void *bytes, size_t room) NZF_CALL;
 
 /* The request that the last step refused; NZF_NOTHING where it refused none. */
@@ -385,7 +386,7 @@ int32_t nzf_client_ask(nzf_client *client, uint64_t now, const nzf_request *requ
 /* These bytes came from there as one datagram, as for a device. Also NZF_BAD_ARGUMENT, NZF_NO_MEMORY. Heap: for the step. */
 int32_t nzf_client_on_datagram(nzf_client *client, uint64_t now, const nzf_peer *from, const void *bytes, size_t length) NZF_CALL;
 
-/* What is due by then is done, whatever memory there is. Also NZF_BAD_ARGUMENT. Heap: for what is sent, which is lost without. */
+/* What is due by then is done, whatever memory there is; NZF_LOST as for a device. Also NZF_BAD_ARGUMENT. Heap: for what is sent. */
 int32_t nzf_client_on_tick(nzf_client *client, uint64_t now) NZF_CALL;
 
 /* The first time at which a tick does anything; NZF_NOTHING where none would. */
@@ -407,7 +408,7 @@ void nzf_client_free(nzf_client *client) NZF_POINTERS;
 
 /* ---- a forward proxy */
 
-/* Makes a proxy without targets. Also NZF_NO_MEMORY. Heap: some 750 bytes, and from its first datagram or tick on some 105 KiB, for as long as it is
+/* Makes a proxy without targets. Also NZF_NO_MEMORY. Heap: some 750 bytes, and from its first datagram or tick on some 137 KiB, for as long as it is
  * held. */
 int32_t nzf_proxy_new(nzf_proxy *proxy) NZF_CALL;
 
@@ -418,8 +419,8 @@ int32_t nzf_proxy_add_target(nzf_proxy *proxy, const void *host, size_t host_len
 /* These bytes came from there as one datagram, as for a device. Also NZF_BAD_ARGUMENT, NZF_NO_MEMORY. Heap: for the step, and for what is forwarded. */
 int32_t nzf_proxy_on_datagram(nzf_proxy *proxy, uint64_t now, const nzf_peer *from, const void *bytes, size_t length, const nzf_draw *draw) NZF_CALL;
 
-/* What is due by then is done; once the proxy has heard or ticked, whatever memory there is, and before that NZF_NO_MEMORY without it. Also
- * NZF_BAD_ARGUMENT. Heap: for what is sent, which is lost without. */
+/* What is due by then is done; once the proxy has heard or ticked, whatever memory there is, and before that NZF_NO_MEMORY without it. NZF_LOST
+ * as for a device. Also NZF_BAD_ARGUMENT. Heap: for what is sent. */
 int32_t nzf_proxy_on_tick(nzf_proxy *proxy, uint64_t now, const nzf_draw *draw) NZF_CALL;
 
 /* The first time at which a tick does anything; NZF_NOTHING where none would. */

@@ -1,5 +1,5 @@
-/* The lock where there is no memory for what was served: its bolt goes where /lock/wanted says all the same. And its own context, which it opens before
- * that ends. It is linked with -Wl,--wrap=malloc; the status is 1 where something doesn't hold. */
+/* The lock where there is no memory left once a request is served: its bolt goes where it is wanted all the same. And its own context, which it opens
+ * before that ends. It is linked with -Wl,--wrap=malloc; the status is 1 where something doesn't hold. */
 #define main lock_main
 #include "lock.c"
 #undef main
@@ -93,13 +93,14 @@ int main(void) {
     listen_on(0);
     begin();
     CLAIM(is_granted() && posts());
-    CLAIM(wants("open", 0) && is_open && !is_unseen);
-    CLAIM(wants("shut", 1) && !is_open && !is_unseen);
-    CLAIM(wants("open", SIZE_MAX) && !is_open && is_unseen);
+    CLAIM(wants("open", 0) && is_open && is_told);
+    CLAIM(wants("shut", 1) && !is_open);
+    CLAIM(wants("open", SIZE_MAX) && is_open);
     tick();
-    CLAIM(is_open && !is_unseen && is_told);
-    CLAIM(wants("open", SIZE_MAX) && is_unseen);
-    CLAIM(wants("shut", 0) && !is_open && !is_unseen);
+    CLAIM(is_open && is_told);
+    CLAIM(wants("shut", SIZE_MAX) && !is_open);
+    tick();
+    CLAIM(!is_open && is_told);
 
     uint64_t before = opened;
     tick();
@@ -110,6 +111,6 @@ int main(void) {
     nzf_client_free(&holder);
     nzf_device_free(&device);
     close(udp);
-    if (!broken) printf("bolt: it goes where it is wanted, also without memory for what was served\n");
+    if (!broken) printf("bolt: it goes where it is wanted, also without memory once that is served\n");
     return broken;
 }

@@ -30,9 +30,6 @@ static int udp = -1;
 static int is_open, is_told;
 static char line[96];
 
-/* Whether something was served that couldn't be told for lack of memory. */
-static int is_unseen;
-
 /* What the lock does at its own server. Where memory was wanting on the way it is left open: a tick goes on with it, and tells what came of it. */
 typedef enum { NONE, OPEN, PUT, APPEND, REMOVE } doing;
 static const char *const DOING[] = {"nothing", "open", "put /lock/actual", "append to /log", "remove /log"};
@@ -222,7 +219,6 @@ static void heed_served(void) {
     if (number == NZF_NOTHING) return;
     if (number != NZF_DONE) {
         complain("served", number, 0);
-        is_unseen = 1;
         return;
     }
     const uint8_t *payload = bytes + it.path_length, *holder = payload + it.payload_length;
@@ -230,21 +226,6 @@ static void heed_served(void) {
     if (!is_put || !is_text(bytes, it.path_length, WANTED)) return;
     if (is_text(payload, it.payload_length, "open")) move(1, holder, it.context_length);
     if (is_text(payload, it.payload_length, "shut")) move(0, holder, it.context_length);
-}
-
-/* Where it isn't known what was served, the bolt goes where /lock/wanted says. By whom isn't known either. */
-static void look(void) {
-    nzf_value it;
-    uint8_t wanted[NZF_PAYLOAD_MAX];
-    int32_t number = nzf_device_get(&device, WANTED, strlen(WANTED), wanted, sizeof wanted, &it);
-    if (number != NZF_DONE && number != NZF_NOTHING) {
-        complain("get", number, 0);
-        return;
-    }
-    is_unseen = 0;
-    if (number == NZF_NOTHING) return;
-    if (!is_open && is_text(wanted, it.length, "open")) move(1, wanted, 0);
-    if (is_open && is_text(wanted, it.length, "shut")) move(0, wanted, 0);
 }
 
 static void heed_refused(void) {
@@ -256,18 +237,16 @@ static void heed_refused(void) {
     fflush(stdout);
 }
 
-/* After a call that was done: what its step left is taken before the lock writes for itself, which is a step of its own. After any other number the
- * last step is still there, and was heeded by then: to heed it again would move the bolt twice. */
+/* After a call that was done, though some of what it sends may be lost: what its step left is taken before the lock writes for itself, which is a step
+ * of its own. After any other number the last step is still there, and was heeded by then: to heed it again would move the bolt twice. */
 static void heed(const char *what, int32_t number) {
-    if (number == NZF_DONE) {
+    if (number == NZF_DONE || number == NZF_LOST) {
         send_all();
         heed_served();
         heed_refused();
         heed_learnt();
-    } else {
-        complain(what, number, 0);
     }
-    if (is_unseen) look();
+    if (number != NZF_DONE) complain(what, number, 0);
     tell();
 }
 

@@ -20,8 +20,8 @@ static void send_all(void) {
 
 /* What a step left is sent where it was done. After NZF_NO_MEMORY a datagram is lost, and whoever sent it repeats it. */
 static void heed(const char *what, int32_t number) {
-    if (number == NZF_DONE) send_all();
-    else fprintf(stderr, "proxy: %s: %s\n", what, nzf_outcome_text(number));
+    if (number == NZF_DONE || number == NZF_LOST) send_all();
+    if (number != NZF_DONE) fprintf(stderr, "proxy: %s: %s\n", what, nzf_outcome_text(number));
 }
 
 static void add_target(const char *text) {

@@ -15,19 +15,22 @@ WORDS = ROOT / "c/words.c"
 SIZES = ROOT / "crates/osc_c/specs/Given.antt"
 NUMBERS = ROOT / "crates/osc_model/src/refusals.rt"
 CODES = ROOT / "crates/osc_model/src/code.rt"
+NUMBERS_ONCE = ROOT / "crates/osc_model/src/limits.rt"
 
 MOST_ARGUMENTS = 6
 PLAIN = {"u8": "uint8_t", "u16": "uint16_t", "u32": "uint32_t", "u64": "uint64_t", "i32": "int32_t", "usize": "size_t"}
 WIDTHS = {"uint8_t": 1, "uint16_t": 2, "uint32_t": 4, "uint64_t": 8, "int32_t": 4, "size_t": 8, "const void *": 8}
 
-# Where a limit is a number of the crates: the file, and what stands before the number there.
+# Where a limit is a number of the crates: its name there.
 LIMITS = {
-    "NZF_DATAGRAM_MAX": ("osc_coap/src/body.rt", r"pub const DATAGRAM_LIMIT: usize = "),
-    "NZF_PAYLOAD_MAX": ("osc_settings/src/resource.rt", r"const LONGEST: usize = "),
-    "NZF_ID_MAX": ("osc_c/src/calls/arguments.rt", r"const LONGEST_PART: usize = "),
-    "NZF_SECRET_MAX": ("osc_c/src/calls/arguments.rt", r"const LONGEST_PART: usize = "),
-    "NZF_CONTEXT_MAX": ("osc_c/src/calls/arguments.rt", r"const LONGEST_PART: usize = "),
-    "NZF_HOST_MAX": ("osc_c/src/calls/arguments.rt", r"const LONGEST_HOST: usize = "),
+    "NZF_DATAGRAM_MAX": "DATAGRAM_LIMIT",
+    "NZF_SEGMENT_MAX": "LONGEST_SEGMENT",
+    "NZF_PAYLOAD_MAX": "LONGEST_PAYLOAD",
+    "NZF_ID_MAX": "LONGEST_ID",
+    "NZF_SECRET_MAX": "LONGEST_PART",
+    "NZF_SALT_MAX": "LONGEST_PART",
+    "NZF_CONTEXT_MAX": "LONGEST_PART",
+    "NZF_HOST_MAX": "LONGEST_HOST",
 }
 
 
@@ -210,10 +213,10 @@ def enumerated(header, prefix):
 
 def wrong_limits(header):
     said = dict(re.findall(r"\b(NZF_\w+_MAX) = (\d+)", header))
-    for name, (file, before) in LIMITS.items():
-        found = re.search(before + r"([\d_]+)", read(ROOT / "crates" / file))
-        if not found or int(found.group(1).replace("_", "")) != int(said.get(name, -1)):
-            yield f"{place(name)}: limit {name}: it isn't that of crates/{file}"
+    numbers = dict(re.findall(r"pub const (\w+): \w+ = ([\d_]+);", read(NUMBERS_ONCE)))
+    for name, limit in LIMITS.items():
+        if int(numbers.get(limit, "-1").replace("_", "")) != int(said.get(name, -2)):
+            yield f"{place(name)}: limit {name}: it isn't {limit} of {NUMBERS_ONCE.relative_to(ROOT)}"
 
 
 def place(name):

@@ -4,6 +4,9 @@ A word is found where it is a word of the code, the definitions, the scripts or 
 declares both, and `module::name` where a module of this name does. Hexadecimal, numbers and addresses aren't names. A link is found where
 its file is there, and has the heading that it names. A block that begins with ```LANGUAGE FILE is a part of that file. The table of the gate is of
 runs, and may name a crate that is gone until the next one writes it again: it isn't looked at.
+
+A constant of a crate's module is the only one of its word and value, so that each number is written once; those of tests, rows, benchmarks and the
+example are apart.
 """
 
 import functools
@@ -126,11 +129,37 @@ def of_page(page):
                 yield f"{name}:{number}: {target or page.name} has no heading #{anchor}"
 
 
+# Crates that may have constants of their own.
+APART = re.compile(r"osc_(tests_\w+|rows|bench|example)")
+CONSTANT = re.compile(r"^(?:pub(?:\(\w+\))? )?const ([A-Z][A-Z0-9_]*): [^=\n]+ = ([^;\n]+);$", re.M)
+
+
+def value(text):
+    """The value of a constant as others may write it: a number in decimal digits, without marks between them."""
+    bare = text.replace("_", "")
+    return str(int(bare, 0)) if re.fullmatch(r"0[xX][0-9a-fA-F]+|0b[01]+|\d+", bare) else text
+
+
+def of_constants():
+    first = {}
+    for path in sorted((ROOT / "crates").glob("*/src/**/*.rt")):
+        crate, text = path.relative_to(ROOT).parts[1], read(path)
+        if APART.fullmatch(crate):
+            continue
+        for found in CONSTANT.finditer(text):
+            at = f"{own(path)}:{text.count(chr(10), 0, found.start()) + 1}"
+            word, its = found[1], value(found[2])
+            there = first.setdefault((word, its), at)
+            if there != at:
+                yield f"{at}: the constant {word} = {its} is at {there} too"
+
+
 def faults(only, say):
     looked_at = only or [it for it in pages() if it.name != "CHANGELOG.md"]
     for page in looked_at:
         yield from of_page(page)
     if not only:
+        yield from of_constants()
         map_of_crates = ROOT / "docs/ARCHITECTURE.md"
         for crate in re.findall(r"^osc\w*", read(ROOT / "crates.txt"), re.M):
             if f"`{crate}`" not in read(map_of_crates) and not crate.startswith("osc_tests_"):

@@ -229,7 +229,7 @@ fn server_from<I: Read + Drop>(
     let ended = if words.check {
         check_server(alloc, &mut input, &mut faults, &mut output)
     } else if let Some(form) = words.log {
-        let mut lines = Lines::new(alloc, log_form(form), AtOnce::new(rt.stderr()));
+        let mut lines = Lines::new(log_form(form), AtOnce::new(rt.stderr()));
         serve(alloc, rt, &mut input, &mut lines, words.turns)
     } else {
         serve(alloc, rt, &mut input, &mut faults, words.turns)
@@ -276,7 +276,7 @@ fn proxy_from<I: Read + Drop>(
     let ended = if words.check {
         check_proxy(alloc, &mut input, &mut faults, &mut output)
     } else if let Some(form) = words.log {
-        let mut lines = Lines::new(alloc, log_form(form), AtOnce::new(rt.stderr()));
+        let mut lines = Lines::new(log_form(form), AtOnce::new(rt.stderr()));
         forward(alloc, rt, &mut input, &mut lines, words.turns)
     } else {
         forward(alloc, rt, &mut input, &mut faults, words.turns)

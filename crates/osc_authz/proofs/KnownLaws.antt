@@ -15,7 +15,7 @@ use Rattle.osc_authz.specs.declared.token_entry.TokenEntry.{TokenEntry}
 
 -- ---- what is answered as before
 
-no_answer : (post : Post) (answer : PostAnswer) (opened : _) (e : PostError) → post ≡ record { opened = opened; answer = Err e } → post.answer ≡ Ok (Known answer) → ⊥
+no_answer : (post : Post) (answer : PostAnswer) (opened : _) (e : PostError) → post ≡ record { opened = opened; answer = Err e; holder = None } → post.answer ≡ Ok (Known answer) → ⊥
 no_answer post answer opened e is ok = let refused : post.answer ≡ Err e = ap (λ (p : Post). p.answer) is in cc (refused, ok)
 
 not_refused : (answer : Result PostReply PostError) (made : PostAnswer) (e : PostError) → answer ≡ Err e → answer ≡ Ok (Known made) → ⊥

@@ -1,14 +1,14 @@
 -- The context that a request means, and those with one recipient ID.
-use Rattle.std.proofs.Common.{◌≡◌, ℕ, ◌/◌, ◌≤◌, ◌<◌, Bool, true, false, cond, if◌then◌else◌, not, ◌&&◌, nat_le, nat_lt, List, [], ◌∷◌, find, Option, Some, None, refl, sym, ap, ◌∙◌, inl, inr, subst, leb-true, ltb-true}
+use Rattle.std.proofs.Common.{◌≡◌, ℕ, ◌/◌, ◌≤◌, ◌<◌, Bool, true, false, cond, if◌then◌else◌, not, ◌&&◌, ◌||◌, nat_le, nat_lt, List, [], ◌∷◌, ◌++◌, find, Option, Some, None, option_map, refl, sym, ap, ◌∙◌, inl, inr, subst, leb-true, ltb-true}
 use Rattle.std.specs.Option.{option_map_or, ForSome}
 use Rattle.std.proofs.lemmas.Bool.{and_parts}
+use Rattle.std.proofs.lemmas.Option.{same_Some}
 use Rattle.std.proofs.lemmas.Slice.Eq.{bytes_eq-Decides}
 use Rattle.osc_model.specs.{stands}
 use Rattle.osc_authz.specs.Standing.{Standing}
-use Rattle.osc_authz.specs.{OfToken, of_tokens, IsLive, In, contexts, has_id, is_live, is_named, if_meant, meant}
+use Rattle.osc_authz.specs.{OfToken, of_token, of_tokens, IsLive, In, contexts, has_id, holder_at, holds_id, is_live, is_named, if_meant, listed, meant}
 use Rattle.osc_authz.specs.SecurityContext.{SecurityContext}
 use Rattle.osc_authz.specs.declared.token_entry.TokenEntry.{TokenEntry}
-use Rattle.osc_authz.proofs.ContextLaws.{held_of}
 
 -- ---- what a request means
 
@@ -56,10 +56,64 @@ held_is now kid kid_context table c e = by (find (has_id kid) (contexts table)) 
         let live = live_tested c.not_before c.expires seconds parts.0 parts.1 in
         (f.0, record { begun = live.0; not_over = live.1; unrevoked = unless (stands now.tree c.revocation) rest.1; young = (live_tested None c.ends seconds refl all.1).1 }, sym ((bytes_eq-Decides kid c.name.client_id).0 f.1))
 
--- the same of the context of its token id
+-- ---- whose token it is
+
+module _ (kid : List ℕ) (held : SecurityContext) where
+  -- it is one of these, of the token of this id
+  abbrev IsFoundIn : List OfToken → Option (List ℕ) → Type 0
+  IsFoundIn tokens holder = (c : OfToken) × In c tokens × (c.held ≡ held) × (holder ≡ Some c.token)
+
+  -- the id of the first token, where it has the context, or else what is found in the rest
+  abbrev first_of : TokenEntry → List TokenEntry → Bool → Option (List ℕ)
+  first_of entry table has = option_map (λ (e : TokenEntry). e.id) (cond has (Some entry) (find (holds_id kid) table))
+
+  in_pending : (entry : TokenEntry) (table : List TokenEntry) (context : Option SecurityContext)
+      → (find (has_id kid) (contexts table) ≡ Some held → IsFoundIn (of_tokens table) (holder_at kid table))
+      → find (has_id kid) (listed context ++ contexts table) ≡ Some held
+      → IsFoundIn (of_token entry.id false context ++ of_tokens table) (first_of entry table (option_map_or (has_id kid) context false))
+  in_pending entry table None later e = later e
+  in_pending entry table (Some x) later e = by (has_id kid x) e
+    where
+      by : (b : Bool) → cond b (Some x) (find (has_id kid) (contexts table)) ≡ Some held
+          → IsFoundIn (of_token entry.id false (Some x) ++ of_tokens table) (first_of entry table b)
+      by true e = (record { token = entry.id; is_confirmed = false; held = x }, inl refl, same_Some x held e, refl)
+      by false e = let r = later e in (r.0, inr r.1, r.2, r.3)
+
+  in_entry : (entry : TokenEntry) (table : List TokenEntry) (confirmed pending : Option SecurityContext)
+      → (find (has_id kid) (contexts table) ≡ Some held → IsFoundIn (of_tokens table) (holder_at kid table))
+      → find (has_id kid) (listed confirmed ++ listed pending ++ contexts table) ≡ Some held
+      → IsFoundIn (of_token entry.id true confirmed ++ of_token entry.id false pending ++ of_tokens table)
+      (first_of entry table (option_map_or (has_id kid) confirmed false || option_map_or (has_id kid) pending false))
+  in_entry entry table None pending later e = in_pending entry table pending later e
+  in_entry entry table (Some x) pending later e = by (has_id kid x) e
+    where
+      by : (b : Bool) → cond b (Some x) (find (has_id kid) (listed pending ++ contexts table)) ≡ Some held
+          → IsFoundIn (of_token entry.id true (Some x) ++ of_token entry.id false pending ++ of_tokens table)
+          (first_of entry table (b || option_map_or (has_id kid) pending false))
+      by true e = (record { token = entry.id; is_confirmed = true; held = x }, inl refl, same_Some x held e, refl)
+      by false e = let r = in_pending entry table pending later e in (r.0, inr r.1, r.2, r.3)
+
+  token_found : (table : List TokenEntry) → find (has_id kid) (contexts table) ≡ Some held → IsFoundIn (of_tokens table) (holder_at kid table)
+  token_found [] e = absurd (cc)
+  token_found (entry ∷ table) e = in_entry entry table entry.confirmed entry.pending (token_found table) e
+
+-- a context that is meant is the first one of its ID
+first_found : (now : Standing) (kid : List ℕ) (kid_context : Option (List ℕ)) (table : List TokenEntry) (held : SecurityContext) → meant now kid kid_context table ≡ Some held
+    → find (has_id kid) (contexts table) ≡ Some held
+first_found now kid kid_context table held e = by (find (has_id kid) (contexts table)) e
+  where
+    passed : (d : SecurityContext) (b : Bool) → (if b then Some d else None) ≡ Some held → Some d ≡ Some held
+    passed d true t = t
+    passed d false t = absurd (cc)
+
+    by : (o : Option SecurityContext) → if_meant now kid_context o ≡ Some held → o ≡ Some held
+    by None e = absurd (cc)
+    by (Some d) e = passed d (is_live now d && is_named kid_context d) e
+
+-- the same of the context of its token id, by which that is found
 pub meant_is : (now : Standing) (kid : List ℕ) (kid_context : Option (List ℕ)) (table : List TokenEntry) (held : SecurityContext) → meant now kid kid_context table ≡ Some held
-    → (c : OfToken) × In c (of_tokens table) × (c.held ≡ held) × IsLive now held × (held.name.client_id ≡ kid)
+    → (c : OfToken) × In c (of_tokens table) × (c.held ≡ held) × IsLive now held × (held.name.client_id ≡ kid) × (holder_at kid table ≡ Some c.token)
 meant_is now kid kid_context table held e =
     let h = held_is now kid kid_context table held e in
-    let c = held_of table held h.0 in
-    (c.0, c.1, sym c.2, h.1, h.2)
+    let c = token_found kid held table (first_found now kid kid_context table held e) in
+    (c.0, c.1, c.2, h.1, h.2, c.3)

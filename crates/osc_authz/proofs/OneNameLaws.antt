@@ -13,7 +13,7 @@ use Rattle.osc_cose.specs.{enc_structure, object_item}
 use Rattle.osc_scope.specs.{Entry, IsScope, scope_of}
 use Rattle.osc_token.specs.{ComesTo, FitTheirTypes, HasLawfulParts, IsToken, algorithm_header, claims_item, token_object}
 use Rattle.osc_token.specs.declared.claims.Claims.{Claims}
-use Rattle.osc_authz.specs.{IsAgreed, new_context, Agrees, Answers, agreed_post, end_of, remembering, refused, disallowed, revoked, full, again, replayed, agreed, ClientContextState, Finishes, made_name, pending_of, DeskState, IsPost, IsAnswer, post_item, answer_item, In, IsKeyFor, Posts, offered, alive, contexts, with_pending, IsLawfulContext}
+use Rattle.osc_authz.specs.{IsAgreed, new_context, Agrees, Answers, agreed_post, end_of, holder_of, remembering, refused, disallowed, revoked, full, again, replayed, agreed, ClientContextState, Finishes, made_name, pending_of, DeskState, IsPost, IsAnswer, post_item, answer_item, In, IsKeyFor, Posts, offered, alive, contexts, with_pending, IsLawfulContext}
 use Rattle.osc_authz.specs.Begun.{Begun}
 use Rattle.osc_authz.specs.SecurityContext.{SecurityContext}
 use Rattle.osc_authz.specs.HoldsToken.{HoldsToken}
@@ -38,7 +38,7 @@ ok_answer answer = Ok (New answer)
 one_answer_of : (a b : PostAnswer) → ok_answer a ≡ ok_answer b → a ≡ b
 one_answer_of a b e = cc
 
-no_answer : (post : Post) (answer : PostAnswer) (opened : _) (e : PostError) → post ≡ record { opened = opened; answer = Err e } → post.answer ≡ Ok (New answer) → ⊥
+no_answer : (post : Post) (answer : PostAnswer) (opened : _) (e : PostError) → post ≡ record { opened = opened; answer = Err e; holder = None } → post.answer ≡ Ok (New answer) → ⊥
 no_answer post answer opened e is ok = let refused : post.answer ≡ Err e = ap (λ (p : Post). p.answer) is in cc (refused, ok)
 
 not_refused : (answer : Result PostReply PostError) (made : PostAnswer) (e : PostError) → answer ≡ Err e → answer ≡ Ok (New made) → ⊥
@@ -51,19 +51,19 @@ pub agreed_posted : (IsSealing : List ℕ → List ℕ → List ℕ → List ℕ
     → Posts IsSealing before posting post after → post.answer ≡ Ok (New answer) → IsAgreed IsSealing before posting post answer after
 agreed_posted IsSealing before after posting post answer (Posts.no_post none is same) ok = absurd (no_answer post answer _ _ is ok)
 agreed_posted IsSealing before after posting post answer (Posts.not_genuine token nonce1 client_id posts none is same) ok = absurd (no_answer post answer _ _ is ok)
-agreed_posted IsSealing before after posting post answer (Posts.opened key nonce1 client_id token its o its_key answers is) ok = by answers
+agreed_posted IsSealing before after posting post answer (Posts.opened key nonce1 client_id token its o its_key answers is) ok = by answers (ap (λ (p : Post). p.holder) is)
   where
     answer_is : its ≡ Ok (New answer)
     answer_is = sym (ap (λ (p : Post). p.answer) is) ∙ ok
 
-    by : Answers before (offered posting nonce1 client_id) token.text its after → IsAgreed IsSealing before posting post answer after
-    by (refused error comes e unchanged) = absurd (not_refused its answer _ e answer_is)
-    by (disallowed claims scope comes below e unchanged) = absurd (not_refused its answer _ e answer_is)
-    by (revoked claims scope comes allowed gone e unchanged) = absurd (not_refused its answer _ e answer_is)
-    by (full claims scope granted many e unchanged) = absurd (not_refused its answer _ e answer_is)
-    by (again claims scope made granted k held e unchanged) = absurd (not_known its answer made e answer_is)
-    by (replayed claims scope made granted k gone e unchanged) = absurd (not_refused its answer _ e answer_is)
-    by (agreed claims scope made granted k agrees e) = record {
+    by : (its_answers : Answers before (offered posting nonce1 client_id) token.text its after) → post.holder ≡ holder_of its_answers → IsAgreed IsSealing before posting post answer after
+    by (refused error comes e unchanged) of_token = absurd (not_refused its answer _ e answer_is)
+    by (disallowed claims scope comes below e unchanged) of_token = absurd (not_refused its answer _ e answer_is)
+    by (revoked claims scope comes allowed gone e unchanged) of_token = absurd (not_refused its answer _ e answer_is)
+    by (full claims scope granted many e unchanged) of_token = absurd (not_refused its answer _ e answer_is)
+    by (again claims scope made granted k held e unchanged) of_token = absurd (not_known its answer made e answer_is)
+    by (replayed claims scope made granted k gone e unchanged) of_token = absurd (not_refused its answer _ e answer_is)
+    by (agreed claims scope made granted k agrees e) of_token = record {
       key = key;
       nonce1 = nonce1;
       client_id = client_id;
@@ -76,6 +76,7 @@ agreed_posted IsSealing before after posting post answer (Posts.opened key nonce
       unknown = k;
       agrees = subst (λ m. Agrees before (offered posting nonce1 client_id) claims scope m after) (one_answer_of made answer (sym e ∙ answer_is)) agrees;
       noted = ap (λ (p : Post). p.opened) is;
+      holder = of_token;
     }
 
 -- ---- one name

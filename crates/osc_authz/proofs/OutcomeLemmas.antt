@@ -1,5 +1,5 @@
 -- A post comes to one outcome.
-use Rattle.std.proofs.Common.{◌≡◌, ◌⊎◌, ℕ, Bool, true, false, List, Option, Some, None, Result, Ok, Err, sym, ap, ap₂, subst, ◌∙◌, arith, inl, inr}
+use Rattle.std.proofs.Common.{◌≡◌, ◌⊎◌, ℕ, Bool, true, false, List, Option, Some, None, Result, Ok, Err, refl, sym, ap, ap₂, subst, ◌∙◌, arith, inl, inr}
 use Rattle.std.proofs.lemmas.Bool.{cases_lt}
 use Rattle.osc_model.specs.{is_revoked}
 use Rattle.osc_model.specs.Scope.{Scope}
@@ -8,7 +8,7 @@ use Rattle.osc_model.specs.declared.step.Note.{Note}
 use Rattle.osc_token.specs.{ComesTo, IsToken, token_note}
 use Rattle.osc_token.specs.declared.claims.Claims.{Claims}
 use Rattle.osc_token.specs.declared.error.TokenError.{TokenError}
-use Rattle.osc_authz.specs.{new_context, Agrees, Answers, MadeIsHeld, agreed_post, known_of, remembering, is_allowed, refused, disallowed, revoked, full, again, replayed, agreed, DeskState, IsPost, IsKeyFor, IsKeyOf, Opens, Posts, Offer, offered, IsFull, IsLeastFree, alive, with_pending}
+use Rattle.osc_authz.specs.{new_context, Agrees, Answers, MadeIsHeld, agreed_post, known_of, remembering, is_allowed, refused, disallowed, revoked, full, again, replayed, agreed, DeskState, IsPost, IsKeyFor, IsKeyOf, Opens, Posts, Offer, holder_of, offered, IsFull, IsLeastFree, alive, with_pending}
 use Rattle.osc_authz.specs.Posting.{Posting}
 use Rattle.osc_authz.specs.declared.error.PostError.{PostError}
 use Rattle.osc_authz.specs.declared.error.PostError.TheVariants as post_error
@@ -35,6 +35,13 @@ least_once taken a b p q =
 
 made_of : List ℕ → ℕ → PostAnswer
 made_of nonce2 byte = record { nonce2 = nonce2; recipient_id = byte }
+
+-- whose token it is, by what its text comes to
+abbrev holder_by : Result (Claims × Scope) TokenError → Result PostReply PostError → Option (List ℕ)
+holder_by (Err error) answer = None
+holder_by (Ok granted) (Err error) = None
+holder_by (Ok granted) (Ok (reply.Known made)) = None
+holder_by (Ok granted) (Ok (reply.New made)) = Some granted.0.material.id
 
 module _ (before : DeskState) (offer : Offer) where
   agrees_once : (claims : Claims) (scope : Scope) (one other : PostAnswer) (after afters : DeskState)
@@ -84,6 +91,17 @@ module _ (before : DeskState) (offer : Offer) where
   by_its_text text answer after (again claims scope made its k held is same) = (Ok (claims, scope), its.granted.comes, inr (its.granted.allowed, to_known made its.granted.unrevoked its.room k held is same))
   by_its_text text answer after (replayed claims scope made its k gone is same) = (Ok (claims, scope), its.granted.comes, inr (its.granted.allowed, to_replayed made its.granted.unrevoked its.room k gone is same))
   by_its_text text answer after (agreed claims scope made its k agrees is) = (Ok (claims, scope), its.granted.comes, inr (its.granted.allowed, to_agreed made its.granted.unrevoked its.room k agrees is))
+
+  holder_is : (text : List ℕ) (answer : Result PostReply PostError) (after : DeskState) (answers : Answers before offer text answer after)
+      → holder_of answers ≡ holder_by (by_its_text text answer after answers).0 answer
+  unfolding by_its_text
+  holder_is text answer after (refused e comes is same) = refl
+  holder_is text answer after (disallowed claims scope comes below is same) = sym (ap (holder_by (Ok (claims, scope))) is)
+  holder_is text answer after (revoked claims scope comes allowed gone is same) = sym (ap (holder_by (Ok (claims, scope))) is)
+  holder_is text answer after (full claims scope its many is same) = sym (ap (holder_by (Ok (claims, scope))) is)
+  holder_is text answer after (again claims scope made its k held is same) = sym (ap (holder_by (Ok (claims, scope))) is)
+  holder_is text answer after (replayed claims scope made its k gone is same) = sym (ap (holder_by (Ok (claims, scope))) is)
+  holder_is text answer after (agreed claims scope made its k agrees is) = sym (ap (holder_by (Ok (claims, scope))) is)
 
   never_both : (b : Bool) → b ≡ true → b ≡ false → ⊥
   never_both b t f = let never : true ≡ false = sym t ∙ f in cc
@@ -179,8 +197,8 @@ IsOneToken IsSealing = (key bytes protected iv text others ivs other : List ℕ)
     → (protected ≡ others) × (iv ≡ ivs) × (text ≡ other)
 
 module _ (IsSealing : List ℕ → List ℕ → List ℕ → List ℕ → List ℕ → Type 0) (before : DeskState) (posting : Posting) where
-  abbrev post_of : Note → Result PostReply PostError → Post
-  post_of note answer = record { opened = Some note; answer = answer }
+  abbrev post_of : Note → Result PostReply PostError → Option (List ℕ) → Post
+  post_of note answer holder = record { opened = Some note; answer = answer; holder = holder }
 
   key_of : (token key : List ℕ) → IsKeyFor IsSealing before token key → IsKeyOf before key
   key_of token key (inl own) = inl own
@@ -219,4 +237,12 @@ module _ (IsSealing : List ℕ → List ℕ → List ℕ → List ℕ → List �
         let once = answers_once before (offered posting nonces ids) one_result other.text answer answer2 after afters found answers2 in
         let note : token_note key its.protected its.iv its.text ≡ token_note key2 other.protected other.iv other.text =
         λ i. token_note (k i) (u.0 i) (u.1 i) (u.2 i) in
-        (is ∙ ap₂ post_of note once.0 ∙ sym is2, once.1)
+        let one = by_its_text before (offered posting nonce1 client_id) its.text answer after answers in
+        let two = by_its_text before (offered posting nonces ids) other.text answer2 afters answers2 in
+        let result : one.0 ≡ two.0 =
+        one_result other.text before.audience posting.on.at one.0 two.0 (subst (λ x. ComesTo x before.audience posting.on.at one.0) u.2 one.1) two.1 in
+        let holder : holder_of answers ≡ holder_of answers2 =
+        holder_is before (offered posting nonce1 client_id) its.text answer after answers
+        ∙ (λ i. holder_by (result i) (once.0 i))
+        ∙ sym (holder_is before (offered posting nonces ids) other.text answer2 afters answers2) in
+        (is ∙ (λ i. post_of (note i) (once.0 i) (holder i)) ∙ sym is2, once.1)

@@ -13,7 +13,7 @@ use Rattle.std.proofs.lemmas.Slice.Eq.{bytes_eq-Decides}
 use Rattle.osc_authz.specs.declared.token_entry.TokenEntry.{TokenEntry}
 use Rattle.osc_authz.specs.SecurityContext.{SecurityContext}
 use Rattle.osc_authz.specs.Inner.Places.{IsIndex, nowhere, place_at, told}
-use Rattle.osc_authz.specs.{IsLawfulContext, IsTable, accepted, accepted_in, contexts, has_id, holds_id, listed, taking, with_id}
+use Rattle.osc_authz.specs.{IsLawfulContext, IsTable, accepted, accepted_in, contexts, has_id, holder_at, holds_id, listed, taking, with_id}
 use Rattle.osc_authz.proofs.Lookups.{IsNone, accepted_here, is_placed, misses, neither}
 
 -- ---- the places that are noted
@@ -143,6 +143,34 @@ found_nowhere id table none = go (with_id id table) refl
     go : (found : Option SecurityContext) → with_id id table ≡ found → None ≡ found
     go None e = refl
     go (Some held) e = absurd (is_placed id 0 table held e none)
+
+-- the token id at that place is the one that has the context ..
+first_holder : (id : List ℕ) (table : List TokenEntry) (i : ℕ) (d : TokenEntry) → i < length table → holds_id id (get_or table i d) ≡ true
+    → ((k : ℕ) → k < i → holds_id id (get_or table k d) ≡ false) → Some (get_or table i d).id ≡ holder_at id table
+first_holder id [] i d within has first = absurd (omega arith)
+first_holder id (entry ∷ table) zero d within has first =
+    ap (option_map (λ (e : TokenEntry). e.id)) (sym (cond-true (holds_id id entry) (Some entry) (find (holds_id id) table) has))
+first_holder id (entry ∷ table) (suc i) d within has first =
+    first_holder id table i d (omega arith) has (λ k below. first (suc k) (omega arith))
+    ∙ ap (option_map (λ (e : TokenEntry). e.id)) (sym (cond-false (holds_id id entry) (Some entry) (find (holds_id id) table) (first 0 (omega arith))))
+
+pub holder_there : (id : List ℕ) (table : List TokenEntry) (i : ℕ) (d : TokenEntry) → position (holds_id id) table ≡ Some i → Some (get_or table i d).id ≡ holder_at id table
+holder_there id table i d found =
+    let at = position-Some (holds_id id) table i d found in
+    first_holder id table i d at.0 at.1 at.2
+
+-- .. and where there is no place there is none
+no_holder_from : (k : ℕ) (id : List ℕ) (table : List TokenEntry) → place_from k id table ≡ None → None ≡ holder_at id table
+no_holder_from k id [] none = refl
+no_holder_from k id (entry ∷ table) none = by (holds_id id entry) none (no_holder_from (suc k) id table)
+  where
+    by : (b : Bool) → cond b (Some k) (place_from (suc k) id table) ≡ None → (place_from (suc k) id table ≡ None → None ≡ holder_at id table)
+        → None ≡ option_map (λ (e : TokenEntry). e.id) (cond b (Some entry) (find (holds_id id) table))
+    by true e later = absurd (cc)
+    by false e later = later e
+
+pub holder_nowhere : (id : List ℕ) (table : List TokenEntry) → position (holds_id id) table ≡ None → None ≡ holder_at id table
+holder_nowhere id table none = no_holder_from 0 id table (placed_is id table ∙ none)
 
 -- ---- a request opened
 

@@ -1,5 +1,5 @@
 -- What a post comes to, case by case.
-use Rattle.std.proofs.Common.{◌≡◌, ℕ, Bool, true, false, not, List, Option, Some, None, IfOk, Result, Ok, Err, inl, inr, refl, sym, ap, subst, ◌∙◌}
+use Rattle.std.proofs.Common.{◌≡◌, ℕ, Bool, true, false, not, List, Option, Some, None, Result, Ok, Err, inl, inr, refl, sym, ap, subst, ◌∙◌}
 use Rattle.osc_model.specs.{is_revoked, revocation_of, stands}
 use Rattle.osc_model.specs.Scope.{Scope}
 use Rattle.osc_model.specs.Tree.{Tree}
@@ -8,7 +8,7 @@ use Rattle.osc_model.specs.declared.step.Note.{Note}
 use Rattle.osc_token.specs.{ComesTo, IsToken, token_note}
 use Rattle.osc_token.specs.declared.claims.Claims.{Claims}
 use Rattle.osc_token.specs.declared.error.TokenError.{TokenError}
-use Rattle.osc_authz.specs.{Answers, HasRoom, is_allowed, known_of, DeskState, IsPost, IsKeyFor, IsKeyOf, IsOpened, Opens, Posts, Offer, OpenedToken, offered}
+use Rattle.osc_authz.specs.{Answers, HasRoom, Judges, is_allowed, known_of, DeskState, IsPost, IsKeyFor, IsKeyOf, IsOpened, Opens, Posts, Offer, OpenedToken, offered}
 use Rattle.osc_authz.specs.Posting.{Posting}
 use Rattle.osc_authz.specs.declared.error.PostError.{PostError}
 use Rattle.osc_authz.specs.declared.rules.ContextRules.{ContextRules}
@@ -16,7 +16,6 @@ use Rattle.osc_authz.specs.declared.post.Post.{Post}
 use Rattle.osc_authz.specs.declared.post.PostAnswer.{PostAnswer}
 use Rattle.osc_authz.specs.declared.post.PostReply.{PostReply}
 use Rattle.osc_authz.specs.Inner.KnownAnswer.{IsKnownAnswer}
-use Rattle.std.specs.declared.alloc.AllocError.{AllocError}
 
 -- what was judged, for the desk's own audience and at the offer's moment
 pub judged : (text audience own : List ℕ) (now at : Moment) (result : Result (Claims × Scope) TokenError)
@@ -38,27 +37,28 @@ not_allowed rules own scope false is same e = sym (is ∙ ap (λ (r : ContextRul
 not_allowed rules own scope true is same e = cc
 
 -- what is answered to a post that is known
-pub known_answers : (before : DeskState) (offer : Offer) (text : List ℕ) (claims : Claims) (scope : Scope) (made : PostAnswer) (result : Result (Result PostReply PostError) AllocError)
+pub known_answers : (before : DeskState) (offer : Offer) (text : List ℕ) (claims : Claims) (scope : Scope) (made : PostAnswer) (answer : Result PostReply PostError)
     → HasRoom before offer text claims scope → known_of before offer claims ≡ Some made
-    → IfOk result (λ answer. IsKnownAnswer before offer claims made answer) → IfOk result (λ answer. Answers before offer text answer before)
-known_answers before offer text claims scope made (Err e) room k is = tt
-known_answers before offer text claims scope made (Ok answer) room k (inl held) = Answers.again claims scope made room k held.0 held.1 refl
-known_answers before offer text claims scope made (Ok answer) room k (inr gone) = Answers.replayed claims scope made room k gone.0 gone.1 refl
+    → IsKnownAnswer before offer claims made answer → Judges before offer text answer None before
+known_answers before offer text claims scope made answer room k (inl held) = (Answers.again claims scope made room k held.0 held.1 refl, refl)
+known_answers before offer text claims scope made answer room k (inr gone) = (Answers.replayed claims scope made room k gone.0 gone.1 refl, refl)
 
 module _ (IsSealing : List ℕ → List ℕ → List ℕ → List ℕ → List ℕ → Type 0) (before after : DeskState) (posting : Posting)
     (token nonce1 client_id : List ℕ) (is_post : IsPost posting.body token nonce1 client_id) where
   -- a post whose token opened, and what was answered
-  pub opened_post : (key : List ℕ) (its : OpenedToken) (note : Note) (answer : Result PostReply PostError)
+  pub opened_post : (key : List ℕ) (its : OpenedToken) (note : Note) (answer : Result PostReply PostError) (holder : Option (List ℕ))
       → IsToken IsSealing key token its.protected its.iv its.text → IsKeyFor IsSealing before token key → note ≡ token_note key its.protected its.iv its.text
-      → Answers before (offered posting nonce1 client_id) note.plaintext answer after
-      → Posts IsSealing before posting (record { opened = Some note; answer = answer }) after
-  opened_post key its note answer is_token its_key is answers =
-      let found = subst (λ n. Answers before (offered posting nonce1 client_id) n.plaintext answer after) is answers in
+      → Judges before (offered posting nonce1 client_id) note.plaintext answer holder after
+      → Posts IsSealing before posting (record { opened = Some note; answer = answer; holder = holder }) after
+  opened_post key its note answer holder is_token its_key is judges =
+      let found = subst (λ n. Judges before (offered posting nonce1 client_id) n.plaintext answer holder after) is judges in
       let o : IsOpened IsSealing key posting.body nonce1 client_id its = record { token = token; is_post = is_post; is_token = is_token } in
-      subst (λ n. Posts IsSealing before posting (record { opened = Some n; answer = answer }) after) (sym is) (Posts.opened key nonce1 client_id its answer o its_key found refl)
+      subst (λ n. Posts IsSealing before posting (record { opened = Some n; answer = answer; holder = holder }) after) (sym is)
+      (Posts.opened key nonce1 client_id its answer o its_key found.0
+      (ap (λ (h : Option (List ℕ)). let p : Post = record { opened = Some (token_note key its.protected its.iv its.text); answer = answer; holder = h } in p) found.1))
 
   -- a post whose token didn't open
   pub unopened_post : (post : Post) → ((key : List ℕ) → IsKeyOf before key → ¬ Opens IsSealing key token)
-      → post ≡ record { opened = None; answer = Err (PostError.Token TokenError.NotGenuine) } → after ≡ before
+      → post ≡ record { opened = None; answer = Err (PostError.Token TokenError.NotGenuine); holder = None } → after ≡ before
       → Posts IsSealing before posting post after
   unopened_post post never e unchanged = Posts.not_genuine token nonce1 client_id is_post never e unchanged

@@ -25,3 +25,4 @@ pub record IsAgreed (IsSealing : List ℕ → List ℕ → List ℕ → List ℕ
   pub unknown : known_of before (offered posting nonce1 client_id) claims ≡ None
   pub agrees : Agrees before (offered posting nonce1 client_id) claims scope answer after
   pub noted : post.opened ≡ Some (token_note key its.protected its.iv its.text)
+  pub holder : post.holder ≡ Some claims.material.id

@@ -115,3 +115,17 @@ pub data Answers (before : DeskState) (offer : Offer) (text : List ℕ) (answer 
       → known_of before offer claims ≡ None
       → Agrees before offer claims scope made after
       → answer ≡ Ok (New made) → Answers before offer text answer after
+
+-- the id of the token, where the post is agreed to
+abbrev pub holder_of : {before : DeskState} {offer : Offer} {text : List ℕ} {answer : Result PostReply PostError} {after : DeskState} → Answers before offer text answer after → Option (List ℕ)
+holder_of (refused error comes is same) = None
+holder_of (disallowed claims scope comes below is same) = None
+holder_of (revoked claims scope comes taken gone is same) = None
+holder_of (full claims scope granted many is same) = None
+holder_of (again claims scope made room found held is same) = None
+holder_of (replayed claims scope made room found gone is same) = None
+holder_of (agreed claims scope made room unknown agrees is) = Some claims.material.id
+
+-- the answer, and the id of the token, where the post is agreed to
+abbrev pub Judges : DeskState → Offer → List ℕ → Result PostReply PostError → Option (List ℕ) → DeskState → Type 0
+Judges before offer text answer holder after = (answers : Answers before offer text answer after) × (holder ≡ holder_of answers)

@@ -20,7 +20,7 @@ pub mod HoldsToken
 pub mod Welcome
 pub mod Inner
 pub use Agreed.{IsAgreed}
-pub use Agreement.{Agrees, Answers, HasRoom, IsGranted, MadeIsHeld, again, agreed, agreed_post, disallowed, end_of, full, is_allowed, known_of, name_by, new_context, refused, replayed, revoked}
+pub use Agreement.{Agrees, Answers, HasRoom, IsGranted, Judges, MadeIsHeld, again, agreed, agreed_post, disallowed, end_of, full, holder_of, is_allowed, known_of, name_by, new_context, refused, replayed, revoked}
 pub use Begun.{ClientContextState}
 pub use Client.{Finishes, another_code, equal_ids, made, made_name, no_answer, offered_id}
 pub use Contexts.{AreKept, HasAdded, HasTaken, IsConfirmedOf, IsLive, IsPendingOf, OfToken, confirmed_by, of_token, of_tokens, pending_of}
@@ -33,5 +33,5 @@ pub use Marked.{AreMarked, IsMarked, IsSameBut, mark_of}
 pub use Members.{In}
 pub use Post.{IsKeyFor, IsKeyOf, IsOpened, Opens, Posts, answer_of, code_of, no_post, not_genuine, opened}
 pub use Posting.{Offer, OpenedToken, offered}
-pub use Table.{IsFull, IsLawfulContext, IsLeastFree, IsTable, KeepsPlace, accepted, accepted_in, alive, confirmed_at, contexts, has_id, has_token, holds_id, holds_live, ids, if_meant, is_live, is_named, kept_places, listed, meant, places_taken, taking, with_id, with_pending, without_pending, without_pending_in}
+pub use Table.{IsFull, IsLawfulContext, IsLeastFree, IsTable, KeepsPlace, accepted, accepted_in, alive, confirmed_at, contexts, has_id, has_token, holder_at, holds_id, holds_live, ids, if_meant, is_live, is_named, kept_places, listed, meant, places_taken, taking, with_id, with_pending, without_pending, without_pending_in}
 pub use Welcome.{IsWelcome}

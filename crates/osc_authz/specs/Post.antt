@@ -5,7 +5,7 @@ use Rattle.osc_model.specs.{code}
 use Rattle.osc_token.specs.{IsToken, token_note}
 use Rattle.osc_token.specs.declared.error.TokenError.{TokenError}
 use Rattle.osc_token.specs.declared.error.TokenError.TheVariants.{NotGenuine}
-use Rattle.osc_authz.specs.Agreement.{Answers}
+use Rattle.osc_authz.specs.Agreement.{Answers, holder_of}
 use Rattle.osc_authz.specs.Exchange.{IsPost}
 use Rattle.osc_authz.specs.Desk.{DeskState}
 use Rattle.osc_authz.specs.Posting.{OpenedToken, Posting, offered}
@@ -36,16 +36,16 @@ pub record IsOpened (IsSealing : List ℕ → List ℕ → List ℕ → List ℕ
 
 pub data Posts (IsSealing : List ℕ → List ℕ → List ℕ → List ℕ → List ℕ → Type 0) (before : DeskState) (posting : Posting) (post : Post) (after : DeskState) : Type 0 where
   no_post : ((token nonce1 client_id : List ℕ) → ¬ IsPost posting.body token nonce1 client_id)
-      → post ≡ record { opened = None; answer = Err Fields } → after ≡ before
+      → post ≡ record { opened = None; answer = Err Fields; holder = None } → after ≡ before
       → Posts IsSealing before posting post after
   not_genuine : (token nonce1 client_id : List ℕ) → IsPost posting.body token nonce1 client_id
       → ((key : List ℕ) → IsKeyOf before key → ¬ Opens IsSealing key token)
-      → post ≡ record { opened = None; answer = Err (Token NotGenuine) } → after ≡ before
+      → post ≡ record { opened = None; answer = Err (Token NotGenuine); holder = None } → after ≡ before
       → Posts IsSealing before posting post after
   opened : (key nonce1 client_id : List ℕ) (its : OpenedToken) (answer : Result PostReply PostError)
       → (post_is : IsOpened IsSealing key posting.body nonce1 client_id its) → IsKeyFor IsSealing before post_is.token key
-      → Answers before (offered posting nonce1 client_id) its.text answer after
-      → post ≡ record { opened = Some (token_note key its.protected its.iv its.text); answer = answer }
+      → (answers : Answers before (offered posting nonce1 client_id) its.text answer after)
+      → post ≡ record { opened = Some (token_note key its.protected its.iv its.text); answer = answer; holder = holder_of answers }
       → Posts IsSealing before posting post after
 
 -- the nonce and the recipient ID of the server that a post is answered

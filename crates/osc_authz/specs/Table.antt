@@ -63,6 +63,10 @@ holds_id id entry = option_map_or (has_id id) entry.confirmed false || option_ma
 abbrev pub with_id : List ℕ → List TokenEntry → Option SecurityContext
 with_id id table = find (has_id id) (contexts table)
 
+-- the id of the token that made the context with this recipient ID
+abbrev pub holder_at : List ℕ → List TokenEntry → Option (List ℕ)
+holder_at id table = option_map (λ entry. entry.id) (find (holds_id id) table)
+
 -- the context that a request has opened under of the token id at this place
 abbrev pub confirmed_at : ℕ → List TokenEntry → Option SecurityContext
 confirmed_at place table = option_and_then (λ entry. entry.confirmed) (slice_get table place)

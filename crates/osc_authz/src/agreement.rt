@@ -11,7 +11,7 @@ use crate::derivation::derived;
 use crate::payload::PostFields;
 use crate::post::PostAnswer;
 use osc_context::joined_salt;
-use osc_model::{Bytes, ContextName, Path, SharedName, Side};
+use osc_model::{Bytes, ContextName, Path, SharedBytes, SharedName, Side};
 use osc_scope::Scope;
 use osc_token::{Claims, InputMaterial};
 use std::alloc::{AllocError, Global};
@@ -62,7 +62,7 @@ pub(crate) fn context_of(
     fields: &PostFields<'_>,
     answer: &PostAnswer,
     bounds: Bounds,
-) -> Result<(Bytes, ServerContext), AllocError>
+) -> Result<(SharedBytes, ServerContext), AllocError>
     requires short { length fields.now.client_id.now ≤ 7 }
     requires apart { fields.now.client_id.now ≢ answer.now.recipient_id ∷ [] }
     ensures id { IfOk result (λ made. made.0 ≡ claims.material.id) }
@@ -77,6 +77,7 @@ pub(crate) fn context_of(
         ..
     } = claims;
     let (id, name) = name_of(alloc, material, fields, answer)?;
+    let id = SharedBytes::new(alloc, id)?;
     let Bounds { revocation, ends } = bounds;
     let (sender, recipient) = derived(alloc, &name, Side::Server)?;
     let context = ServerContext {

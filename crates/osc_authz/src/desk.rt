@@ -11,12 +11,12 @@ ghost use Rattle.osc_model.specs.{revocation_of};
 ghost use Rattle.osc_model.specs.Tree.{Tree as Resources};
 ghost use Rattle.osc_token.specs.{ComesTo, IsToken, token_note};
 ghost use Rattle.osc_token.specs.declared.claims.Claims.{Claims as AnyClaims};
-ghost use Rattle.osc_authz.specs.Agreement.{Agrees, Answers};
+ghost use Rattle.osc_authz.specs.Agreement.{Agrees, Judges};
 ghost use Rattle.osc_authz.specs.Inner.KnownAnswer.{IsKnownAnswer};
 ghost use Rattle.osc_authz.specs.SecurityContext.{SecurityContext};
 ghost use Rattle.osc_authz.specs.Inner.Payload.{post_fields as fields_of};
 ghost use Rattle.osc_token.specs.Inner.Reading.{IsItem};
-ghost use Rattle.osc_authz.specs.Table.{IsTable, IsFull, KeepsPlace, accepted, alive, confirmed_at, meant, taking, with_id};
+ghost use Rattle.osc_authz.specs.Table.{IsTable, IsFull, KeepsPlace, accepted, alive, confirmed_at, holder_at, meant, taking, with_id};
 ghost use Rattle.osc_authz.specs.Post.{IsKeyFor, IsKeyOf, Opens, Posts};
 ghost use Rattle.osc_authz.specs.Posting.{OpenedToken};
 ghost use Rattle.osc_authz.specs.Known.{IsStillHeld};
@@ -37,7 +37,7 @@ use crate::token_entry::TokenEntry;
 use osc_cbor::ItemRef;
 use osc_ccm::Aead;
 use osc_context::AcceptedNumber;
-use osc_model::{Draw, Note, Path, SharedName, revoked_path};
+use osc_model::{Draw, Note, Path, SharedBytes, SharedName, revoked_path};
 use osc_scope::Scope;
 use osc_token::{Audience, Claims, TokenError, judge, open_token};
 use osc_tree::Tree;
@@ -100,6 +100,15 @@ impl Model for ServerDesk {
 
     ghost invariant = { λ desk. IsTable desk.table.items × IsIndex desk.places desk.table.items × AreFew desk.rules.remembered desk.table.items
         × KeepsPlace desk.rules.reserved desk.table.items };
+}
+
+/// What a post comes to whose token opened.
+#[derive(Drop)]
+struct Judged {
+    /// What is answered.
+    answer: Result<PostReply, PostError>,
+    /// The id of the token, where the post is agreed to.
+    holder: Option<SharedBytes>,
 }
 
 /// What a post offers whose token opened: when and on which resources, its fields, and the random bytes of the step.
@@ -231,10 +240,16 @@ impl ServerDesk {
         match self.open::<A>(alloc, fields.token)? {
             Some(note) => {
                 let offer = Offered { on, fields, draw };
-                let answer = self.answer(alloc, &offer, marks, note.plaintext.as_slice())?;
+                let Judged { answer, holder } = self.answer(
+                    alloc,
+                    &offer,
+                    marks,
+                    note.plaintext.as_slice(),
+                )?;
                 Ok(Post {
                     opened: Some(note),
                     answer,
+                    holder,
                 })
             }
             None => Ok(Post::refused(PostError::Token(TokenError::NotGenuine))),
@@ -275,10 +290,10 @@ impl ServerDesk {
         offer: &Offered<'_>,
         marks: &RevokedMarks,
         text: &[u8],
-    ) -> Result<Result<PostReply, PostError>, AllocError>
+    ) -> Result<Judged, AllocError>
         requires short { length offer.now.client_id ≤ 7 }
         requires marked { AreMarked offer.now.on.tree self.old.table marks.now }
-        ensures answers { IfOk result (λ answer. Answers self.old offer.now text.now answer self.new) }
+        ensures answers { IfOk result (λ judged. Judges self.old offer.now text.now judged.answer judged.holder self.new) }
         ensures err { OnErr result (self.new ≡ self.old) }
     {
         let on = offer.on;
@@ -293,18 +308,21 @@ impl ServerDesk {
         offer: &Offered<'_>,
         marks: &RevokedMarks,
         verdict: Result<(Claims, Scope), TokenError>,
-    ) -> Result<Result<PostReply, PostError>, AllocError>
+    ) -> Result<Judged, AllocError>
         requires short { length offer.now.client_id ≤ 7 }
         requires marked { AreMarked offer.now.on.tree self.old.table marks.now }
         ensures answers { (text : List ℕ) → ComesTo text self.old.audience offer.now.on.at verdict
-            → IfOk result (λ answer. Answers self.old offer.now text answer self.new) }
+            → IfOk result (λ judged. Judges self.old offer.now text judged.answer judged.holder self.new) }
         ensures memory { IsErr result → (claims : AnyClaims) × (scope : AnyScope) × (verdict ≡ Ok (claims, scope))
             × (IsSome self.old.rules.revoked ⊎ (¬ IsFull self.old.rules.reserved claims.material.id (alive offer.now.on self.old.table))) }
         ensures err { OnErr result (self.new ≡ self.old) }
     {
         match verdict {
             Ok((claims, scope)) => self.agree_unless_refused(alloc, offer, marks, claims, scope),
-            Err(error) => Ok(Err(PostError::Token(error))),
+            Err(error) => Ok(Judged {
+                answer: Err(PostError::Token(error)),
+                holder: None,
+            }),
         }
     }
 
@@ -317,34 +335,52 @@ impl ServerDesk {
         marks: &RevokedMarks,
         claims: Claims,
         scope: Scope,
-    ) -> Result<Result<PostReply, PostError>, AllocError>
+    ) -> Result<Judged, AllocError>
         requires short { length offer.now.client_id ≤ 7 }
         requires marked { AreMarked offer.now.on.tree self.old.table marks.now }
         ensures answers { (text : List ℕ) → ComesTo text self.old.audience offer.now.on.at (Ok (claims, scope))
-            → IfOk result (λ answer. Answers self.old offer.now text answer self.new) }
+            → IfOk result (λ judged. Judges self.old offer.now text judged.answer judged.holder self.new) }
         ensures memory { IsErr result → IsSome self.old.rules.revoked ⊎ (¬ IsFull self.old.rules.reserved claims.material.id (alive offer.now.on self.old.table)) }
         ensures err { OnErr result (self.new ≡ self.old) }
     {
         if !self.rules.allows(&scope) {
-            return Ok(Err(PostError::Token(TokenError::BadScope)));
+            return Ok(Judged {
+                answer: Err(PostError::Token(TokenError::BadScope)),
+                holder: None,
+            });
         }
         let revocation = self.revocation_of(alloc, claims.material.id.as_slice())?;
         let on = offer.on;
         if is_there(on.tree, &revocation) {
-            return Ok(Err(PostError::Revoked));
+            return Ok(Judged {
+                answer: Err(PostError::Revoked),
+                holder: None,
+            });
         }
         if self.is_full(on, marks, claims.material.id.as_slice()) {
-            return Ok(Err(PostError::Full));
+            return Ok(Judged {
+                answer: Err(PostError::Full),
+                holder: None,
+            });
         }
         match table::known(&self.table, claims.material.id.as_slice(), &offer.fields) {
-            Some(made) => self.answer_known(alloc, offer, marks, claims, made),
-            None => Ok(Ok(PostReply::New(self.agree(
-                alloc,
-                offer,
-                marks,
-                (claims, scope),
-                revocation,
-            )?))),
+            Some(made) => Ok(Judged {
+                answer: self.answer_known(alloc, offer, marks, claims, made)?,
+                holder: None,
+            }),
+            None => {
+                let (answer, holder) = self.agree(
+                    alloc,
+                    offer,
+                    marks,
+                    (claims, scope),
+                    revocation,
+                )?;
+                Ok(Judged {
+                    answer: Ok(PostReply::New(answer)),
+                    holder: Some(holder),
+                })
+            }
         }
     }
 
@@ -399,7 +435,7 @@ impl ServerDesk {
         }
     }
 
-    /// Adds the context of these claims, and answers the nonce and the recipient ID of the server. All memory is taken
+    /// Adds the context of these claims, and answers the nonce and the recipient ID of the server, and the id of the token. All memory is taken
     /// before the first change.
     fn agree(
         &mut self,
@@ -408,12 +444,13 @@ impl ServerDesk {
         marks: &RevokedMarks,
         granted: (Claims, Scope),
         revocation: Option<Path>,
-    ) -> Result<PostAnswer, AllocError>
+    ) -> Result<(PostAnswer, SharedBytes), AllocError>
         requires marked { AreMarked offer.now.on.tree self.old.table marks.now }
         requires short { length offer.now.client_id ≤ 7 }
         requires room { ¬ IsFull self.old.rules.reserved granted.0.material.id (alive offer.now.on self.old.table) }
         requires revocation { revocation ≡ revocation_of self.old.rules.revoked granted.0.material.id }
-        ensures agreed { IfOk result (λ answer. Agrees self.old offer.now granted.0 granted.1 answer self.new) }
+        ensures agreed { IfOk result (λ made. Agrees self.old offer.now granted.0 granted.1 made.0 self.new) }
+        ensures holder { IfOk result (λ made. made.1 ≡ granted.0.material.id) }
         ensures err { OnErr result (self.new ≡ self.old) }
     {
         let on = offer.on;
@@ -429,6 +466,7 @@ impl ServerDesk {
         };
         let (token, context) = context_of(alloc, claims, scope, &offer.fields, &answer, bounds)?;
         let room = PostRoom::new(alloc, self.rules.remembered, &offer.fields, answer)?;
+        let holder = token.clone()?;
         self.table.reserve_exact(1)?;
         let added = Addition {
             token,
@@ -437,7 +475,7 @@ impl ServerDesk {
         };
         table::add_pending(alloc, &mut self.table, on.at, marks, added);
         self.places = places_of(&self.table);
-        Ok(answer)
+        Ok((answer, holder))
     }
 
     /// The live context that a request's kid and kid context name; the marks say which are of revoked tokens.
@@ -458,6 +496,13 @@ impl ServerDesk {
             }
             _ => None,
         }
+    }
+
+    /// The id of the token that made the context with this recipient ID.
+    pub fn holder(&self, id: &[u8]) -> Option<&SharedBytes>
+        ensures { option_map (λ holder. holder.now) result ≡ holder_at id.now self.now.table }
+    {
+        table::holder(&self.table, &self.places, id)
     }
 
     /// The path below which a resource revokes a token, if the desk has one.

@@ -5,11 +5,9 @@ ghost use Rattle.std.specs.Option.{ForSome};
 ghost use Rattle.osc_authz.specs.Granted.{IsSecret, IsShort};
 
 use crate::error::GrantError;
+use osc_model::limits::LONGEST_PART;
 use osc_model::{Algorithm, Bytes};
 use std::fmt;
-
-/// The most bytes of a secret, a salt or an id context.
-const LONGEST: usize = 64;
 
 /// What a client has been granted: the token, which it can't read, and the input material of its contexts.
 pub struct ClientDesk {
@@ -47,12 +45,12 @@ impl fmt::Debug for ClientDesk {
     }
 }
 
-/// Whether an id context that is there has more than [`LONGEST`] bytes.
+/// Whether an id context that is there has more than [`LONGEST_PART`] bytes.
 fn is_long(id_context: &Option<Bytes>) -> bool
     ensures { IsFalse result ↔ ForSome id_context.now IsShort }
 {
     match id_context {
-        Some(bytes) => bytes.len() > LONGEST,
+        Some(bytes) => bytes.len() > LONGEST_PART,
         None => false,
     }
 }
@@ -77,10 +75,10 @@ impl ClientDesk {
         ensures salt { result ≡ Err GrantError.Salt → IsSecret secret × ¬ IsShort salt }
         ensures id_context { result ≡ Err GrantError.IdContext → IsSecret secret × IsShort salt × ¬ ForSome id_context IsShort }
     {
-        if secret.is_empty() || secret.len() > LONGEST {
+        if secret.is_empty() || secret.len() > LONGEST_PART {
             return Err(GrantError::Secret);
         }
-        if salt.len() > LONGEST {
+        if salt.len() > LONGEST_PART {
             return Err(GrantError::Salt);
         }
         if is_long(&id_context) {

@@ -27,7 +27,7 @@ ghost use Rattle.osc_authz.specs.Marked.{AreMarked, IsSameBut};
 ghost use Rattle.osc_authz.specs.Members.{In};
 ghost use Rattle.osc_authz.specs.Post.{Posts};
 ghost use Rattle.osc_authz.specs.Posting.{Offer, Posting};
-ghost use Rattle.osc_authz.specs.Table.{IsFull, IsLawfulContext, IsTable, KeepsPlace, accepted, alive, contexts, is_live, meant, with_pending};
+ghost use Rattle.osc_authz.specs.Table.{IsFull, IsLawfulContext, IsTable, KeepsPlace, accepted, alive, contexts, holder_at, is_live, meant, with_pending};
 ghost use Rattle.osc_authz.specs.Welcome.{IsWelcome};
 ghost use Rattle.osc_authz.specs.declared.error.FinishError.{FinishError as AnyFinishError};
 ghost use Rattle.osc_authz.specs.declared.granted.ClientDesk.{ClientDesk as AnyClient};
@@ -76,12 +76,13 @@ pub fn live_in_its_time()
         → is_live on held ≡ true ↔ (HasBegun held.not_before on.at × IsNotOver held.expires on.at × (stands on.tree held.revocation ≡ false) × IsNotOver held.ends on.at) }
 {}
 
-/// The context that a request means is held, pending or confirmed, and live, and has the request's kid as its recipient ID.
+/// The context that a request means is held, pending or confirmed, and live, and has the request's kid as its recipient ID, by which the id of
+/// its token is found.
 pub fn meant_contexts()
     ensures { (on : Standing) (kid : List ℕ) (kid_context : Option (List ℕ)) (table : List TokenEntry) (held : SecurityContext)
         → meant on kid kid_context table ≡ Some held
         → (context : OfToken) × In context (of_tokens table) × (context.held ≡ held)
-        × IsLive on held × (held.name.client_id ≡ kid) }
+        × IsLive on held × (held.name.client_id ≡ kid) × (holder_at kid table ≡ Some context.token) }
 {}
 
 /// SecurityContext contexts with one recipient ID are one context, of one token id, and either confirmed or pending.

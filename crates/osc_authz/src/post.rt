@@ -6,7 +6,7 @@ ghost use Rattle.osc_authz.specs.Post.{answer_of};
 ghost use Rattle.osc_cbor.specs.{spelling};
 
 use crate::error::PostError;
-use osc_model::Note;
+use osc_model::{Note, SharedBytes};
 
 /// What a post to authz-info came to.
 #[derive(Debug, Drop)]
@@ -15,16 +15,19 @@ pub struct Post {
     pub opened: Option<Note>,
     /// What is answered: 2.01 with a payload, or the code of the refusal.
     pub answer: Result<PostReply, PostError>,
+    /// The id of the token, where the post made a context.
+    pub holder: Option<SharedBytes>,
 }
 
 impl Post {
     /// A post that was refused before its token opened.
     pub(crate) fn refused(error: PostError) -> Post
-        ensures { result ≡ record { opened = None; answer = Err error } }
+        ensures { result ≡ record { opened = None; answer = Err error; holder = None } }
     {
         Post {
             opened: None,
             answer: Err(error),
+            holder: None,
         }
     }
 }

@@ -10,7 +10,7 @@ ghost use Rattle.osc_authz.specs.Inner.Lives.{alive_by};
 ghost use Rattle.osc_authz.specs.Inner.Places.{IsIndex};
 ghost use Rattle.osc_authz.specs.Inner.Rooms.{IsRoom};
 ghost use Rattle.osc_authz.specs.Known.{known as known_of};
-ghost use Rattle.osc_authz.specs.Table.{IsTable, IsFull, IsLeastFree, accepted, confirmed_at, has_token, ids, kept_places as kept_places_of, taking, with_id as with_id_of, without_pending, with_pending};
+ghost use Rattle.osc_authz.specs.Table.{IsTable, IsFull, IsLeastFree, accepted, confirmed_at, has_token, holder_at, ids, kept_places as kept_places_of, taking, with_id as with_id_of, without_pending, with_pending};
 
 use crate::agreed_post::{AgreedPosts, PostRoom};
 use crate::context::ServerContext;
@@ -21,11 +21,9 @@ use crate::post::PostAnswer;
 use crate::revoked_marks::RevokedMarks;
 use crate::token_entry::TokenEntry;
 use osc_context::AcceptedNumber;
-use osc_model::{Bytes, Moment};
+use osc_model::limits::MOST_TOKENS;
+use osc_model::{Bytes, Moment, SharedBytes};
 use std::alloc::Global;
-
-/// How many token ids have a context at most.
-const MOST: usize = 64;
 
 /// The context with this recipient ID.
 pub(crate) fn with_id<'a>(
@@ -39,6 +37,22 @@ pub(crate) fn with_id<'a>(
 {
     match place_of_id(table, places, id) {
         Some(index) => table[index].with_id(id),
+        None => None,
+    }
+}
+
+/// The id of the token that made the context with this recipient ID.
+pub(crate) fn holder<'a>(
+    table: &'a [TokenEntry],
+    places: &Places,
+    id: &[u8],
+) -> Option<&'a SharedBytes>
+    requires table { IsTable table.now }
+    requires index { IsIndex places.now table.now }
+    ensures { option_map (λ holder. holder.now) result ≡ holder_at id.now table.now }
+{
+    match place_of_id(table, places, id) {
+        Some(index) => Some(table[index].token()),
         None => None,
     }
 }
@@ -114,7 +128,8 @@ pub(crate) fn is_full(
 ) -> bool
     ensures { IsTrue result ↔ IsFull reserved.now token.now (alive_by now revoked.now table.now) }
 {
-    count_alive(table, now, revoked) >= MOST - kept_places(table, now, revoked, reserved, token)
+    count_alive(table, now, revoked)
+        >= MOST_TOKENS - kept_places(table, now, revoked, reserved, token)
         && !has_alive(table, now, revoked, token)
 }
 
@@ -180,7 +195,7 @@ fn entry_of<'a>(table: &'a [TokenEntry], token: &[u8]) -> Option<&'a TokenEntry>
 /// A pending context that is to be added, the id of its token, and the room for its post among those that are known.
 #[derive(Drop)]
 pub(crate) struct Addition {
-    pub token: Bytes,
+    pub token: SharedBytes,
     pub context: ServerContext,
     pub room: PostRoom,
 }

@@ -14,13 +14,13 @@ use crate::agreed_post::{AgreedPosts, PostRoom};
 use crate::context::ServerContext;
 use crate::revoked_marks::RevokedMarks;
 use osc_context::AcceptedNumber;
-use osc_model::{Bytes, Moment};
+use osc_model::{Moment, SharedBytes};
 use std::alloc::Global;
 use std::mem;
 
 /// The contexts of one token id: one that a request has opened under, and one of the newest post; and the posts of it that are known.
 pub struct TokenEntry {
-    pub id: Bytes,
+    pub id: SharedBytes,
     pub confirmed: Option<ServerContext>,
     pub pending: Option<ServerContext>,
     pub posts: AgreedPosts,
@@ -84,6 +84,13 @@ impl TokenEntry {
         ensures { result ≡ bytes_eq token.now self.now.id }
     {
         token == self.id.as_slice()
+    }
+
+    /// Its token id.
+    pub fn token(&self) -> &SharedBytes
+        ensures { result.now ≡ self.now.id }
+    {
+        &self.id
     }
 
     /// A post made this context: it is the pending one, and the post is known beside the older ones.

@@ -1,5 +1,5 @@
 -- A client by calls.
-use Rattle.std.specs.Prelude.{◌≡◌, ℕ, ◌⊎◌, true, false, ◌↔◌, ◌<◌, ◌≤◌, ◌^◌, List, None, option_map}
+use Rattle.std.specs.Prelude.{◌≡◌, ℕ, ◌⊎◌, Bool, true, false, ◌↔◌, ◌<◌, ◌≤◌, ◌^◌, List, None, option_map}
 use Rattle.osc_model.specs.declared.node.Draw.{Draw}
 use Rattle.osc_model.specs.declared.node.Moment.{Moment}
 use Rattle.osc_model.specs.declared.node.Peer.{Peer}
@@ -15,7 +15,7 @@ use Rattle.osc_client.specs.State.{State}
 use Rattle.osc_run.specs.{ClientStep, Came}
 use Rattle.osc_client.specs.declared.route.Route.{Route}
 use Rattle.osc_c.specs.Arguments.{IsUnfit, Tells}
-use Rattle.osc_c.specs.Ends.{At, DoneAt, Ends}
+use Rattle.osc_c.specs.Ends.{At, DueAt, Ends}
 use Rattle.osc_c.specs.Given.{GivenDatagram, GivenGrant, GivenRequest, request_size}
 use Rattle.osc_c.specs.Granted.{FitsClient, IsDesk, id_context_of, origin_of}
 use Rattle.osc_c.specs.Requests.{IsRequest, MakeARequest}
@@ -56,11 +56,11 @@ BegunAt old now draw new = Makes old (λ s step t. Begins s now draw step t × I
 abbrev pub BegunBy : ClientNode → ℕ → Draw → Outcome → ClientNode → Type 0
 BegunBy old ms draw outcome new = At ms old outcome new (λ now. old.client.waiting ≡ None) (λ now. BegunAt old now draw new)
 
-abbrev pub TickedAt : ClientNode → Moment → ClientNode → Type 0
-TickedAt old now new = Makes old (λ s step t. Ticks s now step t × IsOfRun s step t) new
+abbrev pub TickedAt : ClientNode → Moment → Bool → ClientNode → Type 0
+TickedAt old now lost new = Makes old (λ s step t. Ticks s now step t × IsOfRun s step t × (step.notes.lost ≡ lost)) new
 
 abbrev pub TickedBy : ClientNode → ℕ → Outcome → ClientNode → Type 0
-TickedBy old ms outcome new = DoneAt ms old outcome new (λ now. TickedAt old now new)
+TickedBy old ms outcome new = DueAt ms old outcome new (λ now lost. TickedAt old now lost new)
 
 -- it answers these bytes, or reads them, which takes memory
 abbrev pub AnswersOrReads : ClientNode → Moment → Peer → List ℕ → Type 0

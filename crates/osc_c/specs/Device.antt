@@ -1,5 +1,6 @@
 -- A device by calls.
-use Rattle.std.specs.Prelude.{◌≡◌, ℕ, ◌⊎◌, Bool, true, false, bytes_eq, ◌↔◌, ◌≤◌, List, [], ◌∷◌}
+use Rattle.std.specs.Prelude.{◌≡◌, ℕ, ◌⊎◌, Bool, true, false, bytes_eq, ◌↔◌, ◌≤◌, List, [], ◌∷◌, ◌++◌}
+use Rattle.osc_model.specs.{v4_prefix}
 use Rattle.osc_model.specs.Arrival.{Arrival}
 use Rattle.osc_model.specs.declared.node.Draw.{Draw}
 use Rattle.osc_model.specs.declared.node.Moment.{Moment}
@@ -14,7 +15,7 @@ use Rattle.osc_device.specs.{Carries, AllGoOn, IsOfAnEntry, ServerTakesMemory, n
 use Rattle.osc_device.specs.State.{State}
 use Rattle.osc_run.specs.{Came, Due, by_server}
 use Rattle.osc_device.specs.declared.round.Round.{Round}
-use Rattle.osc_c.specs.Ends.{At, DoneAt, Stays}
+use Rattle.osc_c.specs.Ends.{At, DueAt, Stays}
 use Rattle.osc_c.specs.Given.{GivenDatagram, came_at}
 use Rattle.osc_c.specs.Last.{nothing, since, since_tick}
 use Rattle.osc_c.specs.declared.calls.device.DeviceNode.{DeviceNode}
@@ -34,7 +35,7 @@ Restarts old new = (new ≡ record { device = restarted_device old.device; last 
 
 -- 0.0.0.0, from which no datagram comes: the device's own place
 abbrev pub is_nowhere : Peer → Bool
-is_nowhere from = bytes_eq from.address (0 ∷ 0 ∷ 0 ∷ 0 ∷ [])
+is_nowhere from = bytes_eq from.address (v4_prefix ++ 0 ∷ 0 ∷ 0 ∷ 0 ∷ [])
 
 -- so, unless it came from nowhere: then nothing changes
 abbrev pub UnlessNowhere : Bool → DeviceNode → Outcome → DeviceNode → Type 0 → Type 0
@@ -59,8 +60,9 @@ module _ (is_sealing : Sealings) where
 
   -- The device itself ticks, what it sends is carried to its server and back, and nothing goes to others; what it learns is kept to be told. Each
   -- run goes on by these steps, and a reply that it learns is that of an entry of the history.
-  pub record TickedAt (old : DeviceNode) (now : Moment) (server_draw : Draw) (new : DeviceNode) : Type 0 where
+  pub record TickedAt (old : DeviceNode) (now : Moment) (server_draw : Draw) (lost : Bool) (new : DeviceNode) : Type 0 where
     pub round : Round
+    pub loses : round.begun.notes.lost ≡ lost
     pub ticked : Own
     pub ticks : (draw : Draw) → IsOwnStep is_sealing old.device.own (Due now draw) round.begun ticked
     pub carries : Carries is_sealing (record { server = record old.device.server { endpoint = after_tick now old.device.server.endpoint }; own = ticked })
@@ -70,7 +72,7 @@ module _ (is_sealing : Sealings) where
     pub entry : IsOfAnEntry old.device round
 
   abbrev pub TickedBy : DeviceNode → ℕ → Draw → Outcome → DeviceNode → Type 0
-  TickedBy old ms draw outcome new = DoneAt ms old outcome new (λ now. TickedAt old now draw new)
+  TickedBy old ms draw outcome new = DueAt ms old outcome new (λ now lost. TickedAt old now draw lost new)
 
 -- the first moment is told at which a tick does anything for the device itself, if one does
 abbrev pub TellsDeadline : DeviceNode → ℕ → Outcome → ℕ → Type 0

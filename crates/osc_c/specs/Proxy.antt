@@ -1,5 +1,5 @@
 -- A proxy by calls.
-use Rattle.std.specs.Prelude.{◌≡◌, ℕ, ◌⊎◌, true, false, ◌↔◌, ◌≤◌, List, [], ◌∷◌, ◌++◌, ⊤}
+use Rattle.std.specs.Prelude.{◌≡◌, ℕ, ◌⊎◌, Bool, true, false, ◌↔◌, ◌≤◌, List, [], ◌∷◌, ◌++◌, ⊤}
 use Rattle.osc_model.specs.Arrival.{Arrival}
 use Rattle.osc_model.specs.declared.node.Draw.{Draw}
 use Rattle.osc_model.specs.declared.node.Moment.{Moment}
@@ -11,7 +11,7 @@ use Rattle.osc_proxy.specs.Hearing.{MayBeAnswered}
 use Rattle.osc_proxy.specs.State.{State}
 use Rattle.osc_proxy.specs.Ticks.{Ticks}
 use Rattle.osc_proxy.specs.declared.targets.Target.{Target}
-use Rattle.osc_c.specs.Ends.{At, Stays}
+use Rattle.osc_c.specs.Ends.{At, IsDue, IsNoMoment, Stays}
 use Rattle.osc_c.specs.Given.{GivenDatagram, came_at}
 use Rattle.osc_c.specs.Last.{since}
 use Rattle.osc_c.specs.declared.calls.outcome.Outcome.{Outcome}
@@ -63,11 +63,16 @@ abbrev pub HeardBy : ProxyNode → GivenDatagram → Draw → Outcome → ProxyN
 HeardBy old given draw outcome new =
     At given.ms old outcome new (λ now. HearsInMemory old.forwarding (came_at given now draw)) (λ now. HeardAt old (came_at given now draw) new)
 
-abbrev pub TickedAt : ProxyNode → Moment → Draw → ProxyNode → Type 0
-TickedAt old now draw new = Makes old (λ s step t. Ticks s now draw step t) new
+abbrev pub TickedAt : ProxyNode → Moment → Draw → Bool → ProxyNode → Type 0
+TickedAt old now draw lost new = Makes old (λ s step t. Ticks s now draw step t × (step.notes.lost ≡ lost)) new
+
+-- what is due is done; or it takes memory, of which there was none, and nothing changes
+abbrev pub TicksOr : ProxyNode → Moment → Draw → Outcome → ProxyNode → Type 0
+TicksOr old now draw outcome new =
+    IsDue outcome (λ lost. TickedAt old now draw lost new) ⊎ (Stays NoMemory old outcome new × TicksInMemory old.forwarding)
 
 abbrev pub TickedBy : ProxyNode → ℕ → Draw → Outcome → ProxyNode → Type 0
-TickedBy old ms draw outcome new = At ms old outcome new (λ now. TicksInMemory old.forwarding) (λ now. TickedAt old now draw new)
+TickedBy old ms draw outcome new = ((now : Moment) × (now.ms ≡ ms) × TicksOr old now draw outcome new) ⊎ IsNoMoment ms old outcome new
 
 -- the first moment is told at which a tick does anything, if one does
 abbrev pub TellsDeadline : ProxyNode → ℕ → Outcome → ℕ → Type 0

@@ -1,5 +1,5 @@
 -- What a step of a device's server served and refused, as include/nozzlefern.h tells it.
-use Rattle.std.specs.Prelude.{◌≡◌, ℕ, ◌⊎◌, List, [], ◌∷◌, ◌++◌, length, Option, Some, None, MatchOption, option_and_then}
+use Rattle.std.specs.Prelude.{◌≡◌, ℕ, List, [], ◌∷◌, ◌++◌, length, Option, Some, None, MatchOption, option_and_then}
 use Rattle.osc_model.specs.declared.node.Peer.{Peer}
 use Rattle.osc_model.specs.declared.step.RefusedRequest.{RefusedRequest}
 use Rattle.osc_model.specs.{method_number}
@@ -9,7 +9,7 @@ use Rattle.osc_c.specs.Filling.{if_fits, written}
 use Rattle.osc_c.specs.Last.{LastStep}
 use Rattle.osc_c.specs.Plain.{plain_peer}
 use Rattle.osc_c.specs.declared.calls.outcome.Outcome.{Outcome}
-use Rattle.osc_c.specs.declared.calls.outcome.Outcome.TheVariants.{Done, NoMemory, Nothing}
+use Rattle.osc_c.specs.declared.calls.outcome.Outcome.TheVariants.{Done, Nothing}
 use Rattle.osc_c.specs.declared.calls.plain.PlainRefused.{PlainRefused}
 use Rattle.osc_c.specs.declared.calls.plain.PlainServed.{PlainServed}
 
@@ -73,8 +73,8 @@ HasServed served room outcome new filled =
 abbrev pub served_by_last : LastStep → Option ServedRequest
 served_by_last last = option_and_then (λ step. served_in step.notes) last.step
 
--- It is told, or there was no memory for it, and nothing is. Where there was none, that takes no memory.
+-- It is told, where there was one.
 abbrev pub TellsServed : Option ServedRequest → PlainServed → List ℕ → Outcome → PlainServed → List ℕ → Type 0
 TellsServed found old room outcome new filled =
     MatchOption found ((outcome ≡ Nothing) × (new ≡ old) × (filled ≡ room))
-    (λ served. HasServed served room outcome new filled ⊎ ((outcome ≡ NoMemory) × (new ≡ old) × (filled ≡ room)))
+    (λ served. HasServed served room outcome new filled)

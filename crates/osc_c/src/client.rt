@@ -110,7 +110,8 @@ pub extern "C" fn nzf_client_on_datagram(
 
 /// What is due by now is done, whatever memory there is.
 ///
-/// Answers 0; or 34 where the moment is none, and 33 where nothing is held: then what was held is held. Heap: for what is sent.
+/// Answers 0, or 35 where what should have gone out was lost for lack of memory; or 34 where the moment is none, and 33 where nothing is held: then
+/// what was held is held. Heap: for what is sent.
 #[unsafe(no_mangle)]
 pub extern "C" fn nzf_client_on_tick(alloc: Global, client: &mut ClientHandle, now: u64) -> i32
     ensures { Calls client.old.held result client.new.held (λ old outcome new. TickedBy old now outcome new) }

@@ -68,7 +68,8 @@ pub extern "C" fn nzf_device_on_datagram(
 
 /// What is due by now is done, whatever memory there is.
 ///
-/// Answers 0; or 34 where the moment is none, and 33 where nothing is held: then what was held is held. Heap: for what is sent.
+/// Answers 0, or 35 where what should have gone out was lost for lack of memory; or 34 where the moment is none, and 33 where nothing is held: then
+/// what was held is held. Heap: for what is sent.
 #[unsafe(no_mangle)]
 pub extern "C" fn nzf_device_on_tick(
     alloc: Global,

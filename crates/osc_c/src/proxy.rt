@@ -15,7 +15,7 @@ use std::alloc::Global;
 
 /// Makes a proxy without targets, in the place of one that is held.
 ///
-/// Answers 0; or 9 without memory: then what was held is held. Heap: some 750 bytes, and from the first event on some 105 KiB.
+/// Answers 0; or 9 without memory: then what was held is held. Heap: some 750 bytes, and from the first event on some 137 KiB.
 #[unsafe(no_mangle)]
 pub extern "C" fn nzf_proxy_new(alloc: Global, proxy: &mut ProxyHandle) -> i32
     ensures { ((result ≡ pos 0) × (proxy.new.held ≡ Some (record { forwarding = Setting []; last = nothing }))) ⊎ ((result ≡ pos 9) × (proxy.new.held ≡ proxy.old.held)) }
@@ -48,7 +48,7 @@ pub extern "C" fn nzf_proxy_add_target(
 /// These bytes came from this peer at this moment as one datagram.
 ///
 /// Answers 0; or 9 without memory, 34 where the moment is none, and 33 where nothing is held: then what was held is held. Heap: for the step, and
-/// for what is forwarded; at the first event some 105 KiB.
+/// for what is forwarded; at the first event some 137 KiB.
 #[unsafe(no_mangle)]
 pub extern "C" fn nzf_proxy_on_datagram(
     alloc: Global,
@@ -73,8 +73,8 @@ pub extern "C" fn nzf_proxy_on_datagram(
 
 /// What is due by now is done.
 ///
-/// Answers 0; or 9 without memory, 34 where the moment is none, and 33 where nothing is held: then what was held is held. Heap: for the step; at
-/// the first event some 105 KiB.
+/// Answers 0, or 35 where what should have gone out was lost for lack of memory; or 9 without memory, 34 where the moment is none, and 33 where
+/// nothing is held: then what was held is held. Heap: for the step; at the first event some 137 KiB.
 #[unsafe(no_mangle)]
 pub extern "C" fn nzf_proxy_on_tick(
     alloc: Global,

@@ -34,7 +34,7 @@ pub extern "C" fn nzf_device_get(
 
 /// The protected request that the last step served. Its path, its payload and its id context are written one after the other.
 ///
-/// Answers 0; or 33 where it served none, or nothing is held, 2 where `bytes` is too short, and 9 without memory. Heap: for the call.
+/// Answers 0; or 33 where it served none, or nothing is held, and 2 where `bytes` is too short. Heap: none.
 #[unsafe(no_mangle)]
 pub extern "C" fn nzf_device_served(
     alloc: Global,
@@ -44,7 +44,7 @@ pub extern "C" fn nzf_device_served(
 ) -> i32
     ensures { Looks device.old.held result device.new.held (λ node outcome. TellsServed (served_by_last node.last) served.old bytes.old outcome served.new bytes.new) }
 {
-    with(alloc, device, &mut |node| node.served(alloc, served, bytes)).number()
+    with(alloc, device, &mut |node| node.served(served, bytes)).number()
 }
 
 /// What the last tick learnt of what a call left open where it answered 35. `code` is the answer's.

@@ -14,16 +14,14 @@ ghost use Rattle.osc_cbor.specs.Inner.Notes.{Noted, KeyNoted, Says};
 use crate::error::ReadError;
 use crate::heads::{Major, head};
 use arrayvec::ArrayVec;
+use osc_model::limits::DATAGRAM_LIMIT;
 use std::cmp::Ordering;
-
-/// How many bytes of spellings there is room for: those of a datagram.
-pub(crate) const SPELLED_LIMIT: usize = 1152;
 
 /// How many keys there is room for: a key and its value take two bytes.
 pub(crate) const KEYS_LIMIT: usize = 576;
 
-/// Spellings with the shortest heads, one after the other.
-pub(crate) type Spelled = ArrayVec<u8, SPELLED_LIMIT>;
+/// Spellings with the shortest heads, one after the other: there is room for those of a datagram.
+pub(crate) type Spelled = ArrayVec<u8, DATAGRAM_LIMIT>;
 
 /// The keys of the maps that are open, those of an inner map after those of an outer one.
 pub(crate) type Keys = ArrayVec<Key, KEYS_LIMIT>;
@@ -114,7 +112,7 @@ pub(crate) fn note_key(start: usize, spelled: &[u8], keys: &mut Keys) -> Result<
     ensures { KeyNoted start spelled.now keys.old.items keys.new.items result }
 {
     let end = spelled.len();
-    if start > SPELLED_LIMIT || end > SPELLED_LIMIT {
+    if start > DATAGRAM_LIMIT || end > DATAGRAM_LIMIT {
         return Err(Stop::Unsure);
     }
     let key = Key {

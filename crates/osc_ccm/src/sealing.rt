@@ -1,6 +1,7 @@
 //! Sealing and opening with a tag of any lawful size (RFC 3610 sections 2.4 and 2.5).
 
 ghost use Rattle.std.specs.Prelude.{◌≡◌, ◌↔◌, ℕ, ◌+◌, ◌-◌, ◌<◌, ◌≤◌, ◌++◌, IsTrue, IfOk, OnErr, List, length, take, drop};
+ghost use Rattle.osc_model.specs.{datagram_limit};
 ghost use Rattle.osc_ccm.specs.Limits.{IsInRange, IsTooLong};
 ghost use Rattle.osc_ccm.specs.Ccm.{IsSealing, ciphered, sealing};
 
@@ -8,10 +9,7 @@ use crate::aead::{AAD_LIMIT, TEXT_LIMIT};
 use crate::error::{OpenError, SealError};
 use crate::{block, mac, pass, stream};
 use osc_aes::Aes128;
-
-/// The most bytes of a text that is opened in one pass, by a buffer on the stack: those of a datagram (RFC 7252 section
-/// 4.6).
-const BUFFERED: usize = 1152;
+use osc_model::limits::DATAGRAM_LIMIT;
 
 /// Writes the bytes, encrypted or decrypted, to the beginning of `out`.
 fn write_ciphered(cipher: &Aes128, nonce: &[u8; 13], bytes: &[u8], out: &mut [u8])
@@ -148,7 +146,7 @@ fn open_in_one_pass(
     requires low { 2 ≤ size }
     requires high { size ≤ 16 }
     requires long { size ≤ length sealed.now }
-    requires short { length sealed.now - size ≤ BUFFERED }
+    requires short { length sealed.now - size ≤ datagram_limit }
     requires range { IsInRange (length sealed.now - size) (length aad.now) }
     requires room { length sealed.now - size ≤ length out.old }
     ensures genuine { IsTrue result
@@ -160,7 +158,7 @@ fn open_in_one_pass(
     ensures refused { ¬ IsTrue result → out.new ≡ out.old }
 {
     let length = sealed.len() - size;
-    let mut buffer = [0; BUFFERED];
+    let mut buffer = [0; DATAGRAM_LIMIT];
     let text = &mut buffer[..length];
     text.copy_from_slice(&sealed[..length]);
     let block = pass::open_in_place(cipher, size, nonce, aad, text);
@@ -195,7 +193,7 @@ fn open_text(
     if sealed.len() < size {
         return false;
     }
-    if sealed.len() - size > BUFFERED {
+    if sealed.len() - size > DATAGRAM_LIMIT {
         return open_in_two_passes(cipher, size, nonce, aad, sealed, out);
     }
     open_in_one_pass(cipher, size, nonce, aad, sealed, out)

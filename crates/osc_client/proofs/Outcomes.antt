@@ -96,8 +96,8 @@ module _ (is_sealing : Sealings) (desk : ClientDesk) (message : Message) where
       of_each context waiting.what outcome came
       (λ o. ClientStep false (record { desk = desk; context = context; outstanding = outstanding context (Some waiting) }) (notes_of o)
       (record { desk = desk; context = context_after o context; outstanding = outstanding (context_after o context) (waits_after o waiting) })) (record {
-        stays = λ opened. ClientIdle (record { opened = opened; refusal = None; noted = refl; is = refl });
-        ends = λ ending lawful. Ended refl (record { result = ending; ending = lawful; noted = refl; before = something context waiting.what needs; is = refl });
+        stays = λ opened. ClientIdle (record { opened = opened; refusal = None; lost = false; noted = refl; is = refl });
+        ends = λ ending lawful. Ended refl (record { result = ending; ending = lawful; lost = false; noted = refl; before = something context waiting.what needs; is = refl });
         makes = λ begun code payload made is finishes. Made refl
             (makes begun code payload made (record { desk = desk; context = context; outstanding = outstanding_of context waiting.what }) (ap (outstanding_of context) is) finishes);
         answers = λ held ask own text reply has is reads. Answered refl (record {

@@ -6,7 +6,8 @@ use Rattle.std.proofs.lemmas.Slice.Eq.{bytes_eq-Decides}
 use Rattle.osc_model.specs.declared.node.Peer.{Peer}
 use Rattle.osc_coap.specs.declared.kind.Kind.{Kind}
 use Rattle.osc_coap.specs.declared.kind.Kind.TheVariants.{Confirmable, NonConfirmable, Acknowledgement, Reset}
-use Rattle.osc_message.specs.{Open, acknowledged, is_named, same_peer, acknowledged_by}
+use Rattle.osc_model.specs.{same_peer}
+use Rattle.osc_message.specs.{Open, acknowledged, is_named, acknowledged_by}
 use Rattle.osc_model.specs.declared.code.Code.{Code}
 use Rattle.osc_coap.specs.Message.{Message}
 use Rattle.osc_authz.specs.{ClientContextState, Finishes, made_name}
@@ -62,9 +63,13 @@ and_right false b both = let wrong : false ≡ true = both in absurd (cc)
 
 pub one_peer : (a b : Peer) → same_peer a b ≡ true → a ≡ b
 one_peer a b same =
-    let address : a.address ≡ b.address = (bytes_eq-Decides a.address b.address).0 (and_left (bytes_eq a.address b.address) (nat_eq a.port b.port) same) in
-    let port : a.port ≡ b.port = eqb-true a.port b.port (and_right (bytes_eq a.address b.address) (nat_eq a.port b.port) same) in
-    ap₂ (λ (x : List ℕ) (y : ℕ). record { address = x; port = y }) address port
+    let numbers = nat_eq a.scope b.scope && nat_eq a.port b.port in
+    let both : numbers ≡ true = and_right (bytes_eq a.address b.address) numbers same in
+    let address : a.address ≡ b.address = (bytes_eq-Decides a.address b.address).0 (and_left (bytes_eq a.address b.address) numbers same) in
+    let scope : a.scope ≡ b.scope = eqb-true a.scope b.scope (and_left (nat_eq a.scope b.scope) (nat_eq a.port b.port) both) in
+    let port : a.port ≡ b.port = eqb-true a.port b.port (and_right (nat_eq a.scope b.scope) (nat_eq a.port b.port) both) in
+    subst (λ (x : List ℕ). a ≡ record { address = x; scope = b.scope; port = b.port }) address
+    (ap₂ (λ (s p : ℕ). record { address = a.address; scope = s; port = p }) scope port)
 
 -- what a Reset ends isn't open any more
 pub ended_gone : (next_hop from : Peer) (kind : Kind) (id : ℕ) (waiting : Option Waiting) (sending : List Open)

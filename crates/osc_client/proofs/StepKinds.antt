@@ -31,7 +31,7 @@ use Rattle.osc_client.proofs.Own.{and_right}
 
 -- what is refused before it begins changes nothing
 pub refusals : (lied : Bool) (state : ClientState) (number : ℕ) → ClientStep lied state (record quiet { result = Some (Refused number) }) state
-refusals lied state number = ClientIdle (record { opened = None; refusal = Some number; noted = refl; is = refl })
+refusals lied state number = ClientIdle (record { opened = None; refusal = Some number; lost = false; noted = refl; is = refl })
 
 -- a request is asked
 pub asked : (old : State) (context : ClientContextState) (plaintext : List ℕ) (notes : StepNotes) (new : State) (at : Moment) (draw : Draw) (message : Message)
@@ -52,7 +52,7 @@ asked old context plaintext notes new at draw message free noted is =
 
 -- what only sends is idle
 quietly : (old new : State) (step : Step) (out : List Datagram) → step ≡ sends out → core new ≡ core old → ClientStep false (core old) step.notes (core new)
-quietly old new step out told same = ClientIdle (record { opened = None; refusal = None; noted = ap (λ (s : Step). s.notes) told; is = same })
+quietly old new step out told same = ClientIdle (record { opened = None; refusal = None; lost = false; noted = ap (λ (s : Step). s.notes) told; is = same })
 
 -- what a Reset ends
 settles : (ends : Bool) (old : State) (endpoint : EndpointState) (step : Step) (new : State)
@@ -62,6 +62,7 @@ settles true old endpoint step new something settled =
     Ended refl (record {
       result = result.Unverified (record { 0 = 0 });
       ending = tt;
+      lost = false;
       noted = ap (λ (s : Step). s.notes) settled.0;
       before = something refl;
       is = ap core settled.1;

@@ -1,9 +1,9 @@
 -- The notes of a step tell of its datagrams.
-use Rattle.std.proofs.Common.{◌≡◌, ℕ, Bool, true, false, ◌++◌, if◌then◌else◌, List, [], ◌∷◌, Option, Some, None, Result, Ok, Err, refl, sym, subst, ap, inl, inr}
+use Rattle.std.proofs.Common.{◌≡◌, ℕ, Bool, true, false, ◌++◌, if◌then◌else◌, List, [], ◌∷◌, Option, Some, None, Result, Ok, Err, refl, sym, subst, ap}
 use Rattle.std.specs.List.{All, Contains, filter_map}
 use Rattle.std.proofs.lemmas.List.Elements.{All-nil, All-cons, All-head, All-contains_itself, Contains-append_right}
 use Rattle.std.proofs.lemmas.Option.{same_Some}
-use Rattle.osc_model.specs.{sends, quiet}
+use Rattle.osc_model.specs.{sends, quiet, quiet_or_lost}
 use Rattle.osc_model.specs.StepNotes.{StepNotes}
 use Rattle.osc_model.specs.declared.bytes.Bytes.{Bytes}
 use Rattle.osc_model.specs.declared.context.ContextName.{ContextName}
@@ -64,15 +64,15 @@ module _ (old : State) (now : Moment) where
   silent out plain = record { out = plain; seals = refl; opens = refl; answers = λ reply e. cc }
 
   -- something ends so
-  silent_end : (out : List Datagram) (ending : ClientResult) → IsEnding ending → All (λ it. NeedsNoSeal old now it) out
-      → SealsNothing old now (record { out = out; notes = record quiet { result = Some ending } })
-  silent_end out ending ends plain = record { out = plain; seals = refl; opens = refl; answers = no_answer ending ends }
+  silent_end : (out : List Datagram) (ending : ClientResult) (lost : Bool) → IsEnding ending → All (λ it. NeedsNoSeal old now it) out
+      → SealsNothing old now (record { out = out; notes = record quiet { result = Some ending; lost = lost } })
+  silent_end out ending lost ends plain = record { out = plain; seals = refl; opens = refl; answers = no_answer ending ends }
     where
       no_answer : (e : ClientResult) → IsEnding e → (reply : Reply) → Some e ≡ Some (Answer reply) → ⊥
       no_answer e lawful reply is = subst IsEnding (same_Some e (Answer reply) is) lawful
 
   silent_refusal : (number : ℕ) → SealsNothing old now (refusing number)
-  silent_refusal number = silent_end [] (result.Refused number) tt none_plain
+  silent_refusal number = silent_end [] (result.Refused number) false tt none_plain
 
   silent_message : (to : Peer) (m : Message) → has_oscore m.options ≡ false → SealsNothing old now (sends (datagram to m ∷ []))
   silent_message to m plain = silent (datagram to m ∷ []) (one_plain (datagram to m) (unprotected m refl plain))
@@ -103,16 +103,17 @@ module _ (old : State) (now : Moment) where
   all_out : All (λ it. NeedsNoSeal old now it) (tick_sends now old.endpoint.sending)
   all_out = tick_out old.endpoint.sending [] old.endpoint.sending (λ m has. has)
 
-  all_going : (out : List Datagram) → GoesOut (tick_sends now old.endpoint.sending) out → All (λ it. NeedsNoSeal old now it) out
-  all_going out (inl is) = subst (All (λ it. NeedsNoSeal old now it)) (sym is) all_out
-  all_going out (inr is) = subst (All (λ it. NeedsNoSeal old now it)) (sym is) none_plain
+  all_going : (lost : Bool) (out : List Datagram) → GoesOut lost (tick_sends now old.endpoint.sending) out → All (λ it. NeedsNoSeal old now it) out
+  all_going false out is = subst (All (λ it. NeedsNoSeal old now it)) (sym is) all_out
+  all_going true out is = subst (All (λ it. NeedsNoSeal old now it)) (sym is) none_plain
 
-  pub ticks_silently : (out : List Datagram) → GoesOut (tick_sends now old.endpoint.sending) out → SealsNothing old now (sends out)
-  ticks_silently out goes = silent out (all_going out goes)
+  pub ticks_silently : (lost : Bool) (out : List Datagram) → GoesOut lost (tick_sends now old.endpoint.sending) out
+      → SealsNothing old now (record { out = out; notes = quiet_or_lost lost })
+  ticks_silently lost out goes = record { out = all_going lost out goes; seals = refl; opens = refl; answers = λ reply e. cc }
 
-  pub times_out_silently : (out : List Datagram) → GoesOut (tick_sends now old.endpoint.sending) out
-      → SealsNothing old now (record { out = out; notes = record quiet { result = Some result.TimedOut } })
-  times_out_silently out goes = silent_end out result.TimedOut tt (all_going out goes)
+  pub times_out_silently : (lost : Bool) (out : List Datagram) → GoesOut lost (tick_sends now old.endpoint.sending) out
+      → SealsNothing old now (record { out = out; notes = record quiet { result = Some result.TimedOut; lost = lost } })
+  times_out_silently lost out goes = silent_end out result.TimedOut lost tt (all_going lost out goes)
 
   again_silent : (from : Peer) (id : ℕ) (reply : Option Bytes) → noted_reply old.endpoint.seen now from id ≡ reply → SealsNothing old now (sends (again from reply))
   again_silent from id None e = silent [] none_plain
@@ -120,7 +121,7 @@ module _ (old : State) (now : Moment) where
 
   settled_silent : (ends : Bool) (endpoint : EndpointState) (step : Step) (new : State) → Settles ends old endpoint step new → SealsNothing old now step
   settled_silent false endpoint step new it = as_silent step _ it.0 (silent [] none_plain)
-  settled_silent true endpoint step new it = as_silent step _ it.0 (silent_end [] (result.Unverified (record { 0 = 0 })) tt none_plain)
+  settled_silent true endpoint step new it = as_silent step _ it.0 (silent_end [] (result.Unverified (record { 0 = 0 })) false tt none_plain)
 
   acknowledged_out : (from : Peer) (id : ℕ) (confirms : Bool) → All (λ it. NeedsNoSeal old now it) (sent_to from (if confirms then Some (empty_acknowledgement id) else None))
   acknowledged_out from id true = one_plain (datagram from (empty_acknowledgement id)) (unprotected (empty_acknowledgement id) refl refl)

@@ -1,12 +1,12 @@
 -- What a tick leaves of the open messages.
-use Rattle.std.proofs.Common.{◌≡◌, ap, subst, sym, ℕ, Bool, true, false, List, [], ◌∷◌, ◌++◌, Option, Some, None}
+use Rattle.std.proofs.Common.{◌≡◌, ap, refl, subst, sym, ℕ, Bool, true, false, List, [], ◌∷◌, ◌++◌, Option, Some, None}
 use Rattle.std.specs.List.{AllByRecursion, filter_map}
 use Rattle.osc_model.specs.declared.node.Moment.{Moment}
 use Rattle.osc_model.specs.declared.node.Peer.{Peer}
 use Rattle.osc_message.specs.declared.due.Due.{Due}
 use Rattle.osc_message.specs.declared.due.Due.TheVariants.{Keep, Send, GiveUp}
 use Rattle.osc_message.specs.{Open, is_named, after_tick, GoesOut, after, dues, due_of, tick_sends, ticked}
-use Rattle.osc_model.specs.{sends, quiet}
+use Rattle.osc_model.specs.{quiet, quiet_or_lost}
 use Rattle.osc_model.specs.declared.step.ClientResult.TheVariants.{TimedOut}
 use Rattle.osc_model.specs.declared.step.Datagram.{Datagram}
 use Rattle.osc_model.specs.declared.step.Step.{Step}
@@ -42,12 +42,14 @@ own_after_tick now peer (Some waiting) sending own = named_after_tick now peer w
 
 -- ---- what a tick comes to, by whether what waits is over
 
-pub timed_out : (old : State) (now : Moment) (out : List Datagram) (step : Step) (new : State) → GoesOut (tick_sends now old.endpoint.sending) out
-    → is_over now old.endpoint.sending old.waiting ≡ true → step ≡ record { out = out; notes = record quiet { result = Some TimedOut } }
+pub timed_out : (old : State) (now : Moment) (lost : Bool) (out : List Datagram) (step : Step) (new : State) → GoesOut lost (tick_sends now old.endpoint.sending) out
+    → is_over now old.endpoint.sending old.waiting ≡ true → step ≡ record { out = out; notes = record quiet { result = Some TimedOut; lost = lost } }
     → new ≡ record old { waiting = None; endpoint = after_tick now old.endpoint } → Ticks old now step new
-timed_out old now out step new goes over told kept = subst (λ (b : Bool). TicksBy b old now step new) (sym over) (out, goes, told, kept)
+timed_out old now lost out step new goes over told kept =
+    subst (λ (b : Bool). TicksBy b old now step new) (sym over) (subst (λ (s : Step). TicksBy true old now s new) (sym told) (goes, refl, kept))
 
-pub went_on : (old : State) (now : Moment) (out : List Datagram) (step : Step) (new : State) → GoesOut (tick_sends now old.endpoint.sending) out
-    → is_over now old.endpoint.sending old.waiting ≡ false → step ≡ sends out
+pub went_on : (old : State) (now : Moment) (lost : Bool) (out : List Datagram) (step : Step) (new : State) → GoesOut lost (tick_sends now old.endpoint.sending) out
+    → is_over now old.endpoint.sending old.waiting ≡ false → step ≡ record { out = out; notes = quiet_or_lost lost }
     → new ≡ record old { endpoint = after_tick now old.endpoint } → Ticks old now step new
-went_on old now out step new goes over told kept = subst (λ (b : Bool). TicksBy b old now step new) (sym over) (out, goes, told, kept)
+went_on old now lost out step new goes over told kept =
+    subst (λ (b : Bool). TicksBy b old now step new) (sym over) (subst (λ (s : Step). TicksBy false old now s new) (sym told) (goes, refl, kept))

@@ -6,7 +6,8 @@ use Rattle.osc_coap.specs.Message.{Message as CoapMessage}
 use Rattle.osc_coap.specs.declared.kind.Kind.{Kind}
 use Rattle.osc_coap.specs.declared.kind.Kind.TheVariants.{Reset as ResetKind}
 use Rattle.osc_options.specs.{unrecognised_critical}
-use Rattle.osc_message.specs.{same_peer, is_acknowledgement, is_confirmable}
+use Rattle.osc_model.specs.{same_peer}
+use Rattle.osc_message.specs.{is_acknowledgement, is_confirmable}
 use Rattle.osc_client.specs.declared.case.Case.{Case}
 use Rattle.osc_client.specs.declared.case.Case.TheVariants.{Refused, Unused, Counted}
 use Rattle.osc_client.specs.declared.waiting.Waiting.{Waiting}

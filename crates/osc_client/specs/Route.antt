@@ -1,5 +1,6 @@
 -- The way to the server: through a forward proxy, where it goes through one (RFC 7252 section 5.7.2).
 use Rattle.std.specs.Prelude.{ℕ, ◌≤◌, ◌<◌, ◌==◌, if◌then◌else◌, List, [], ◌∷◌, ◌++◌, length, Option, Some, None, codes}
+use Rattle.osc_model.specs.{default_port}
 use Rattle.osc_coap.specs.{NumberAndValue}
 use Rattle.osc_coap.specs.Message.{Message}
 use Rattle.osc_options.specs.{proxy_scheme, uri_host, uri_port, uint_bytes, merge}
@@ -17,10 +18,6 @@ IsHost host = (1 ≤ length host) × (length host ≤ 255)
 pub record IsLawfulOrigin (origin : HostAndPort) : Type 0 where
   pub host : IsHost origin.host
   pub port : origin.port < 65536
-
--- the port of the scheme `coap` (section 6.1)
-abbrev pub default_port : ℕ
-default_port = 5683
 
 -- Uri-Port, where the port isn't that of the scheme (section 5.10.1)
 abbrev pub port_options : ℕ → List NumberAndValue

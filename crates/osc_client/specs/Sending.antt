@@ -1,14 +1,13 @@
 -- What a client sends of its own, and what it keeps then.
 use Rattle.std.specs.Prelude.{◌≡◌, ◌≢◌, ℕ, ◌+◌, ◌<◌, ◌≤◌, Bool, true, false, ◌||◌, ◌==◌, nat_le, if◌then◌else◌, List, [], ◌∷◌, length, Option, Some, None, codes}
 use Rattle.osc_model.specs.Refusals as refusal
-use Rattle.osc_model.specs.{method_number, nonce_drawn, token_drawn, sends, quiet}
+use Rattle.osc_model.specs.{ace_cbor, exchange_lifetime, method_number, nonce_drawn, token_drawn, quiet, quiet_or_lost}
 use Rattle.osc_model.specs.declared.code.Method.TheVariants.{Post}
 use Rattle.osc_model.specs.declared.node.Draw.{Draw}
 use Rattle.osc_model.specs.declared.node.Moment.{Moment}
 use Rattle.osc_model.specs.declared.node.Peer.{Peer}
 use Rattle.osc_model.specs.declared.request.Request.{Request}
 use Rattle.osc_model.specs.declared.step.ClientResult.TheVariants.{Refused, TimedOut}
-use Rattle.osc_model.specs.declared.step.Datagram.{Datagram}
 use Rattle.osc_model.specs.declared.step.Step.{Step}
 use Rattle.osc_cbor.specs.{spelling as item_spelling}
 use Rattle.osc_coap.specs.{bare, payload_of, Spells, spelling}
@@ -31,17 +30,13 @@ use Rattle.osc_client.specs.declared.waiting.Waiting.{Waiting}
 
 -- ---- one thing is opened
 
--- what was acknowledged is answered within EXCHANGE_LIFETIME, or not at all (RFC 7252 section 4.8.2)
-abbrev pub longest_wait : ℕ
-longest_wait = 247000
-
 -- the message layer once this confirmable message was made and went out
 abbrev pub sent : EndpointState → Moment → Peer → Draw → Message → EndpointState
 sent endpoint now to draw message =
     record (id_taken draw endpoint) { sending = with_open now to (own_id draw endpoint.next_id) (timeout_of draw) (spelling message) endpoint.sending }
 
 abbrev pub waits : EndpointState → Moment → Draw → Awaited → Waiting
-waits endpoint now draw what = record { token = token_drawn draw; id = own_id draw endpoint.next_id; until = now.ms + longest_wait; what = what }
+waits endpoint now draw what = record { token = token_drawn draw; id = own_id draw endpoint.next_id; until = now.ms + exchange_lifetime; what = what }
 
 abbrev pub opened : State → Moment → Draw → Message → Awaited → State
 opened old now draw message what = record old {
@@ -62,10 +57,6 @@ pub record IsRefused (number : ℕ) (old : State) (step : Step) (new : State) : 
 
 abbrev pub begun_by : State → Draw → Begun
 begun_by old draw = record { nonce1 = nonce_drawn draw; recipient_id = offered_id old.context }
-
--- the Content-Format application/ace+cbor (RFC 9203 section 3)
-abbrev pub ace_cbor : ℕ
-ace_cbor = 19
 
 -- a post with this body: confirmable, to authz-info, as application/ace+cbor
 abbrev pub post_with : ℕ → List ℕ → List ℕ → Message
@@ -114,15 +105,15 @@ is_over_by now acknowledged none_left (Some waiting) = if acknowledged then nat_
 abbrev pub is_over : Moment → List Open → Option Waiting → Bool
 is_over now sending waiting = is_over_by now (length sending == 0) (length (ticked now sending) == 0) waiting
 
--- what is due goes out; what is over ends
+-- What is due goes out, all of it, or, as the notes say then, is lost for lack of memory; what is over ends.
 abbrev pub TicksBy : Bool → State → Moment → Step → State → Type 0
 TicksBy false old now step new =
-    (out : List Datagram) × GoesOut (tick_sends now old.endpoint.sending) out
-    × (step ≡ sends out)
+    GoesOut step.notes.lost (tick_sends now old.endpoint.sending) step.out
+    × (step.notes ≡ quiet_or_lost step.notes.lost)
     × (new ≡ record old { endpoint = after_tick now old.endpoint })
 TicksBy true old now step new =
-    (out : List Datagram) × GoesOut (tick_sends now old.endpoint.sending) out
-    × (step ≡ record { out = out; notes = record quiet { result = Some TimedOut } })
+    GoesOut step.notes.lost (tick_sends now old.endpoint.sending) step.out
+    × (step.notes ≡ record quiet { result = Some TimedOut; lost = step.notes.lost })
     × (new ≡ record old { waiting = None; endpoint = after_tick now old.endpoint })
 
 abbrev pub Ticks : State → Moment → Step → State → Type 0

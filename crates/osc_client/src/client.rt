@@ -39,6 +39,7 @@ use osc_coap::{Kind, MessageBuilder, MessageRef};
 use osc_context::NUMBER_LIMIT;
 use osc_message::laws::{ticks_at_rest, what_is_heard};
 use osc_message::{Handling, Heard, ReplyRoom, Ticked, noted};
+use osc_model::limits::EXCHANGE_LIFETIME;
 use osc_model::{
     ClientResult, Code, Datagrams, Draw, Moment, Peer, Request, Step, StepNotes, refusals,
 };
@@ -46,9 +47,6 @@ use osc_protect::Draft;
 use osc_run::kinds;
 use std::alloc::{AllocError, Global};
 use std::marker::Model;
-
-/// How long an acknowledged message is waited for, in ms: EXCHANGE_LIFETIME (RFC 7252 section 4.8.2).
-const LONGEST_WAIT: u64 = 247_000;
 
 /// A client: what was granted, the way to the server, its security context, what it waits for, and its message layer.
 pub struct Client {
@@ -341,7 +339,7 @@ impl Client {
         self.waiting = Some(Waiting {
             token: draw.token(),
             id,
-            until: now.ms + LONGEST_WAIT,
+            until: now.ms + EXCHANGE_LIFETIME,
             what,
         });
         out
@@ -513,24 +511,26 @@ impl Client {
     }
 
     /// Sends what is due again, and ends what waits once it is over: where it was acknowledged, 247 seconds after it was sent, and
-    /// else once its message is given up. Memory is taken for what is sent alone: without it that is lost, as on the way, and what is over ends all
-    /// the same.
+    /// else once its message is given up. Memory is taken for what is sent alone: without it that is lost, as on the way, which the
+    /// notes say, and what is over ends all the same.
     pub fn on_tick(&mut self, alloc: Global, now: Moment) -> Step
         ensures ticked { Ticks self.old now result self.new }
         ensures few { length result.out ≤ length self.old.endpoint.sending }
         ensures kind { ClientStep false (core self.old) result.notes (core self.new) }
     {
         let acknowledged = self.endpoint.open_messages() == 0;
-        let Ticked { out, .. } = self.endpoint.on_tick(alloc, now);
+        let Ticked { out, lost, .. } = self.endpoint.on_tick(alloc, now);
         let none_left = self.endpoint.open_messages() == 0;
         if is_over(now, acknowledged, none_left, &self.waiting) {
             self.waiting = None;
             return Step {
                 out,
-                notes: StepNotes::quiet().with_result(ClientResult::TimedOut),
+                notes: StepNotes::quiet()
+                    .with_result(ClientResult::TimedOut)
+                    .with_lost(lost),
             };
         }
-        Step::sending(out)
+        Step::of_tick(out, lost)
     }
 
     /// The first moment at which a tick sends, gives up or ends anything, in ms, or none where no tick would. What was acknowledged ends

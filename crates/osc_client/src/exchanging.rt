@@ -11,14 +11,9 @@ use crate::route::Origin;
 use osc_authz::ClientDesk;
 use osc_coap::laws::length_of_spelling;
 use osc_coap::{DATAGRAM_LIMIT, DatagramTooLong, Kind, MessageBuilder};
+use osc_model::limits::{ACE_CBOR, AUTHZ_INFO_SEGMENT, POST};
 use osc_options::laws::merged_options;
 use osc_options::numbers::{CONTENT_FORMAT, URI_PATH};
-
-/// The code of a POST.
-const POST: u8 = 0x02;
-
-/// Content-Format 19, application/ace+cbor (RFC 9203 section 3).
-const ACE_CBOR: u8 = 19;
 
 /// How many bytes a post has of its payload and of the marker of that, beside its token and the token's head: a map of three, a nonce of 8 bytes
 /// and a recipient ID of one (RFC 9203 section 4.1).
@@ -31,8 +26,8 @@ fn direct_post(id: u16, token: &[u8; 8], body: &[u8]) -> Result<MessageBuilder, 
 {
     length_of_spelling();
     let mut post = MessageBuilder::start(Kind::Confirmable, POST, id, token);
-    post.option(URI_PATH, b"authz-info")?;
-    post.option(CONTENT_FORMAT, &[ACE_CBOR])?;
+    post.option(URI_PATH, AUTHZ_INFO_SEGMENT)?;
+    post.option(CONTENT_FORMAT, &[ACE_CBOR as u8])?;
     post.payload(body)?;
     Ok(post)
 }

@@ -8,15 +8,10 @@ ghost use Rattle.osc_client.specs.Route.{port_options, proxy_options, through as
 use crate::route::Origin;
 use osc_coap::laws::length_of_spelling;
 use osc_coap::{DatagramTooLong, Kind, MessageBuilder, PlaintextRef};
+use osc_model::limits::{DEFAULT_PORT, POST};
 use osc_options::laws::length_of_split;
 use osc_options::numbers::{PROXY_SCHEME, URI_HOST, URI_PORT};
 use osc_options::{plaintext_of, unprotected_message};
-
-/// The code of a POST.
-const POST: u8 = 0x02;
-
-/// The port of the scheme (RFC 7252 section 6.1).
-const SCHEME_PORT: u16 = 5683;
 
 /// Adds the Uri-Port option where the port isn't that of the scheme: a whole number without leading zero bytes (RFC 7252 section 3.2).
 fn add_port(message: &mut MessageBuilder, port: u16) -> Result<(), DatagramTooLong>
@@ -29,7 +24,7 @@ fn add_port(message: &mut MessageBuilder, port: u16) -> Result<(), DatagramTooLo
 {
     // For the proof alone: the call tells how long the message is.
     let _bytes = message.bytes();
-    if port == SCHEME_PORT {
+    if port == DEFAULT_PORT {
         Ok(())
     } else if port == 0 {
         message.option(URI_PORT, &[])

@@ -2,11 +2,9 @@
 ghost use Rattle.std.specs.Prelude.{◌≡◌, ◌↔◌, IfSome, IsSome};
 ghost use Rattle.osc_client.specs.Route.{IsHost};
 
+use osc_model::limits::LONGEST_HOST;
 use osc_model::{Bytes, Peer};
 use std::marker::Model;
-
-/// The most bytes of a Uri-Host option (RFC 7252 section 5.10, table 4).
-const LONGEST_HOST: usize = 255;
 
 /// The server behind a proxy: the host and the port by which the proxy knows it (RFC 7252 section 5.10.1).
 #[derive(Debug)]

@@ -1,5 +1,6 @@
 -- How many bytes the spelling of a message has (RFC 7252 section 3), and that of a plaintext (RFC 8613 section 5.3).
 use Rattle.std.specs.Prelude.{ℕ, ◌+◌, ◌-◌, List, [], ◌∷◌, length, Option, Some, None, nat_lt, if◌then◌else◌}
+pub use Rattle.osc_model.specs.{datagram_limit}
 use Rattle.osc_coap.specs.Message.{NumberAndValue, Message}
 use Rattle.osc_coap.specs.Plaintext.{Plaintext}
 
@@ -19,10 +20,6 @@ options_length before (option ∷ options) = option_length before option + optio
 abbrev pub payload_length : Option (List ℕ) → ℕ
 payload_length None = 0
 payload_length (Some bytes) = 1 + length bytes
-
--- the most bytes of a datagram that is built (RFC 7252 section 4.6)
-abbrev pub datagram_limit : ℕ
-datagram_limit = 1152
 
 abbrev pub spelled_length : Message → ℕ
 spelled_length m = 4 + length m.token + options_length 0 m.options + payload_length m.payload

@@ -10,9 +10,7 @@ use crate::error::DatagramTooLong;
 use crate::options::PAYLOAD_MARKER;
 use crate::payload::{PayloadWriter, write_last};
 use arrayvec::ArrayVec;
-
-/// The most bytes of a message (RFC 7252 section 4.6).
-pub const DATAGRAM_LIMIT: usize = 1152;
+use osc_model::limits::DATAGRAM_LIMIT;
 
 /// Nought bytes, as many as a datagram may have.
 static NOUGHT: [u8; DATAGRAM_LIMIT] = [0; DATAGRAM_LIMIT];

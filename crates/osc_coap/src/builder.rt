@@ -6,12 +6,13 @@ ghost use Rattle.osc_coap.specs.Message.{Message, Spells, spelling};
 ghost use Rattle.osc_coap.specs.Length.{datagram_limit};
 ghost use Rattle.osc_coap.specs.Building.{last_number, bare, with_option, with_payload};
 
-use crate::body::{DATAGRAM_LIMIT, Writer, append};
+use crate::body::{Writer, append};
 use crate::error::DatagramTooLong;
 use crate::kind::Kind;
 use crate::message::MessageRef;
 use crate::payload::PayloadWriter;
 use arrayvec::ArrayVec;
+use osc_model::limits::DATAGRAM_LIMIT;
 use std::fmt;
 use std::marker::Model;
 

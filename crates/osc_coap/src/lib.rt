@@ -15,7 +15,7 @@ mod payload;
 mod plaintext;
 mod written;
 
-pub use body::{DATAGRAM_LIMIT, option_length};
+pub use body::option_length;
 pub use builder::MessageBuilder;
 pub use code::{is_request_code, is_response_code};
 pub use error::{DatagramTooLong, ParseError};
@@ -23,6 +23,7 @@ pub use header::kind_and_id;
 pub use kind::Kind;
 pub use message::MessageRef;
 pub use options::{Options, PAYLOAD_MARKER};
+pub use osc_model::limits::DATAGRAM_LIMIT;
 pub use payload::PayloadWriter;
 pub use plaintext::{PlaintextBuilder, PlaintextRef};
 pub use written::{append_empty_option, append_payload, write_start};

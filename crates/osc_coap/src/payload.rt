@@ -3,8 +3,8 @@
 ghost use Rattle.std.specs.Prelude.{◌≡◌, ◌-◌, ◌≤◌, ◌++◌, ℕ, List, length, take};
 ghost use Rattle.arrayvec.specs.ArrayVec.{array_vec_len};
 
-use crate::body::DATAGRAM_LIMIT;
 use arrayvec::ArrayVec;
+use osc_model::limits::DATAGRAM_LIMIT;
 
 /// What writes a payload into the datagram itself, so that nothing is copied after the message. How many bytes it
 /// has is known before.

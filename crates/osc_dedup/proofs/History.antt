@@ -1,34 +1,37 @@
 -- The table that notes make, against all that was noted.
-use Rattle.std.proofs.Common.{◌≡◌, ℕ, ◌+◌, ◌-◌, ◌<◌, ◌≤◌, Bool, true, false, not, cond, ◌&&◌, List, [], ◌∷◌, ◌++◌, length, filter, take, drop, nat_eq, refl, sym, ap, ◌∙◌, ◌⊎◌, ◌↔◌, inl, inr, Option, Some, None, append_assoc, length-append, arith}
+use Rattle.std.proofs.Common.{◌≡◌, ℕ, ◌+◌, ◌-◌, ◌<◌, ◌≤◌, Bool, true, false, not, cond, ◌&&◌, List, [], ◌∷◌, ◌++◌, length, filter, take, drop, nat_eq, bytes_eq, refl, sym, ap, ◌∙◌, ◌⊎◌, ◌↔◌, inl, inr, Option, Some, None, append_assoc, length-append, arith}
 use Rattle.std.specs.List.{All, find}
 use Rattle.std.specs.Option.{option_map}
 use Rattle.std.specs.Cmp.Lexicographic.{same_text}
 use Rattle.std.proofs.lemmas.Bool.{ltb-true, lt-ltb, eqb-true, and_parts, not-true, not_from_false, and_from}
 use Rattle.std.proofs.lemmas.List.{take-append-drop, length-drop, drop-append-le}
 use Rattle.std.proofs.lemmas.List.Elements.{All-nil, All-cons, All-head, All-tail, All-weaker, All-drop, All-filter, filter_passes, filter-append, filter_agree}
+use Rattle.osc_model.specs.{same_peer}
 use Rattle.osc_model.specs.declared.node.Moment.{Moment}
 use Rattle.osc_model.specs.declared.node.Peer.{Peer}
 use Rattle.osc_dedup.specs.declared.table.Noted.{Noted}
-use Rattle.osc_dedup.specs.{Entry, is_of, is_alive, alive, staying, with_note, looked, Note, AreInOrder, table_of, unreplaced, IsThere, key_of}
+use Rattle.osc_dedup.specs.{Entry, is_of, is_alive, alive, staying, with_note, looked, Note, AreInOrder, table_of, unreplaced, IsThere}
 use Rattle.osc_dedup.proofs.Keys.{same_key_equiv}
 use Rattle.osc_dedup.proofs.Splits.{none_round, snoc_split, filter_split, find_split, find_at, filter_both, filter_swap}
 
 -- ---- which message an entry is of
 
 pub of_itself : (e : Entry) → is_of e.peer e.id e ≡ true
-of_itself e = same_key_equiv.refl (key_of e.peer e.id)
+of_itself e = same_key_equiv.refl (e.peer, e.id)
 
 pub of_each_other : (a b : Entry) → is_of a.peer a.id b ≡ is_of b.peer b.id a
-of_each_other a b = same_key_equiv.symm (key_of a.peer a.id) (key_of b.peer b.id)
+of_each_other a b = same_key_equiv.symm (a.peer, a.id) (b.peer, b.id)
 
 pub of_same : (peer : Peer) (id : ℕ) (e : Entry) → is_of peer id e ≡ true → e ≡ record { peer = peer; id = id; noted = e.noted }
 of_same peer id e same =
-    let parts = and_parts _ (nat_eq id e.id) same in
-    let inner = and_parts _ (nat_eq peer.port e.peer.port) parts.0 in
+    let parts = and_parts (same_peer peer e.peer) (nat_eq id e.id) same in
+    let inner = and_parts (bytes_eq peer.address e.peer.address) (nat_eq peer.scope e.peer.scope && nat_eq peer.port e.peer.port) parts.0 in
+    let numbers = and_parts (nat_eq peer.scope e.peer.scope) (nat_eq peer.port e.peer.port) inner.1 in
     let ids : id ≡ e.id = eqb-true id e.id parts.1 in
-    let ports : peer.port ≡ e.peer.port = eqb-true peer.port e.peer.port inner.1 in
+    let scopes : peer.scope ≡ e.peer.scope = eqb-true peer.scope e.peer.scope numbers.0 in
+    let ports : peer.port ≡ e.peer.port = eqb-true peer.port e.peer.port numbers.1 in
     let addresses : peer.address ≡ e.peer.address = same_text peer.address e.peer.address (sym inner.0) in
-    λ i. record { peer = record { address = sym addresses i; port = sym ports i }; id = sym ids i; noted = e.noted }
+    λ i. record { peer = record { address = sym addresses i; scope = sym scopes i; port = sym ports i }; id = sym ids i; noted = e.noted }
 
 -- ---- where an entry is
 

@@ -11,7 +11,7 @@ use Rattle.std.proofs.lemmas.List.Sums.{length-filter, count_by-le-length}
 use Rattle.osc_model.specs.declared.node.Moment.{Moment}
 use Rattle.osc_model.specs.declared.node.Peer.{Peer}
 use Rattle.osc_dedup.specs.declared.table.Noted.{Noted}
-use Rattle.osc_dedup.specs.{Entry, is_of, is_alive, alive, staying, with_note, looked, Key, key_of, same_key, entry_of, entries_of, stays, while_alive}
+use Rattle.osc_dedup.specs.{Entry, is_of, is_alive, alive, staying, with_note, looked, Key, same_key, entry_of, entries_of, stays, while_alive}
 
 -- two keys are the same or are not
 pub same_key_equiv : IsEquivalence same_key
@@ -65,14 +65,14 @@ filter_entries test (e ∷ es) = by (test (entry_of e)) (filter_entries test es)
     by true up = ap (λ xs. entry_of e ∷ xs) up
     by false up = up
 
-pub staying_keys : (now : Moment) (peer : Peer) (id : ℕ) (es : List (Key × Noted)) → staying now peer id (entries_of es) ≡ entries_of (filter (stays now (Some (key_of peer id))) es)
+pub staying_keys : (now : Moment) (peer : Peer) (id : ℕ) (es : List (Key × Noted)) → staying now peer id (entries_of es) ≡ entries_of (filter (stays now (Some (peer, id))) es)
 staying_keys now peer id es = filter_entries (λ entry. is_alive now entry && not (is_of peer id entry)) es
 
 pub noted_keys : (now : Moment) (peer : Peer) (id : ℕ) (noted : Noted) (es ys : List (Key × Noted))
-    → ys ≡ drop (count_by (stays now (Some (key_of peer id))) es - 63) (filter (stays now (Some (key_of peer id))) es)
-    → entries_of (ys ++ (key_of peer id, noted) ∷ []) ≡ with_note now peer id noted (entries_of es)
+    → ys ≡ drop (count_by (stays now (Some (peer, id))) es - 63) (filter (stays now (Some (peer, id))) es)
+    → entries_of (ys ++ ((peer, id), noted) ∷ []) ≡ with_note now peer id noted (entries_of es)
 noted_keys now peer id noted es ys moved =
-    let test = stays now (Some (key_of peer id)) in
+    let test = stays now (Some (peer, id)) in
     let long : length (staying now peer id (entries_of es)) ≡ count_by test es =
     ap length (staying_keys now peer id es) ∙ length-map (filter test es) entry_of ∙ length-filter test es in
     let over : length (staying now peer id (entries_of es)) + 1 - 64 ≡ count_by test es - 63 = omega (arith, long) in
@@ -80,7 +80,7 @@ noted_keys now peer id noted es ys moved =
     ap entries_of moved ∙ sym (drop-map entry_of (count_by test es - 63) (filter test es))
     ∙ ap (λ n. drop n (entries_of (filter test es))) (sym over)
     ∙ ap (drop (length (staying now peer id (entries_of es)) + 1 - 64)) (sym (staying_keys now peer id es)) in
-    map-append entry_of ys ((key_of peer id, noted) ∷ []) ∙ ap (λ xs. xs ++ (record { peer = peer; id = id; noted = noted }) ∷ []) kept
+    map-append entry_of ys (((peer, id), noted) ∷ []) ∙ ap (λ xs. xs ++ (record { peer = peer; id = id; noted = noted }) ∷ []) kept
 
 pub alive_keys : (now : Moment) (es ys : List (Key × Noted)) → length es ≤ 64 → ys ≡ drop (count_by (stays now None) es - 64) (filter (stays now None) es) → entries_of ys ≡ alive now (entries_of es)
 alive_keys now es ys few moved =
@@ -93,7 +93,7 @@ alive_keys now es ys few moved =
     and_true false = refl
 
 -- a key that is not there
-find_absent : (peer : Peer) (id : ℕ) (now : Moment) (es : List (Key × Noted)) → AllByRecursion (λ k. same_key (key_of peer id) k ≡ false) (keys_of es)
+find_absent : (peer : Peer) (id : ℕ) (now : Moment) (es : List (Key × Noted)) → AllByRecursion (λ k. same_key (peer, id) k ≡ false) (keys_of es)
     → find (is_of peer id) (alive now (entries_of es)) ≡ None
 find_absent peer id now [] others = refl
 find_absent peer id now (e ∷ es) others = by (is_alive now (entry_of e)) (find_absent peer id now es others.1)
@@ -104,17 +104,17 @@ find_absent peer id now (e ∷ es) others = by (is_alive now (entry_of e)) (find
     by false up = up
 
 pub looked_keys : (now : Moment) (peer : Peer) (id : ℕ) (es : List (Key × Noted)) → IsDistinct same_key (keys_of es)
-    → looked now peer id (entries_of es) ≡ while_alive now (lookup (same_key (key_of peer id)) es)
+    → looked now peer id (entries_of es) ≡ while_alive now (lookup (same_key (peer, id)) es)
 unfolding IsDistinct
 looked_keys now peer id [] apart = refl
-looked_keys now peer id (e ∷ es) apart = by (same_key (key_of peer id) e.0) (is_alive now (entry_of e)) refl refl (looked_keys now peer id es apart.1)
+looked_keys now peer id (e ∷ es) apart = by (same_key (peer, id) e.0) (is_alive now (entry_of e)) refl refl (looked_keys now peer id es apart.1)
   where
-    absent : same_key (key_of peer id) e.0 ≡ true → find (is_of peer id) (alive now (entries_of es)) ≡ None
-    absent same = find_absent peer id now es (same_others (key_of peer id) e.0 same (keys_of es) apart.0)
+    absent : same_key (peer, id) e.0 ≡ true → find (is_of peer id) (alive now (entries_of es)) ≡ None
+    absent same = find_absent peer id now es (same_others (peer, id) e.0 same (keys_of es) apart.0)
 
-    by : (b l : Bool) → same_key (key_of peer id) e.0 ≡ b → is_alive now (entry_of e) ≡ l → looked now peer id (entries_of es) ≡ while_alive now (lookup (same_key (key_of peer id)) es)
+    by : (b l : Bool) → same_key (peer, id) e.0 ≡ b → is_alive now (entry_of e) ≡ l → looked now peer id (entries_of es) ≡ while_alive now (lookup (same_key (peer, id)) es)
         → option_map (λ entry. entry.noted) (find (is_of peer id) (cond l (entry_of e ∷ alive now (entries_of es)) (alive now (entries_of es))))
-        ≡ while_alive now (cond b (Some e.1) (lookup (same_key (key_of peer id)) es))
+        ≡ while_alive now (cond b (Some e.1) (lookup (same_key (peer, id)) es))
     by true true same lives up = rw (same, lives) refl
     by true false same dead up = rw dead (ap (option_map (λ entry. entry.noted)) (absent same))
     by false true other lives up = rw other up

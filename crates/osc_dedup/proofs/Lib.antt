@@ -1,4 +1,5 @@
 pub mod Distinct
+pub mod Found
 pub mod History
 pub mod Keys
 pub mod Places

@@ -1,5 +1,6 @@
 -- The table by keys, for the proofs: no public contract names it.
-use Rattle.std.specs.Prelude.{ℕ, ◌≡◌, ◌<◌, ◌≤◌, ◌+◌, ◌-◌, take, drop, filter, length, count_by, Bool, true, ◌&&◌, not, nat_eq, nat_lt, bytes_eq, List, map, Option, Some, None, if◌then◌else◌}
+use Rattle.std.specs.Prelude.{ℕ, ◌≡◌, ◌<◌, ◌≤◌, ◌+◌, ◌-◌, take, drop, filter, length, count_by, Bool, true, ◌&&◌, not, nat_eq, nat_lt, List, map, Option, Some, None, if◌then◌else◌}
+use Rattle.osc_model.specs.{same_peer}
 use Rattle.osc_model.specs.declared.node.Moment.{Moment}
 use Rattle.osc_model.specs.declared.node.Peer.{Peer}
 use Rattle.osc_dedup.specs.declared.table.Noted.{Noted}
@@ -7,18 +8,15 @@ use Rattle.std.specs.List.{AllByRecursion}
 use Rattle.std.specs.Map.{lookup}
 use Rattle.osc_dedup.specs.Table.{Entry, most_entries}
 
--- an address, a port and a message ID
+-- a peer and a message ID
 abbrev pub Key : Type 0
-Key = List ℕ × ℕ × ℕ
-
-abbrev pub key_of : Peer → ℕ → Key
-key_of peer id = (peer.address, peer.port, id)
+Key = Peer × ℕ
 
 abbrev pub same_key : Key → Key → Bool
-same_key first second = (bytes_eq first.0 second.0 && nat_eq first.1 second.1) && nat_eq first.2 second.2
+same_key first second = same_peer first.0 second.0 && nat_eq first.1 second.1
 
 abbrev pub entry_of : Key × Noted → Entry
-entry_of e = record { peer = record { address = e.0.0; port = e.0.1 }; id = e.0.2; noted = e.1 }
+entry_of e = record { peer = e.0.0; id = e.0.1; noted = e.1 }
 
 abbrev pub entries_of : List (Key × Noted) → List Entry
 entries_of es = map entry_of es

@@ -1,6 +1,7 @@
 -- The messages that were noted lately, the oldest first (RFC 7252 sections 4.2, 4.5 and 4.8.2).
-use Rattle.std.specs.Prelude.{ℕ, ◌+◌, ◌-◌, Bool, ◌&&◌, not, nat_eq, nat_lt, bytes_eq, List, [], ◌∷◌, ◌++◌, length, filter, drop, find, Option}
+use Rattle.std.specs.Prelude.{ℕ, ◌+◌, ◌-◌, Bool, ◌&&◌, not, nat_eq, nat_lt, List, [], ◌∷◌, ◌++◌, length, filter, drop, find, Option}
 use Rattle.std.specs.Option.{option_map}
+use Rattle.osc_model.specs.{same_peer}
 use Rattle.osc_model.specs.declared.node.Moment.{Moment}
 use Rattle.osc_model.specs.declared.node.Peer.{Peer}
 use Rattle.osc_dedup.specs.declared.table.Noted.{Noted}
@@ -15,9 +16,9 @@ pub record Entry : Type 0 where
   pub id : ℕ
   pub noted : Noted
 
--- whether the entry is of this message: the same address, port and message ID
+-- whether the entry is of this message: the same peer and message ID
 abbrev pub is_of : Peer → ℕ → Entry → Bool
-is_of peer id entry = (bytes_eq peer.address entry.peer.address && nat_eq peer.port entry.peer.port) && nat_eq id entry.id
+is_of peer id entry = same_peer peer entry.peer && nat_eq id entry.id
 
 -- an entry lives before its end
 abbrev pub is_alive : Moment → Entry → Bool

@@ -8,7 +8,7 @@ ghost use Rattle.std.specs.Map.{keys_of};
 ghost use Rattle.std.specs.Option.{option_copied};
 ghost use Rattle.indexmap.specs.IndexMap.{get, spare, with_value_at, IsUnique};
 ghost use Rattle.osc_dedup.specs.Table.{alive, looked, with_note, most_entries};
-ghost use Rattle.osc_dedup.specs.Keys.{key_of as named, same_key, is_other as other_of, stays as stays_of, while_alive as living, nothing, most_keys, others, AllLiveUntil, AreGone, IsReady};
+ghost use Rattle.osc_dedup.specs.Keys.{same_key, is_other as other_of, stays as stays_of, while_alive as living, nothing, most_keys, others, AllLiveUntil, AreGone, IsReady};
 
 use indexmap::IndexMap;
 use osc_model::{Bytes, Moment, Peer};
@@ -17,13 +17,13 @@ use std::marker::Model;
 use std::mem;
 
 /// How many entries a table has at most.
-const MOST: usize = 64;
+const MOST_NOTES: usize = 64;
 
 /// How many entries and keys of entries that went each map has room for.
-const ROOM: usize = 2 * MOST;
+const ROOM: usize = 2 * MOST_NOTES;
 
-/// An address, a port and a message ID.
-type Key = ([u8; 4], u16, u16);
+/// A peer and a message ID.
+type Key = (Peer, u16);
 
 /// What is noted of a message.
 #[derive(Clone, Debug, PartialEq, Eq, Drop)]
@@ -32,13 +32,6 @@ pub struct Noted {
     pub until: u64,
     /// The bytes that answered the message, or none where nothing was sent.
     pub reply: Option<Bytes>,
-}
-
-fn key_of(peer: Peer, id: u16) -> Key
-    ensures { result ≡ named peer id }
-{
-    let address = peer.address;
-    (address, peer.port, id)
 }
 
 /// Whether a key isn't the one that is replaced.
@@ -150,7 +143,7 @@ fn make_place(table: &mut IndexMap<Key, Noted>, gone: usize) -> usize
     ensures keys { keys_of table.new.entries ≡ keys_of table.old.entries }
     ensures room { spare table.new ≡ spare table.old }
 {
-    if table.len() - gone < MOST {
+    if table.len() - gone < MOST_NOTES {
         return gone;
     }
     let_go(table, gone);
@@ -216,7 +209,7 @@ fn make_ready(
     if all_stay(kept, live_until, now, key) {
         (make_place(kept, gone), live_until)
     } else {
-        (0, renew(kept, other, now, Some(key), MOST - 1))
+        (0, renew(kept, other, now, Some(key), MOST_NOTES - 1))
     }
 }
 
@@ -269,7 +262,7 @@ impl Duplicates {
     pub fn look(&self, now: Moment, peer: Peer, id: u16) -> Option<&Noted>
         ensures { option_copied result ≡ looked now peer id self.now }
     {
-        while_alive(now, self.kept.get(&key_of(peer, id)))
+        while_alive(now, self.kept.get(&(peer, id)))
     }
 
     /// Notes a message, in the place of what was noted of it before. The dead go, and the oldest where 64 others
@@ -277,7 +270,7 @@ impl Duplicates {
     pub fn note(&mut self, now: Moment, peer: Peer, id: u16, noted: Noted)
         ensures { self.new ≡ with_note now peer id noted self.old }
     {
-        let key = key_of(peer, id);
+        let key = (peer, id);
         let (gone, live_until) = make_ready(
             &mut self.kept,
             &mut self.other,
@@ -296,7 +289,7 @@ impl Duplicates {
         ensures { self.new ≡ alive now self.old }
     {
         if self.live_until <= now.ms {
-            self.live_until = renew(&mut self.kept, &mut self.other, now, None, MOST);
+            self.live_until = renew(&mut self.kept, &mut self.other, now, None, MOST_NOTES);
             self.gone = 0;
         }
     }

@@ -39,8 +39,8 @@ abbrev IsStraight : Client → Type 0
 IsStraight client = (client.origin ≡ None) × (client.next_hop ≡ server_address) × PostFits client
 
 ticked_by : (over : Bool) (old : Client) (now : Moment) (step : Step) (new : Client) → TicksBy over old now step new → IsStraight old → IsStraight new
-ticked_by false old now step new it straight = subst IsStraight (sym it.3) straight
-ticked_by true old now step new it straight = subst IsStraight (sym it.3) straight
+ticked_by false old now step new it straight = subst IsStraight (sym it.2) straight
+ticked_by true old now step new it straight = subst IsStraight (sym it.2) straight
 
 pub ticked_straight : (old : Client) (now : Moment) (step : Step) (new : Client) → Ticks old now step new → IsStraight old → IsStraight new
 ticked_straight old now step new it straight = ticked_by (is_over now old.endpoint.sending old.waiting) old now step new it.ticks straight

@@ -1,6 +1,6 @@
 -- The runs that a device is in go on with what it does.
 use Rattle.std.proofs.Common.{◌≡◌, ◌∙◌, ap, sym, refl, subst, ℕ, false, List, [], ◌∷◌, ◌++◌, Option, Some, Result, Ok, Err}
-use Rattle.std.specs.Prelude.{IfOk}
+use Rattle.std.specs.Prelude.{IfOk, OnErr}
 use Rattle.std.specs.declared.alloc.AllocError.{AllocError}
 use Rattle.std.specs.Prelude.{slice_get, slice_set}
 use Rattle.std.proofs.lemmas.List.{append_assoc}
@@ -14,11 +14,11 @@ use Rattle.osc_model.specs.declared.step.Step.{Step}
 use Rattle.osc_ccm.specs.{Sealings}
 use Rattle.osc_client.specs.{core as client_core}
 use Rattle.osc_client.specs.State.{State as Client}
-use Rattle.osc_server.specs.{core as server_core, Hears as ServerHears, IsStep as IsServerStep}
+use Rattle.osc_server.specs.{core as server_core, Hears as ServerHears}
 use Rattle.osc_server.specs.State.{State as Server}
-use Rattle.osc_run.specs.{ClientStep, Came, ServerStep, Noted, by_client, by_server, IsReached, WorldStep, ClientState, ServerState, WorldState}
+use Rattle.osc_run.specs.{ClientStep, ServerStep, Noted, by_client, by_server, IsReached, WorldStep, ClientState, ServerState, WorldState}
 use Rattle.osc_run.specs.Runs as run
-use Rattle.osc_device.specs.{Carries, ComesBack, Reaches, at_server, AllGoOn, GoesOn, IsIn, noted, of_own, of_server}
+use Rattle.osc_device.specs.{Carries, ComesBack, HandsOut, HasHeard, Reaches, ServerTakesMemory, at_server, AllGoOn, GoesOn, IsIn, noted, of_own, of_server}
 use Rattle.osc_device.specs.State.{State}
 use Rattle.osc_device.specs.declared.round.Round.{Round}
 use Rattle.osc_device.proofs.Carried.{desk_kept}
@@ -158,18 +158,17 @@ abbrev HeardLaw : Type 0
 HeardLaw = (old new : State) (now : Moment) (notes : StepNotes)
     → ServerStep (server_core old.server) now notes (server_core new.server) → new.own ≡ old.own → AllGoOn old (λ number. by_server notes ∷ []) new
 
-pub heard_by_all : HeardLaw → (old : State) (inside new : Server) (own : Client) (now : Moment) (result : Result Step AllocError)
-    → device inside own ≡ old → IfOk result (λ step. ServerStep (server_core inside) now step.notes (server_core new))
-    → IfOk result (λ step. AllGoOn old (λ number. by_server step.notes ∷ []) (device new own))
-heard_by_all law old inside new own now (Ok step) is kind =
-    subst (λ (o : State). AllGoOn o (λ number. by_server step.notes ∷ []) (device new own)) is (law (device inside own) (device new own) now step.notes kind refl)
-heard_by_all law old inside new own now (Err error) is kind = tt
-
--- what a server did is a step
-pub stepped : (is_sealing : Sealings) (old : State) (inside new : Server) (own : Client) (came : Arrival (List ℕ)) (result : Result Step AllocError)
+-- what its server did is a step, and a part of each run
+pub heard : (is_sealing : Sealings) → HeardLaw → (old : State) (inside new : Server) (own : Client) (came : Arrival (List ℕ)) (result : Result Step AllocError)
     → device inside own ≡ old → IfOk result (λ step. ServerHears is_sealing inside came step new)
     → IfOk result (λ step. ServerStep (server_core inside) came.at step.notes (server_core new))
-    → IfOk result (λ step. IsServerStep is_sealing old.server (Came came) step new)
-stepped is_sealing old inside new own came (Ok step) is hears kind =
-    subst (λ (o : State). IsServerStep is_sealing o.server (Came came) step new) is (record { makes = hears; kind = kind })
-stepped is_sealing old inside new own came (Err error) is hears kind = tt
+    → OnErr result (new ≡ inside) → OnErr result (ServerTakesMemory inside came)
+    → HandsOut {E = AllocError} (HasHeard is_sealing old came) (ServerTakesMemory old.server came) old result (device new own)
+heard is_sealing law old inside new own came (Ok step) is hears kind err needs_memory =
+    subst (λ (o : State). HandsOut {E = AllocError} (HasHeard is_sealing o came) (ServerTakesMemory o.server came) o (Ok step) (device new own)) is (
+      record { made = record { makes = hears; kind = kind }; own = refl; run = law (device inside own) (device new own) came.at step.notes kind refl },
+      tt,
+    )
+heard is_sealing law old inside new own came (Err error) is hears kind err needs_memory =
+    subst (λ (o : State). HandsOut {E = AllocError} (HasHeard is_sealing o came) (ServerTakesMemory o.server came) o (Err error) (device new own)) is
+    (tt, (ap (λ (s : Server). device s own) err, needs_memory))

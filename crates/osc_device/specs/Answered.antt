@@ -15,7 +15,7 @@ use Rattle.osc_message.specs.{own_id}
 use Rattle.osc_scope.specs.{Entry}
 use Rattle.osc_token.specs.declared.claims.Claims.{Claims}
 use Rattle.osc_ccm.specs.{Sealings}
-use Rattle.osc_authz.specs.{ClientContextState}
+use Rattle.osc_authz.specs.{ClientContextState, holder_at}
 use Rattle.osc_authz.specs.SecurityContext.{SecurityContext}
 use Rattle.osc_client.specs.{Asked, begun_by}
 use Rattle.osc_run.specs.{Replies as AppliesTo}
@@ -45,7 +45,7 @@ pub record IsAnswered (old : State) (asked : Asked) (held : SecurityContext) (nu
   pub applied : AppliesTo old.server.tree (apply_read old.server.desk.rules.revoked old.server.tree held.scope (read_request (asked_text old.own asked.draw asked.request))) reply new.server.tree
   pub second : Step
   pub served : round.served ≡ Some second
-  pub entry : second.notes ≡ notes_of_request asked.at held number (asked_text old.own asked.draw asked.request) reply
+  pub entry : second.notes ≡ notes_of_request asked.at held (holder_at held.name.client_id old.server.desk.table) number (asked_text old.own asked.draw asked.request) reply
   pub third : Step
   pub learnt : round.learnt ≡ Some third
   pub told : third.notes.result ≡ Some (result.Answer reply)

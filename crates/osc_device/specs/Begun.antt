@@ -7,7 +7,7 @@ use Rattle.osc_client.specs.{PostIsTooLong}
 use Rattle.osc_cose.specs.{object_item}
 use Rattle.osc_model.specs.declared.algorithm.Algorithm.TheVariants.{EightByteTag}
 use Rattle.osc_ccm.specs.{Sealings}
-use Rattle.osc_model.specs.{has_subtrees}
+use Rattle.osc_model.specs.{has_subtrees, remembered_posts}
 use Rattle.osc_scope.specs.{Entry, IsScope, scope_of}
 use Rattle.osc_token.specs.{HasLawfulParts, claims_item, token_object}
 use Rattle.osc_token.specs.declared.claims.Claims.{Claims}
@@ -39,10 +39,6 @@ own_holder parts own = record {
   claims = own_claims parts own;
   iv = own.iv;
 }
-
--- how many posts of each token id its server knows again
-abbrev pub remembered_posts : ℕ
-remembered_posts = 8
 
 -- the server alone, which keeps a place for the tokens of this id, the device's own
 abbrev pub server_alone : ServerParts → List ℕ → Beginning

@@ -16,6 +16,7 @@ use Rattle.osc_client.specs.State.{State as Client}
 use Rattle.osc_server.specs.{IsAnswered, IsStep as IsServerStep}
 use Rattle.osc_server.specs.State.{State as Server}
 use Rattle.osc_device.specs.State.{State, own_address, server_address}
+use Rattle.osc_device.specs.declared.draws.OwnDraws.{OwnDraws}
 use Rattle.osc_device.specs.declared.round.Round.{Round}
 
 -- a node stays as it is, and makes no step
@@ -52,6 +53,10 @@ pub record AskedOfServer : Type 0 where
   pub draw : Draw
   pub server_draw : Draw
   pub request : Request
+
+-- it asks so at this moment, with these draws
+abbrev pub asked_at : Moment → OwnDraws → Request → AskedOfServer
+asked_at now draws request = record { at = now; draw = draws.own; server_draw = draws.server; request = request }
 
 -- the same, as a client asks it
 abbrev pub asked_by : AskedOfServer → Asked

@@ -1,5 +1,6 @@
 -- A device: a server, and the device itself as a client of it.
 use Rattle.std.specs.Prelude.{[], ◌∷◌}
+use Rattle.osc_model.specs.{v4_peer}
 use Rattle.osc_model.specs.declared.node.Peer.{Peer}
 use Rattle.osc_client.specs.State.{State as Client}
 use Rattle.osc_server.specs.State.{State as Server}
@@ -10,7 +11,7 @@ pub record State : Type 0 where
 
 -- the address of each of the two for the other: no datagram goes there on a network
 abbrev pub own_address : Peer
-own_address = record { address = 0 ∷ 0 ∷ 0 ∷ 0 ∷ []; port = 0 }
+own_address = v4_peer (0 ∷ 0 ∷ 0 ∷ 0 ∷ []) 0
 
 abbrev pub server_address : Peer
-server_address = record { address = 0 ∷ 0 ∷ 0 ∷ 0 ∷ []; port = 1 }
+server_address = v4_peer (0 ∷ 0 ∷ 0 ∷ 0 ∷ []) 1

@@ -11,7 +11,6 @@ use Rattle.osc_model.specs.declared.step.Datagram.{Datagram}
 use Rattle.osc_model.specs.declared.step.Entry.{Entry}
 use Rattle.osc_model.specs.declared.step.RefusedRequest.{RefusedRequest}
 use Rattle.osc_model.specs.declared.step.Step.{Step}
-use Rattle.osc_options.specs.{read_request}
 
 -- ---- a protected request that was served
 
@@ -49,13 +48,13 @@ abbrev pub served_as : Holder → ℕ → Option Request → Reply → ServedReq
 served_as by number request reply =
     record { by = by; number = number; method = method_asked request; path = path_asked request; payload = payload_asked request; reply = reply }
 
--- the request that a text is, if it is one
+-- the request that a text was read as, if it is one
 abbrev pub request_in : Result Request Code → Option Request
 request_in (Ok request) = Some request
 request_in (Err code) = None
 
 abbrev pub served_by : Entry → ServedRequest
-served_by entry = served_as (holder_of entry) entry.number (request_in (read_request entry.plaintext)) entry.reply
+served_by entry = served_as (holder_of entry) entry.number (request_in entry.request) entry.reply
 
 abbrev pub served_in : StepNotes → Option ServedRequest
 served_in notes = option_map served_by notes.served

@@ -13,6 +13,7 @@ use crate::own_token::{OwnToken, ServerParts};
 use osc_authz::ContextRules;
 use osc_ccm::Ciphers;
 use osc_client::{Client, Route};
+use osc_model::limits::REMEMBERED_POSTS;
 use osc_model::{Algorithm, Bytes, Peer};
 use osc_scope::{Scope, ScopeError};
 use osc_server::Server;
@@ -22,18 +23,17 @@ use std::alloc::{AllocError, Global};
 
 /// The address of the device, for its server.
 pub(crate) const OWN: Peer = Peer {
-    address: [0, 0, 0, 0],
+    address: [0, 0, 0, 0, 0, 0, 0, 0, 0, 0, 0xff, 0xff, 0, 0, 0, 0],
+    scope: 0,
     port: 0,
 };
 
 /// The address of the server, for the device.
 pub(crate) const SERVER: Peer = Peer {
-    address: [0, 0, 0, 0],
+    address: [0, 0, 0, 0, 0, 0, 0, 0, 0, 0, 0xff, 0xff, 0, 0, 0, 0],
+    scope: 0,
     port: 1,
 };
-
-/// How many posts of each token id the server knows again.
-const REMEMBERED: u8 = 8;
 
 /// Whether the scope of this token reaches below its paths where the server refuses that. Bytes that are no scope don't.
 pub(crate) fn reaches_too_far(
@@ -76,7 +76,7 @@ pub(crate) fn server_alone(alloc: Global, parts: ServerParts, own: Bytes) -> Sta
     start.rule_contexts(ContextRules {
         revoked,
         seconds: context_seconds,
-        remembered: REMEMBERED,
+        remembered: REMEMBERED_POSTS,
         reserved: Some(own),
         subtrees,
     });

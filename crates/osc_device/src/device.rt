@@ -1,32 +1,26 @@
 //! The device.
-ghost use Rattle.std.specs.Prelude.{◌≡◌, ◌≢◌, ◌∷◌, ◌<◌, ◌≤◌, ◌↔◌, ℕ, true, false, [], List, None, Some, length, IfErr, IfNone, IfOk, IfSome, IsSome, OnErr};
+ghost use Rattle.std.specs.Prelude.{◌≡◌, ◌≤◌, ◌↔◌, true, false, [], List, None, Some, length, IfErr, IfNone, IfOk, IfSome, IsSome};
 ghost use Rattle.std.specs.FinMap as map;
-ghost use Rattle.osc_model.specs.Refusals as refusal;
 ghost use Rattle.osc_scope.specs.{Entry, IsScope};
-ghost use Rattle.osc_token.specs.declared.claims.Claims.{Claims as AnyClaims};
-ghost use Rattle.osc_client.specs.{Begins, IsFree, PostFits, acts_at, restarted, core as own_core, IsStep as IsOwnStep};
-ghost use Rattle.osc_client.specs.State.{State as Own};
-ghost use Rattle.osc_run.specs.{ClientStep, Came, Due, by_server, ServerStep};
-ghost use Rattle.osc_server.specs.{core, IsStep, again};
-ghost use Rattle.osc_model.specs.{is_revoked, quiet, revocation_of, stands};
-ghost use Rattle.osc_model.specs.declared.node.Draw.{Draw as AnyDraw};
+ghost use Rattle.osc_client.specs.{PostFits, acts_at, restarted, core as own_core};
+ghost use Rattle.osc_run.specs.{ClientStep, ServerStep};
+ghost use Rattle.osc_server.specs.{core, again};
+ghost use Rattle.osc_model.specs.{quiet, stands};
 ghost use Rattle.osc_model.specs.declared.node.Moment.{Moment as AnyMoment};
-ghost use Rattle.osc_message.specs.{after_tick, fresh};
-ghost use Rattle.osc_authz.specs.{ClientContextState, KeepsPlace};
-ghost use Rattle.osc_authz.specs.SecurityContext.{SecurityContext};
+ghost use Rattle.osc_authz.specs.{KeepsPlace};
 ghost use Rattle.osc_rounds.specs.{IsLawfulServer};
-ghost use Rattle.osc_model.specs.declared.step.ClientResult.TheVariants as result_of;
-ghost use Rattle.osc_model.specs.declared.code.Method.TheVariants.{Delete, Get, Post, Put};
-ghost use Rattle.osc_device.specs.Answered.{IsAnsweredWhereReady, IsOpen, IsWhole, MayOpen, MayReturn, own_request as own_request_of};
+ghost use Rattle.osc_device.specs.Answered.{own_request as own_request_of};
 ghost use Rattle.osc_device.specs.Begun.{IsBegun, IsGranted, IsNoDevice, own_claims};
-ghost use Rattle.osc_device.specs.Carrying.{AsksItsServer, Carries, ComesBack, Reaches, ServerTakesMemory, at_server};
-ghost use Rattle.osc_device.specs.Runs.{AllGoOn, IsOfAnEntry, noted, restarts};
+ghost use Rattle.osc_device.specs.Calls.{HandsOut, HasRuled, HasTicked};
+ghost use Rattle.osc_device.specs.Carrying.{Carries, ComesBack, Reaches, asked_at, at_server};
+ghost use Rattle.osc_device.specs.Runs.{AllGoOn, restarts};
 ghost use Rattle.osc_device.specs.Ruling.{method_of};
 ghost use Rattle.osc_device.specs.State.{server_address};
 
 use crate::beginning::{
     OWN, SERVER, enrolled, fits, nodes_of, own_holder, reaches_too_far, server_alone,
 };
+use crate::calls::{DeviceCalls, nothing, own_request};
 use crate::draws::OwnDraws;
 use crate::error::NewError;
 use crate::laws::{
@@ -38,16 +32,14 @@ use crate::round::Round;
 use crate::ruling::{Ruled, Ruling};
 use osc_ccm::Ciphers;
 use osc_client::Client;
-use osc_model::{Bytes, Draw, ETags, Method, Moment, Path, Peer, Request, Resource, Step};
+use osc_model::limits::LONGEST_ID;
+use osc_model::{Draw, Moment, Path, Peer, Request, Step};
 use osc_server::Server;
 use osc_tree::Tree;
 use osc_world::Placed;
 use osc_world::laws::where_a_world_begins;
 use std::alloc::{AllocError, Global};
 use std::marker::Model;
-
-/// The most bytes that a token's id may have (RFC 9203 section 3.2.1 leaves it open; a server takes no longer one).
-const LONGEST_ID: usize = 64;
 
 /// A server, and the device itself as a client of it.
 pub struct Device {
@@ -75,33 +67,6 @@ impl Model for Device {
     ghost view = { λ d. record { server = d.server; own = d.own.node } };
 
     ghost invariant = { λ d. (d.own.node.origin ≡ None) × (d.own.node.next_hop ≡ server_address) × PostFits d.own.node };
-}
-
-/// No bytes, without a format.
-pub(crate) fn nothing(alloc: Global) -> Resource
-    ensures { result ≡ record { format = None; payload = [] } }
-{
-    Resource {
-        format: None,
-        payload: Bytes::new(alloc),
-    }
-}
-
-/// A request of this method on this path, with this payload and its format, and no other option.
-pub(crate) fn own_request(alloc: Global, method: Method, path: Path, resource: Resource) -> Request
-    ensures request { result ≡ own_request_of method path resource.format resource.payload }
-    ensures code { 0 < result.code.0 }
-{
-    let Resource { format, payload } = resource;
-    Request {
-        code: method.code(),
-        path: Some(path),
-        format,
-        accept: None,
-        if_match: ETags::new(alloc),
-        if_none_match: false,
-        payload,
-    }
 }
 
 /// Whether a resource is at this path, if there is one.
@@ -144,14 +109,14 @@ fn is_drawn(draw: &Draw)
 }
 
 impl Device {
-    /// A device whose server has these parts, and which holds this token, minted under the server's key. It has no context yet: [`Device::open`]
+    /// A device whose server has these parts, and which holds this token, minted under the server's key. It has no context yet: [`DeviceCalls::open`]
     /// makes one.
     ///
     /// # Errors
     ///
     /// The first that applies: `Id` where the token's id has more than 64 bytes, `Subtrees` where its scope reaches below its paths and the server
     /// refuses that, `Token` where its scope is none, its claims have more than
-    /// 65535 bytes, or its secret doesn't have 1 to 64, and `TooLong` where its post, which [`Device::open`] sends, would be longer than a datagram
+    /// 65535 bytes, or its secret doesn't have 1 to 64, and `TooLong` where its post, which [`DeviceCalls::open`] sends, would be longer than a datagram
     /// may be: 1152 bytes; or `Token` for lack of memory, whatever they are.
     pub fn new<A: Ciphers>(
         alloc: Global,
@@ -202,37 +167,11 @@ impl Device {
         &self.own.node
     }
 
-    /// These bytes came from this peer at this moment as one datagram: the server's step that answers them, as
-    /// [`Server::on_datagram`] says. The device itself isn't changed by it.
-    pub fn on_datagram<A: Ciphers>(
-        &mut self,
-        alloc: Global,
-        now: Moment,
-        from: Peer,
-        bytes: &[u8],
-        draw: &Draw,
-    ) -> Result<Step, AllocError>
-        ensures step { IfOk result (λ step.
-            IsStep A.is_sealing self.old.server (Came (record { at = now; from = from; draw = draw.now; what = bytes.now })) step self.new.server) }
-        ensures own { self.new.own ≡ self.old.own }
-        ensures run { IfOk result (λ step. AllGoOn self.old (λ number. by_server step.notes ∷ []) self.new) }
-        ensures err { OnErr result (self.new ≡ self.old) }
-        // What isn't answered takes no memory.
-        ensures needs_memory { OnErr result (ServerTakesMemory self.old.server (record { at = now; from = from; draw = draw.now; what = bytes.now })) }
-    {
-        runs_go_on_alone();
-        self.server.on_datagram::<A>(alloc, now, from, bytes, draw)
-    }
-
     /// The time has come for what is due by this moment: the server lets its notes go whose lifetime has ended, and what the device began
     /// and nobody acknowledged goes to the server again. Memory is taken for that alone: without it that is lost, as on the way, and what is
     /// over ends all the same.
     pub fn on_tick<A: Ciphers>(&mut self, alloc: Global, now: Moment, server_draw: &Draw) -> Round
-        ensures ticked { (ticked : Own) × ((draw : AnyDraw) → IsOwnStep A.is_sealing self.old.own (Due now draw) result.begun ticked)
-            × Carries A.is_sealing (record { server = record self.old.server { endpoint = after_tick now self.old.server.endpoint }; own = ticked })
-            now server_draw.now result self.new }
-        ensures run { AllGoOn self.old (λ number. noted number result) self.new }
-        ensures entry { IsOfAnEntry self.old result }
+        ensures { HasTicked A.is_sealing self.old now server_draw.now result self.new }
     {
         runs_go_on::<A>();
         runs_keep_their_promises::<A>();
@@ -263,208 +202,6 @@ impl Device {
         self.own.node.restart();
     }
 
-    /// Asks the server for this, as [`Client::ask`] does. Without memory for the request an `AllocError`; then nothing has changed.
-    pub fn ask<A: Ciphers>(
-        &mut self,
-        alloc: Global,
-        now: Moment,
-        request: &Request,
-        draws: OwnDraws,
-    ) -> Result<Round, AllocError>
-        requires { 0 < request.now.code.0 }
-        ensures asked { IfOk result (λ round. AsksItsServer A.is_sealing A.TAG self.old
-            (record { at = now; draw = draws.own; server_draw = draws.server; request = request.now }) round self.new) }
-        ensures answered { IfOk result (λ round. IsAnsweredWhereReady self.old (record { at = now; draw = draws.own; request = request.now }) round self.new) }
-        ensures run { IfOk result (λ round. AllGoOn self.old (λ number. noted number round) self.new) }
-        ensures entry { IfOk result (λ round. IsOfAnEntry self.old round) }
-        ensures err { OnErr result (self.new ≡ self.old) }
-        // What hinders a request is told without memory.
-        ensures needs_memory { OnErr result ((context : ClientContextState) × IsFree A.is_sealing A.TAG self.old.own request.now draws.own context) }
-    {
-        a_request_is_answered::<A>();
-        runs_go_on::<A>();
-        runs_keep_their_promises::<A>();
-        is_lawful(&self.server);
-        let begun = self.own.node.ask::<A>(alloc, now, request, &draws.own)?;
-        self.own.node.has_lawful_parts();
-        Ok(self.carry::<A>(alloc, now, begun, &draws.server))
-    }
-
-    /// Puts this value at the path, as [`Device::ask`] does: 2.01 where nothing was there, 2.04 where something was.
-    pub fn put<A: Ciphers>(
-        &mut self,
-        alloc: Global,
-        now: Moment,
-        path: Path,
-        resource: Resource,
-        draws: OwnDraws,
-    ) -> Result<Round, AllocError>
-        ensures asked { IfOk result (λ round. AsksItsServer A.is_sealing A.TAG self.old
-            (record { at = now; draw = draws.own; server_draw = draws.server; request = own_request_of Put path resource.format resource.payload }) round self.new) }
-        ensures answered { IfOk result (λ round. IsAnsweredWhereReady self.old (record { at = now; draw = draws.own; request = own_request_of Put path resource.format resource.payload }) round self.new) }
-        ensures run { IfOk result (λ round. AllGoOn self.old (λ number. noted number round) self.new) }
-        ensures entry { IfOk result (λ round. IsOfAnEntry self.old round) }
-        ensures err { OnErr result (self.new ≡ self.old) }
-        // What hinders a request is told without memory.
-        ensures needs_memory { OnErr result ((context : ClientContextState) × IsFree A.is_sealing A.TAG self.old.own (own_request_of Put path resource.format resource.payload) draws.own context) }
-    {
-        let request = own_request(alloc, Method::Put, path, resource);
-        self.ask::<A>(alloc, now, &request, draws)
-    }
-
-    /// Appends this to the value at the path, or makes it new.
-    pub fn append<A: Ciphers>(
-        &mut self,
-        alloc: Global,
-        now: Moment,
-        path: Path,
-        resource: Resource,
-        draws: OwnDraws,
-    ) -> Result<Round, AllocError>
-        ensures asked { IfOk result (λ round. AsksItsServer A.is_sealing A.TAG self.old
-            (record { at = now; draw = draws.own; server_draw = draws.server; request = own_request_of Post path resource.format resource.payload }) round self.new) }
-        ensures answered { IfOk result (λ round. IsAnsweredWhereReady self.old (record { at = now; draw = draws.own; request = own_request_of Post path resource.format resource.payload }) round self.new) }
-        ensures run { IfOk result (λ round. AllGoOn self.old (λ number. noted number round) self.new) }
-        ensures entry { IfOk result (λ round. IsOfAnEntry self.old round) }
-        ensures err { OnErr result (self.new ≡ self.old) }
-        // What hinders a request is told without memory.
-        ensures needs_memory { OnErr result ((context : ClientContextState) × IsFree A.is_sealing A.TAG self.old.own (own_request_of Post path resource.format resource.payload) draws.own context) }
-    {
-        let request = own_request(alloc, Method::Post, path, resource);
-        self.ask::<A>(alloc, now, &request, draws)
-    }
-
-    /// Removes what is at the path.
-    pub fn remove<A: Ciphers>(
-        &mut self,
-        alloc: Global,
-        now: Moment,
-        path: Path,
-        draws: OwnDraws,
-    ) -> Result<Round, AllocError>
-        ensures asked { IfOk result (λ round. AsksItsServer A.is_sealing A.TAG self.old
-            (record { at = now; draw = draws.own; server_draw = draws.server; request = own_request_of Delete path None [] }) round self.new) }
-        ensures answered { IfOk result (λ round. IsAnsweredWhereReady self.old (record { at = now; draw = draws.own; request = own_request_of Delete path None [] }) round self.new) }
-        ensures run { IfOk result (λ round. AllGoOn self.old (λ number. noted number round) self.new) }
-        ensures entry { IfOk result (λ round. IsOfAnEntry self.old round) }
-        ensures err { OnErr result (self.new ≡ self.old) }
-        // What hinders a request is told without memory.
-        ensures needs_memory { OnErr result ((context : ClientContextState) × IsFree A.is_sealing A.TAG self.old.own (own_request_of Delete path None []) draws.own context) }
-    {
-        let request = own_request(alloc, Method::Delete, path, nothing(alloc));
-        self.ask::<A>(alloc, now, &request, draws)
-    }
-
-    /// Reads the value at the path.
-    pub fn read<A: Ciphers>(
-        &mut self,
-        alloc: Global,
-        now: Moment,
-        path: Path,
-        draws: OwnDraws,
-    ) -> Result<Round, AllocError>
-        ensures asked { IfOk result (λ round. AsksItsServer A.is_sealing A.TAG self.old
-            (record { at = now; draw = draws.own; server_draw = draws.server; request = own_request_of Get path None [] }) round self.new) }
-        ensures answered { IfOk result (λ round. IsAnsweredWhereReady self.old (record { at = now; draw = draws.own; request = own_request_of Get path None [] }) round self.new) }
-        ensures run { IfOk result (λ round. AllGoOn self.old (λ number. noted number round) self.new) }
-        ensures entry { IfOk result (λ round. IsOfAnEntry self.old round) }
-        ensures err { OnErr result (self.new ≡ self.old) }
-        // What hinders a request is told without memory.
-        ensures needs_memory { OnErr result ((context : ClientContextState) × IsFree A.is_sealing A.TAG self.old.own (own_request_of Get path None []) draws.own context) }
-    {
-        let request = own_request(alloc, Method::Get, path, nothing(alloc));
-        self.ask::<A>(alloc, now, &request, draws)
-    }
-
-    /// Revokes the tokens of this id: puts an empty value at the path that stands for it, as [`Device::put`] does. From then on no token of
-    /// the id is taken, and no request is served under its contexts, until [`Device::allow`] or whoever may removes the value. The device's own
-    /// scope must name the path.
-    ///
-    /// Where the server keeps memory in hand for this, as one with a revocation path does, that is given back for the call, and taken again once it is
-    /// over: so whoever fills the memory with resources can still be revoked.
-    ///
-    /// `None` where the server has no revocation path, or the id is too long for one. Without memory for the request an `AllocError`. Then
-    /// nothing has changed.
-    pub fn revoke<A: Ciphers>(
-        &mut self,
-        alloc: Global,
-        now: Moment,
-        id: &[u8],
-        draws: OwnDraws,
-    ) -> Result<Option<Round>, AllocError>
-        ensures asked { IfOk result (λ found. IfSome found (λ round. (path : List ℕ) × (revocation_of self.old.server.desk.rules.revoked id.now ≡ Some path)
-            × AsksItsServer A.is_sealing A.TAG self.old
-            (record { at = now; draw = draws.own; server_draw = draws.server; request = own_request_of Put path None [] }) round self.new
-            × IsAnsweredWhereReady self.old (record { at = now; draw = draws.own; request = own_request_of Put path None [] }) round self.new)) }
-        ensures none { IfOk result (λ found. IfNone found ((revocation_of self.old.server.desk.rules.revoked id.now ≡ None) × (self.new ≡ self.old))) }
-        ensures run { IfOk result (λ found. IfSome found (λ round. AllGoOn self.old (λ number. noted number round) self.new)) }
-        ensures entry { IfOk result (λ found. IfSome found (λ round. IsOfAnEntry self.old round)) }
-        ensures err { OnErr result (self.new ≡ self.old) }
-        // Without a revocation path nothing takes memory.
-        ensures needs_memory { OnErr result (IsSome self.old.server.desk.rules.revoked) }
-    {
-        match self.rule::<A>(alloc, now, Ruling::Revoke, id, draws)? {
-            Some(ruled) => Ok(Some(ruled.into_round())),
-            None => Ok(None),
-        }
-    }
-
-    /// Lets the tokens of this id in again: removes what is at the path that stands for it, as [`Device::remove`] does.
-    ///
-    /// `None` and an `AllocError` as for [`Device::revoke`].
-    pub fn allow<A: Ciphers>(
-        &mut self,
-        alloc: Global,
-        now: Moment,
-        id: &[u8],
-        draws: OwnDraws,
-    ) -> Result<Option<Round>, AllocError>
-        ensures asked { IfOk result (λ found. IfSome found (λ round. (path : List ℕ) × (revocation_of self.old.server.desk.rules.revoked id.now ≡ Some path)
-            × AsksItsServer A.is_sealing A.TAG self.old
-            (record { at = now; draw = draws.own; server_draw = draws.server; request = own_request_of Delete path None [] }) round self.new
-            × IsAnsweredWhereReady self.old (record { at = now; draw = draws.own; request = own_request_of Delete path None [] }) round self.new)) }
-        ensures none { IfOk result (λ found. IfNone found ((revocation_of self.old.server.desk.rules.revoked id.now ≡ None) × (self.new ≡ self.old))) }
-        ensures run { IfOk result (λ found. IfSome found (λ round. AllGoOn self.old (λ number. noted number round) self.new)) }
-        ensures entry { IfOk result (λ found. IfSome found (λ round. IsOfAnEntry self.old round)) }
-        ensures err { OnErr result (self.new ≡ self.old) }
-        // Without a revocation path nothing takes memory.
-        ensures needs_memory { OnErr result (IsSome self.old.server.desk.rules.revoked) }
-    {
-        match self.rule::<A>(alloc, now, Ruling::Allow, id, draws)? {
-            Some(ruled) => Ok(Some(ruled.into_round())),
-            None => Ok(None),
-        }
-    }
-
-    /// Revokes the tokens of this id, or lets them in again, as [`Device::revoke`] and [`Device::allow`] do, and tells whether they are revoked then: the
-    /// answer alone says what came of the request.
-    pub fn rule<A: Ciphers>(
-        &mut self,
-        alloc: Global,
-        now: Moment,
-        ruling: Ruling,
-        id: &[u8],
-        draws: OwnDraws,
-    ) -> Result<Option<Ruled>, AllocError>
-        ensures asked { IfOk result (λ found. IfSome found (λ ruled. (path : List ℕ) × (revocation_of self.old.server.desk.rules.revoked id.now ≡ Some path)
-            × AsksItsServer A.is_sealing A.TAG self.old
-            (record { at = now; draw = draws.own; server_draw = draws.server; request = own_request_of (method_of ruling) path None [] }) ruled.round self.new
-            × IsAnsweredWhereReady self.old (record { at = now; draw = draws.own; request = own_request_of (method_of ruling) path None [] }) ruled.round self.new)) }
-        ensures told { IfOk result (λ found. IfSome found (λ ruled. ruled.is_revoked
-            ≡ is_revoked self.new.server.desk.rules.revoked self.new.server.tree id.now)) }
-        ensures none { IfOk result (λ found. IfNone found ((revocation_of self.old.server.desk.rules.revoked id.now ≡ None) × (self.new ≡ self.old))) }
-        ensures run { IfOk result (λ found. IfSome found (λ ruled. AllGoOn self.old (λ number. noted number ruled.round) self.new)) }
-        ensures entry { IfOk result (λ found. IfSome found (λ ruled. IsOfAnEntry self.old ruled.round)) }
-        ensures err { OnErr result (self.new ≡ self.old) }
-        // Without a revocation path nothing takes memory.
-        ensures needs_memory { OnErr result (IsSome self.old.server.desk.rules.revoked) }
-    {
-        self.give_back();
-        let found = self.rule_once::<A>(alloc, now, ruling, id, draws);
-        self.take_in_hand(alloc);
-        found
-    }
-
     /// Gives back what the server keeps in hand.
     pub(crate) fn give_back(&mut self)
         ensures { self.new ≡ self.old }
@@ -479,7 +216,7 @@ impl Device {
         self.server.take_in_hand(alloc);
     }
 
-    /// The same with the memory that there is.
+    /// Rules so with the memory that there is.
     fn rule_once<A: Ciphers>(
         &mut self,
         alloc: Global,
@@ -488,17 +225,9 @@ impl Device {
         id: &[u8],
         draws: OwnDraws,
     ) -> Result<Option<Ruled>, AllocError>
-        ensures asked { IfOk result (λ found. IfSome found (λ ruled. (path : List ℕ) × (revocation_of self.old.server.desk.rules.revoked id.now ≡ Some path)
-            × AsksItsServer A.is_sealing A.TAG self.old
-            (record { at = now; draw = draws.own; server_draw = draws.server; request = own_request_of (method_of ruling) path None [] }) ruled.round self.new
-            × IsAnsweredWhereReady self.old (record { at = now; draw = draws.own; request = own_request_of (method_of ruling) path None [] }) ruled.round self.new)) }
-        ensures told { IfOk result (λ found. IfSome found (λ ruled. ruled.is_revoked
-            ≡ is_revoked self.new.server.desk.rules.revoked self.new.server.tree id.now)) }
-        ensures none { IfOk result (λ found. IfNone found ((revocation_of self.old.server.desk.rules.revoked id.now ≡ None) × (self.new ≡ self.old))) }
-        ensures run { IfOk result (λ found. IfSome found (λ ruled. AllGoOn self.old (λ number. noted number ruled.round) self.new)) }
-        ensures entry { IfOk result (λ found. IfSome found (λ ruled. IsOfAnEntry self.old ruled.round)) }
-        ensures err { OnErr result (self.new ≡ self.old) }
-        ensures needs_memory { OnErr result (IsSome self.old.server.desk.rules.revoked) }
+        ensures { HandsOut
+            (HasRuled A.is_sealing A.TAG self.old id.now (λ path. asked_at now draws (own_request_of (method_of ruling) path None [])))
+            (IsSome self.old.server.desk.rules.revoked) self.old result self.new }
     {
         match self.server.desk().revocation_of(alloc, id)? {
             Some(path) => {
@@ -509,41 +238,6 @@ impl Device {
             }
             None => Ok(None),
         }
-    }
-
-    /// Posts the device's token to the server, as [`Client::exchange`] does, so that it has a context. Without memory for the post an
-    /// `AllocError`; then nothing has changed.
-    pub fn open<A: Ciphers>(
-        &mut self,
-        alloc: Global,
-        now: Moment,
-        draws: OwnDraws,
-    ) -> Result<Round, AllocError>
-        ensures begun { IfOk result (λ round. (begun : Own) × Begins self.old.own now draws.own round.begun begun
-            × ClientStep false (own_core self.old.own) round.begun.notes (own_core begun)
-            × Carries A.is_sealing (record self.old { own = begun }) now draws.server round self.new) }
-        // Where it may, and no step wants memory.
-        ensures made { IfOk result (λ round. (claims : AnyClaims) (entries : List Entry)
-            → MayOpen A.is_sealing self.old now draws.own claims entries → IsWhole round → IsOpen now entries self.new) }
-        // A place is kept for it, so no others keep it out.
-        ensures place { IfOk result (λ round. (claims : AnyClaims) (entries : List Entry)
-            → MayReturn A.is_sealing self.old now draws.own claims entries → IsWhole round → IsOpen now entries self.new) }
-        // Its post is never too long for a datagram.
-        ensures fits { IfOk result (λ round. round.begun.notes.result ≢ Some (result_of.Refused refusal.datagram_too_long)) }
-        ensures run { IfOk result (λ round. AllGoOn self.old (λ number. noted number round) self.new) }
-        ensures err { OnErr result (self.new ≡ self.old) }
-        // What is busy is refused without memory.
-        ensures needs_memory { OnErr result (self.old.own.waiting ≡ None) }
-    {
-        a_context_is_made::<A>();
-        a_place_is_kept::<A>();
-        runs_go_on::<A>();
-        keeps_its_place(&self.server);
-        is_drawn(&draws.server);
-        is_drawn(&draws.own);
-        let begun = self.own.node.exchange(alloc, now, &draws.own)?;
-        self.own.node.has_lawful_parts();
-        Ok(self.carry::<A>(alloc, now, begun, &draws.server))
     }
 
     /// Hands what was sent to the server, and what that answers to the device.
@@ -607,5 +301,72 @@ impl Device {
                 .ok(),
             _ => None,
         }
+    }
+}
+
+impl DeviceCalls for Device {
+    type Error = AllocError;
+
+    ghost state = { λ device. device };
+
+    ghost yields = { λ T Makes Lacks old result new. HandsOut Makes Lacks old result new };
+
+    fn on_datagram<A: Ciphers>(
+        &mut self,
+        alloc: Global,
+        now: Moment,
+        from: Peer,
+        bytes: &[u8],
+        draw: &Draw,
+    ) -> Result<Step, AllocError> {
+        runs_go_on_alone();
+        self.server.on_datagram::<A>(alloc, now, from, bytes, draw)
+    }
+
+    fn open<A: Ciphers>(
+        &mut self,
+        alloc: Global,
+        now: Moment,
+        draws: OwnDraws,
+    ) -> Result<Round, AllocError> {
+        a_context_is_made::<A>();
+        a_place_is_kept::<A>();
+        runs_go_on::<A>();
+        keeps_its_place(&self.server);
+        is_drawn(&draws.server);
+        is_drawn(&draws.own);
+        let begun = self.own.node.exchange(alloc, now, &draws.own)?;
+        self.own.node.has_lawful_parts();
+        Ok(self.carry::<A>(alloc, now, begun, &draws.server))
+    }
+
+    fn ask<A: Ciphers>(
+        &mut self,
+        alloc: Global,
+        now: Moment,
+        request: &Request,
+        draws: OwnDraws,
+    ) -> Result<Round, AllocError> {
+        a_request_is_answered::<A>();
+        runs_go_on::<A>();
+        runs_keep_their_promises::<A>();
+        is_lawful(&self.server);
+        let begun = self.own.node.ask::<A>(alloc, now, request, &draws.own)?;
+        self.own.node.has_lawful_parts();
+        Ok(self.carry::<A>(alloc, now, begun, &draws.server))
+    }
+
+    fn rule<A: Ciphers>(
+        &mut self,
+        alloc: Global,
+        now: Moment,
+        ruling: Ruling,
+        id: &[u8],
+        draws: OwnDraws,
+    ) -> Result<Option<Ruled>, AllocError> {
+        self.give_back();
+        let found = self.rule_once::<A>(alloc, now, ruling, id, draws);
+        self.take_in_hand(alloc);
+        found
     }
 }

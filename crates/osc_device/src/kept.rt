@@ -1,24 +1,22 @@
 //! A device whose resources outlive a power cut.
-ghost use Rattle.std.specs.Prelude.{◌≡◌, ◌<◌, List, None, Some, [], IfErr, IfOk, IsSome, OnErr, OnOk, option_copied};
+ghost use Rattle.std.specs.Prelude.{◌≡◌, List, None, IfErr, IfOk, OnOk, option_copied};
 ghost use Rattle.osc_model.specs.Tree.{Tree as AnyTree};
-ghost use Rattle.osc_model.specs.declared.code.Method.TheVariants.{Delete, Get, Post, Put};
-ghost use Rattle.osc_authz.specs.{ClientContextState};
-ghost use Rattle.osc_client.specs.{IsFree};
 ghost use Rattle.osc_scope.specs.{Entry as ScopeEntry, IsScope};
 ghost use Rattle.osc_turn.specs.Kept.{IsChangeOf};
-ghost use Rattle.osc_device.specs.Answered.{own_request as own_request_of};
 ghost use Rattle.osc_device.specs.Begun.{IsBegun, IsGranted, IsNoDevice, own_claims};
-ghost use Rattle.osc_device.specs.Carrying.{ServerTakesMemory};
-ghost use Rattle.osc_device.specs.Kept.{Yields, HasAsked, HasHeard, HasPosted, HasRestarted, HasRuled, HasTicked, HoldsOneOf, IsUnkept, StaysKept, tree_of};
+ghost use Rattle.osc_device.specs.Calls.{HasRestarted, HasTicked};
+ghost use Rattle.osc_device.specs.Kept.{IsUnkept, StaysKept, YieldsKept, tree_of};
 ghost use Rattle.osc_device.specs.Inner.Entries.{entry_found as entry_found_in, entry_in};
 
-use crate::device::{Device, nothing, own_request};
+use crate::calls::DeviceCalls;
+use crate::device::Device;
 use crate::draws::OwnDraws;
 use crate::error::{CallError, NewError};
 use crate::own_token::{OwnToken, ServerParts};
 use crate::round::Round;
+use crate::ruling::{Ruled, Ruling};
 use osc_ccm::Ciphers;
-use osc_model::{Draw, Entry, Method, Moment, Path, Peer, Request, Resource, Step};
+use osc_model::{Draw, Entry, Moment, Peer, Request, Step};
 use osc_store::{KeepError, Keeping};
 use osc_turn::keep_change;
 use osc_turn::laws::one_path_changes;
@@ -68,12 +66,12 @@ fn entry_of(served: &Option<Step>) -> Option<&Entry>
     }
 }
 
-/// That of the round, if there was one.
-fn entry_found(found: &Option<Round>) -> Option<&Entry>
+/// That of what came of a ruling, if anything was ruled.
+fn entry_found(found: &Option<Ruled>) -> Option<&Entry>
     ensures { option_copied result ≡ entry_found_in found.now }
 {
     match found {
-        Some(round) => entry_of(&round.served),
+        Some(ruled) => entry_of(&ruled.round.served),
         None => None,
     }
 }
@@ -135,54 +133,23 @@ impl<K: Keeping> KeptDevice<K> {
         keeper
     }
 
-    /// These bytes came from this peer at this moment as one datagram, as for [`Device::on_datagram`]. The step that is handed out is kept: its
-    /// datagrams may be sent.
-    ///
-    /// # Errors
-    ///
-    /// `OutOfMemory` where nothing has changed, as of [`Device::on_datagram`]. `NotKept` where a change isn't kept; then and later nothing is to be
-    /// sent.
-    pub fn on_datagram<A: Ciphers>(
-        &mut self,
-        alloc: Global,
-        now: Moment,
-        from: Peer,
-        bytes: &[u8],
-        draw: &Draw,
-    ) -> Result<Step, CallError>
-        ensures heard { Yields
-            (HasHeard A.is_sealing self.old.device (record { at = now; from = from; draw = draw.now; what = bytes.now }))
-            (ServerTakesMemory self.old.device.server (record { at = now; from = from; draw = draw.now; what = bytes.now }))
-            self.old result self.new }
-        ensures kept { OnOk result (StaysKept K.keeps self.old self.new) }
-        ensures crash { HoldsOneOf K.keeps K.may_hold self.old self.new }
-    {
-        one_path_changes();
-        self.goes_on()?;
-        let step = self.device.on_datagram::<A>(alloc, now, from, bytes, draw)?;
-        self.keep(alloc, step.notes.served())?;
-        Ok(step)
-    }
-
     /// The time has come for what is due by this moment, as for [`Device::on_tick`].
     ///
     /// # Errors
     ///
-    /// `NotKept` alone, as of [`KeptDevice::on_datagram`].
+    /// `NotKept` alone, as of the other calls.
     pub fn on_tick<A: Ciphers>(
         &mut self,
         alloc: Global,
         now: Moment,
         server_draw: &Draw,
     ) -> Result<Round, CallError>
-        ensures ticked { Yields (HasTicked A.is_sealing self.old.device now server_draw.now) ⊥ self.old result self.new }
-        ensures kept { OnOk result (StaysKept K.keeps self.old self.new) }
-        ensures crash { HoldsOneOf K.keeps K.may_hold self.old self.new }
+        ensures { YieldsKept K.keeps K.may_hold (HasTicked A.is_sealing self.old.device now server_draw.now) ⊥ self.old result self.new }
     {
         one_path_changes();
         self.goes_on()?;
         let round = self.device.on_tick::<A>(alloc, now, server_draw);
-        self.keep(alloc, entry_of(&round.served))?;
+        self.keep(entry_of(&round.served))?;
         Ok(round)
     }
 
@@ -200,208 +167,6 @@ impl<K: Keeping> KeptDevice<K> {
         self.goes_on()?;
         self.device.restart();
         Ok(())
-    }
-
-    /// Asks the server for this, as [`Device::ask`] does.
-    ///
-    /// # Errors
-    ///
-    /// As of [`KeptDevice::on_datagram`]; without memory for the request nothing has changed.
-    pub fn ask<A: Ciphers>(
-        &mut self,
-        alloc: Global,
-        now: Moment,
-        request: &Request,
-        draws: OwnDraws,
-    ) -> Result<Round, CallError>
-        requires { 0 < request.now.code.0 }
-        ensures asked { Yields
-            (HasAsked A.is_sealing A.TAG self.old.device (record { at = now; draw = draws.own; server_draw = draws.server; request = request.now }))
-            ((context : ClientContextState) × IsFree A.is_sealing A.TAG self.old.device.own request.now draws.own context)
-            self.old result self.new }
-        ensures kept { OnOk result (StaysKept K.keeps self.old self.new) }
-        ensures crash { HoldsOneOf K.keeps K.may_hold self.old self.new }
-    {
-        one_path_changes();
-        self.goes_on()?;
-        let round = self.device.ask::<A>(alloc, now, request, draws)?;
-        self.keep(alloc, entry_of(&round.served))?;
-        Ok(round)
-    }
-
-    /// Puts this value at the path, as [`Device::put`] does.
-    ///
-    /// # Errors
-    ///
-    /// As of [`KeptDevice::ask`].
-    pub fn put<A: Ciphers>(
-        &mut self,
-        alloc: Global,
-        now: Moment,
-        path: Path,
-        resource: Resource,
-        draws: OwnDraws,
-    ) -> Result<Round, CallError>
-        ensures asked { Yields
-            (HasAsked A.is_sealing A.TAG self.old.device
-            (record { at = now; draw = draws.own; server_draw = draws.server; request = own_request_of Put path resource.format resource.payload }))
-            ((context : ClientContextState)
-            × IsFree A.is_sealing A.TAG self.old.device.own (own_request_of Put path resource.format resource.payload) draws.own context)
-            self.old result self.new }
-        ensures kept { OnOk result (StaysKept K.keeps self.old self.new) }
-        ensures crash { HoldsOneOf K.keeps K.may_hold self.old self.new }
-    {
-        let request = own_request(alloc, Method::Put, path, resource);
-        self.ask::<A>(alloc, now, &request, draws)
-    }
-
-    /// Appends this to the value at the path, or makes it new.
-    ///
-    /// # Errors
-    ///
-    /// As of [`KeptDevice::ask`].
-    pub fn append<A: Ciphers>(
-        &mut self,
-        alloc: Global,
-        now: Moment,
-        path: Path,
-        resource: Resource,
-        draws: OwnDraws,
-    ) -> Result<Round, CallError>
-        ensures asked { Yields
-            (HasAsked A.is_sealing A.TAG self.old.device
-            (record { at = now; draw = draws.own; server_draw = draws.server; request = own_request_of Post path resource.format resource.payload }))
-            ((context : ClientContextState)
-            × IsFree A.is_sealing A.TAG self.old.device.own (own_request_of Post path resource.format resource.payload) draws.own context)
-            self.old result self.new }
-        ensures kept { OnOk result (StaysKept K.keeps self.old self.new) }
-        ensures crash { HoldsOneOf K.keeps K.may_hold self.old self.new }
-    {
-        let request = own_request(alloc, Method::Post, path, resource);
-        self.ask::<A>(alloc, now, &request, draws)
-    }
-
-    /// Removes what is at the path.
-    ///
-    /// # Errors
-    ///
-    /// As of [`KeptDevice::ask`].
-    pub fn remove<A: Ciphers>(
-        &mut self,
-        alloc: Global,
-        now: Moment,
-        path: Path,
-        draws: OwnDraws,
-    ) -> Result<Round, CallError>
-        ensures asked { Yields
-            (HasAsked A.is_sealing A.TAG self.old.device
-            (record { at = now; draw = draws.own; server_draw = draws.server; request = own_request_of Delete path None [] }))
-            ((context : ClientContextState) × IsFree A.is_sealing A.TAG self.old.device.own (own_request_of Delete path None []) draws.own context)
-            self.old result self.new }
-        ensures kept { OnOk result (StaysKept K.keeps self.old self.new) }
-        ensures crash { HoldsOneOf K.keeps K.may_hold self.old self.new }
-    {
-        let request = own_request(alloc, Method::Delete, path, nothing(alloc));
-        self.ask::<A>(alloc, now, &request, draws)
-    }
-
-    /// Reads the value at the path.
-    ///
-    /// # Errors
-    ///
-    /// As of [`KeptDevice::ask`].
-    pub fn read<A: Ciphers>(
-        &mut self,
-        alloc: Global,
-        now: Moment,
-        path: Path,
-        draws: OwnDraws,
-    ) -> Result<Round, CallError>
-        ensures asked { Yields
-            (HasAsked A.is_sealing A.TAG self.old.device
-            (record { at = now; draw = draws.own; server_draw = draws.server; request = own_request_of Get path None [] }))
-            ((context : ClientContextState) × IsFree A.is_sealing A.TAG self.old.device.own (own_request_of Get path None []) draws.own context)
-            self.old result self.new }
-        ensures kept { OnOk result (StaysKept K.keeps self.old self.new) }
-        ensures crash { HoldsOneOf K.keeps K.may_hold self.old self.new }
-    {
-        let request = own_request(alloc, Method::Get, path, nothing(alloc));
-        self.ask::<A>(alloc, now, &request, draws)
-    }
-
-    /// Revokes the tokens of this id, as [`Device::revoke`] does: that is kept, and so is it where the device starts again. `None` where the server
-    /// has no revocation path, or the id is too long for one.
-    ///
-    /// # Errors
-    ///
-    /// As of [`KeptDevice::ask`].
-    pub fn revoke<A: Ciphers>(
-        &mut self,
-        alloc: Global,
-        now: Moment,
-        id: &[u8],
-        draws: OwnDraws,
-    ) -> Result<Option<Round>, CallError>
-        ensures ruled { Yields
-            (HasRuled A.is_sealing A.TAG self.old.device id.now
-            (λ path. record { at = now; draw = draws.own; server_draw = draws.server; request = own_request_of Put path None [] }))
-            (IsSome self.old.device.server.desk.rules.revoked) self.old result self.new }
-        ensures kept { OnOk result (StaysKept K.keeps self.old self.new) }
-        ensures crash { HoldsOneOf K.keeps K.may_hold self.old self.new }
-    {
-        one_path_changes();
-        self.goes_on()?;
-        let found = self.device.revoke::<A>(alloc, now, id, draws)?;
-        self.keep_ruling(alloc, entry_found(&found))?;
-        Ok(found)
-    }
-
-    /// Lets the tokens of this id in again, as [`Device::allow`] does. `None` as for [`KeptDevice::revoke`].
-    ///
-    /// # Errors
-    ///
-    /// As of [`KeptDevice::ask`].
-    pub fn allow<A: Ciphers>(
-        &mut self,
-        alloc: Global,
-        now: Moment,
-        id: &[u8],
-        draws: OwnDraws,
-    ) -> Result<Option<Round>, CallError>
-        ensures ruled { Yields
-            (HasRuled A.is_sealing A.TAG self.old.device id.now
-            (λ path. record { at = now; draw = draws.own; server_draw = draws.server; request = own_request_of Delete path None [] }))
-            (IsSome self.old.device.server.desk.rules.revoked) self.old result self.new }
-        ensures kept { OnOk result (StaysKept K.keeps self.old self.new) }
-        ensures crash { HoldsOneOf K.keeps K.may_hold self.old self.new }
-    {
-        one_path_changes();
-        self.goes_on()?;
-        let found = self.device.allow::<A>(alloc, now, id, draws)?;
-        self.keep_ruling(alloc, entry_found(&found))?;
-        Ok(found)
-    }
-
-    /// Posts the device's token to the server, as [`Device::open`] does.
-    ///
-    /// # Errors
-    ///
-    /// As of [`KeptDevice::ask`].
-    pub fn open<A: Ciphers>(
-        &mut self,
-        alloc: Global,
-        now: Moment,
-        draws: OwnDraws,
-    ) -> Result<Round, CallError>
-        ensures posted { Yields (HasPosted A.is_sealing self.old.device now draws) (self.old.device.own.waiting ≡ None) self.old result self.new }
-        ensures kept { OnOk result (StaysKept K.keeps self.old self.new) }
-        ensures crash { HoldsOneOf K.keeps K.may_hold self.old self.new }
-    {
-        one_path_changes();
-        self.goes_on()?;
-        let round = self.device.open::<A>(alloc, now, draws)?;
-        self.keep(alloc, entry_of(&round.served))?;
-        Ok(round)
     }
 
     /// Whether it takes another step: an error where what its last one changed isn't kept.
@@ -426,13 +191,13 @@ impl<K: Keeping> KeptDevice<K> {
             → K.may_hold self.new.keeper before (tree_of self.old) }
     {
         self.device.give_back();
-        let kept = self.keep(alloc, served);
+        let kept = self.keep(served);
         self.device.take_in_hand(alloc);
         kept
     }
 
     /// Keeps what the request of this entry changed, if there is one. Where it isn't kept, that is noted.
-    fn keep(&mut self, alloc: Global, served: Option<&Entry>) -> Result<(), CallError>
+    fn keep(&mut self, served: Option<&Entry>) -> Result<(), CallError>
         ensures device { self.new.device ≡ self.old.device }
         ensures ok { OnOk result (self.new.unkept ≡ self.old.unkept) }
         ensures err { IfErr result (λ e. IsUnkept e self.new) }
@@ -441,12 +206,77 @@ impl<K: Keeping> KeptDevice<K> {
         ensures crash { (before : AnyTree) → IsChangeOf (option_copied served.entry) before (tree_of self.old) → K.keeps self.old.keeper before
             → K.may_hold self.new.keeper before (tree_of self.old) }
     {
-        match keep_change(alloc, &mut self.keeper, self.device.server().tree(), served) {
+        match keep_change(&mut self.keeper, self.device.server().tree(), served) {
             Ok(()) => Ok(()),
             Err(error) => {
                 self.unkept = Some(error);
                 Err(CallError::NotKept(error))
             }
         }
+    }
+}
+
+impl<K: Keeping> DeviceCalls for KeptDevice<K> {
+    type Error = CallError;
+
+    ghost state = { λ kept. kept.device };
+
+    ghost yields = { λ T Makes Lacks old result new. YieldsKept K.keeps K.may_hold Makes Lacks old result new };
+
+    fn on_datagram<A: Ciphers>(
+        &mut self,
+        alloc: Global,
+        now: Moment,
+        from: Peer,
+        bytes: &[u8],
+        draw: &Draw,
+    ) -> Result<Step, CallError> {
+        one_path_changes();
+        self.goes_on()?;
+        let step = self.device.on_datagram::<A>(alloc, now, from, bytes, draw)?;
+        self.keep(step.notes.served())?;
+        Ok(step)
+    }
+
+    fn open<A: Ciphers>(
+        &mut self,
+        alloc: Global,
+        now: Moment,
+        draws: OwnDraws,
+    ) -> Result<Round, CallError> {
+        one_path_changes();
+        self.goes_on()?;
+        let round = self.device.open::<A>(alloc, now, draws)?;
+        self.keep(entry_of(&round.served))?;
+        Ok(round)
+    }
+
+    fn ask<A: Ciphers>(
+        &mut self,
+        alloc: Global,
+        now: Moment,
+        request: &Request,
+        draws: OwnDraws,
+    ) -> Result<Round, CallError> {
+        one_path_changes();
+        self.goes_on()?;
+        let round = self.device.ask::<A>(alloc, now, request, draws)?;
+        self.keep(entry_of(&round.served))?;
+        Ok(round)
+    }
+
+    fn rule<A: Ciphers>(
+        &mut self,
+        alloc: Global,
+        now: Moment,
+        ruling: Ruling,
+        id: &[u8],
+        draws: OwnDraws,
+    ) -> Result<Option<Ruled>, CallError> {
+        one_path_changes();
+        self.goes_on()?;
+        let found = self.device.rule::<A>(alloc, now, ruling, id, draws)?;
+        self.keep_ruling(alloc, entry_found(&found))?;
+        Ok(found)
     }
 }

@@ -4,6 +4,7 @@
 #![tactic(auto)]
 
 mod beginning;
+mod calls;
 mod device;
 mod draws;
 mod error;
@@ -14,6 +15,7 @@ mod round;
 mod ruling;
 mod words;
 
+pub use calls::{DeviceCalls, own_request};
 pub use device::Device;
 pub use draws::OwnDraws;
 pub use error::{CallError, NewError};

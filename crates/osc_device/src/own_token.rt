@@ -19,10 +19,10 @@ pub struct ServerParts {
     pub old_key: Option<[u8; 16]>,
     /// For whom tokens are that the server takes.
     pub audience: Audience,
-    /// The path below which a resource revokes a token, by the hexadecimal digits of the token's id ([`Device::revoke`]); none where no token
+    /// The path below which a resource revokes a token, by the hexadecimal digits of the token's id ([`DeviceCalls::revoke`]); none where no token
     /// can be revoked.
     ///
-    /// [`Device::revoke`]: crate::Device::revoke
+    /// [`DeviceCalls::revoke`]: crate::DeviceCalls::revoke
     pub revoked: Option<Path>,
     /// How many seconds after the post that made it a context counts no more: what was held back on its way for longer is refused. Without a
     /// number a context counts as long as its token.

@@ -1,6 +1,6 @@
 //! What a device rules of the tokens of an id.
 ghost use Rattle.std.specs.Prelude.{◌≡◌};
-ghost use Rattle.osc_device.specs.Ruling.{method_of};
+ghost use Rattle.osc_device.specs.Ruling.{method_of, round_of};
 
 use crate::round::Round;
 use osc_model::Method;
@@ -45,5 +45,16 @@ impl Ruled {
             is_revoked: _,
         } = self;
         round
+    }
+}
+
+/// The round of what came of a ruling, where there was a path for the id.
+pub(crate) fn round_of<E>(ruled: Result<Option<Ruled>, E>) -> Result<Option<Round>, E>
+    ensures { result ≡ round_of ruled }
+{
+    match ruled {
+        Ok(Some(ruled)) => Ok(Some(ruled.into_round())),
+        Ok(None) => Ok(None),
+        Err(error) => Err(error),
     }
 }

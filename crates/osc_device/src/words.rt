@@ -1,11 +1,10 @@
 //! What a step of a server did, in the words of whoever made the device.
-ghost use Rattle.std.specs.Prelude.{◌≡◌, IfOk, option_map};
-ghost use Rattle.osc_options.specs.{read_request};
-ghost use Rattle.osc_device.specs.Words.{holder_of as holder_of_entry, refused_in, request_in as request_in_of, served_by as served_by_of, served_in};
+ghost use Rattle.std.specs.Prelude.{◌≡◌, option_map};
+ghost use Rattle.osc_device.specs.Words.{holder_of as holder_of_entry, refused_in, request_in, served_by as served_by_of, served_in};
 
-use osc_model::{ContextName, Entry, Method, Path, Peer, RefusedRequest, Reply, Request, Step};
-use osc_options::request_in;
-use std::alloc::{AllocError, Global};
+use osc_model::{
+    Code, ContextName, Entry, Method, Path, Peer, RefusedRequest, Reply, Request, Step,
+};
 use std::fmt;
 use std::marker::Model;
 
@@ -28,7 +27,7 @@ pub struct Served<'a> {
     /// What it was answered.
     pub reply: &'a Reply,
     // What opened, where it is a request.
-    request: Option<Request>,
+    request: Option<&'a Request>,
 }
 
 /// A request that was refused.
@@ -46,7 +45,7 @@ impl<'a> Model for Served<'a> {
 
     ghost Value = { ServedRequest };
 
-    ghost view = { λ s. served_as (record { kid = s.by.kid.now; kid_context = option_map (λ bytes. bytes.now) s.by.kid_context }) s.number s.request s.reply.now };
+    ghost view = { λ s. served_as (record { kid = s.by.kid.now; kid_context = option_map (λ bytes. bytes.now) s.by.kid_context }) s.number (option_map (λ request. request.now) s.request) s.reply.now };
 }
 
 // What was opened isn't printed.
@@ -57,14 +56,13 @@ impl<'a> fmt::Debug for Served<'a> {
 }
 
 impl<'a> Served<'a> {
-    /// The protected request that this step of a server served, if it served one. No secret is copied. Without memory for the path and the
-    /// payload an `AllocError`.
-    pub fn in_step(alloc: Global, step: &'a Step) -> Result<Option<Served<'a>>, AllocError>
-        ensures { IfOk result (λ served. served ≡ served_in step.now.notes) }
+    /// The protected request that this step of a server served, if it served one: lent as the server read it. Takes no memory.
+    pub fn in_step(step: &'a Step) -> Option<Served<'a>>
+        ensures { result ≡ served_in step.now.notes }
     {
         match step.notes.served() {
-            Some(entry) => Ok(Some(served_by(alloc, entry)?)),
-            None => Ok(None),
+            Some(entry) => Some(served_by(entry)),
+            None => None,
         }
     }
 
@@ -72,7 +70,7 @@ impl<'a> Served<'a> {
     pub fn method(&self) -> Option<Method>
         ensures { result ≡ self.now.method }
     {
-        match &self.request {
+        match self.request {
             Some(request) => Method::from_code(request.code),
             None => None,
         }
@@ -82,7 +80,7 @@ impl<'a> Served<'a> {
     pub fn path(&self) -> Option<&Path>
         ensures { option_map (λ path. path.now) result ≡ self.now.path }
     {
-        match &self.request {
+        match self.request {
             Some(request) => request.path.as_ref(),
             None => None,
         }
@@ -92,31 +90,31 @@ impl<'a> Served<'a> {
     pub fn payload(&self) -> &[u8]
         ensures { result.now ≡ self.now.payload }
     {
-        match &self.request {
+        match self.request {
             Some(request) => request.payload.as_slice(),
             None => &[],
         }
     }
 }
 
-fn served_by(alloc: Global, entry: &Entry) -> Result<Served<'_>, AllocError>
-    ensures { IfOk result (λ served. served ≡ served_by_of entry.now) }
+fn served_by(entry: &Entry) -> Served<'_>
+    ensures { result ≡ served_by_of entry.now }
 {
-    Ok(Served {
+    Served {
         by: holder_of(entry),
         number: entry.number,
         reply: &entry.reply,
-        request: request_of(alloc, entry.plaintext.as_slice())?,
-    })
+        request: request_of(&entry.request),
+    }
 }
 
-/// The request that a text is, if it is one.
-fn request_of(alloc: Global, text: &[u8]) -> Result<Option<Request>, AllocError>
-    ensures { IfOk result (λ request. request ≡ request_in_of (read_request text.now)) }
+/// The request that a text was read as, if it is one.
+fn request_of(read: &Result<Request, Code>) -> Option<&Request>
+    ensures { option_map (λ request. request.now) result ≡ request_in read.now }
 {
-    match request_in(alloc, text)? {
-        Ok(request) => Ok(Some(request)),
-        Err(_) => Ok(None),
+    match read {
+        Ok(request) => Some(request),
+        Err(_) => None,
     }
 }
 

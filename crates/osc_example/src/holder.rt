@@ -142,10 +142,7 @@ impl Holder {
     pub fn new(alloc: Global, grant: Grant) -> Result<Holder, Fault> {
         Ok(Holder {
             name: grant.name,
-            at: Peer {
-                address: [198, 51, 100, grant.number],
-                port: 61616,
-            },
+            at: Peer::v4([198, 51, 100, grant.number], 61616),
             client: client(alloc, grant)?,
             draws: Draws::new(grant.number),
         })

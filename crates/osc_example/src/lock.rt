@@ -8,7 +8,7 @@ use crate::wire::sent;
 use crate::wish::{Wish, heard};
 use crate::words::{Dotted, Shown};
 use osc_ccm::Suite;
-use osc_device::{Device, OwnDraws, OwnToken, Round, ServerParts};
+use osc_device::{Device, DeviceCalls, OwnDraws, OwnToken, Round, ServerParts};
 use osc_model::{Bytes, ClientResult, Code, Moment, Peer, Resource};
 use osc_scope::Scope;
 use osc_token::Audience;

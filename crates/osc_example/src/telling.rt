@@ -16,7 +16,8 @@ pub fn tell_other(rt: &impl Print, step: &Step) -> io::Result<()> {
 
 /// Who was refused, by which code, and the number of the reason, where the code alone doesn't tell it.
 fn tell_refused(rt: &impl Print, refused: Refused) -> io::Result<()> {
-    let address = Ipv4Addr::from_octets(refused.from.address);
+    let [_, _, _, _, _, _, _, _, _, _, _, _, a, b, c, d] = refused.from.address;
+    let address = Ipv4Addr::from_octets([a, b, c, d]);
     let code = Dotted(refused.why.code);
     match refused.why.reason {
         Some(number) => println!(rt; "lock: refused {address}: {code} ({number})"),

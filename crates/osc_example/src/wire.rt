@@ -6,7 +6,8 @@ use std::alloc::{AllocError, Global};
 
 /// Where the lock is.
 pub const LOCK: Peer = Peer {
-    address: [192, 0, 2, 1],
+    address: [0, 0, 0, 0, 0, 0, 0, 0, 0, 0, 0xff, 0xff, 192, 0, 2, 1],
+    scope: 0,
     port: 5683,
 };
 

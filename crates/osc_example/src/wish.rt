@@ -121,7 +121,7 @@ pub fn heard(rt: &impl Print, alloc: Global, step: &Step) -> Result<Option<Wish>
     ensures none { IfOk result (λ found. IfNone found ((served : ServedRequest) (wanted : AnyWanted)
         → served_in step.now.notes ≡ Some served → ¬ IsWish served wanted)) }
 {
-    match Served::in_step(alloc, step)? {
+    match Served::in_step(step) {
         Some(served) => heeded(rt, alloc, served),
         None => {
             tell_other(rt, step)?;

@@ -15,6 +15,7 @@ pub use nodes::{
     client, empty_server, proxy, revoking_server, sent, sent_in, server, straight, target, targets,
     through,
 };
+pub use osc_model::limits::{GET, POST};
 pub use peers::{CLIENT, NOWHERE, PROXY, SERVER, STRANGER, at, drawn, place};
-pub use requests::{DELETE, GET, POST, PUT, request};
+pub use requests::{DELETE, PUT, request};
 pub use resources::{EVERY_METHOD, put, scope_of};

@@ -4,7 +4,8 @@ use osc_model::{Draw, Moment, Peer};
 
 /// The server.
 pub const SERVER: Peer = Peer {
-    address: [127, 0, 0, 1],
+    address: [0, 0, 0, 0, 0, 0, 0, 0, 0, 0, 0xff, 0xff, 127, 0, 0, 1],
+    scope: 0,
     port: 5683,
 };
 
@@ -34,10 +35,9 @@ pub const NOWHERE: Peer = Peer {
 
 /// Where the client of this number is, from 0.
 pub fn place(client: u8) -> Peer {
-    let address = CLIENT.address;
     Peer {
-        address,
         port: 7001 + client as u16,
+        ..CLIENT
     }
 }
 

@@ -4,12 +4,6 @@ ghost use Rattle.std.specs.Prelude.{◌≡◌, IfOk};
 use osc_model::{Bytes, Code, ETags, Path, Request};
 use std::alloc::{AllocError, Global};
 
-/// GET.
-pub const GET: u8 = 1;
-
-/// POST.
-pub const POST: u8 = 2;
-
 /// PUT.
 pub const PUT: u8 = 3;
 

@@ -1,7 +1,7 @@
 //! Which socket each node of a lab has.
 ghost use Rattle.std.specs.List.{find};
 ghost use Rattle.std.specs.Prelude.{◌≡◌, ◌++◌, ◌∷◌, [], OnOk, option_map};
-ghost use Rattle.osc_message.specs.{same_peer};
+ghost use Rattle.osc_model.specs.{same_peer};
 ghost use Rattle.osc_lab.specs.Network as spec;
 
 use osc_model::Peer;

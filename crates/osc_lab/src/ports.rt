@@ -14,7 +14,8 @@ use std::alloc::Global;
 
 // An address of this machine, whose port the system picks.
 const ANY_PORT: Peer = Peer {
-    address: [127, 0, 0, 1],
+    address: [0, 0, 0, 0, 0, 0, 0, 0, 0, 0, 0xff, 0xff, 127, 0, 0, 1],
+    scope: 0,
     port: 0,
 };
 

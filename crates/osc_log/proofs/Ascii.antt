@@ -1,12 +1,9 @@
--- What is shown of a peer and of a path is ASCII.
-use Rattle.std.proofs.Common.{◌≡◌, ◌<◌, ℕ, suc, zero, List, [], ◌∷◌, ◌++◌, map, append_assoc, arith, codes}
+-- What is shown of a path is ASCII.
+use Rattle.std.proofs.Common.{◌≡◌, ◌<◌, ℕ, suc, zero, List, [], ◌∷◌, map, arith}
 use Rattle.std.proofs.lemmas.Str.{IsUtf8-from_ascii}
 use Rattle.std.specs.Prelude.{slice_index}
 use Rattle.std.specs.Str.{IsUtf8}
 use Rattle.osc_log.specs.{shown_byte}
-
-pub peer_pieces : (dotted dotted-is port : List ℕ) → dotted ≡ dotted-is → dotted ++ 58 ∷ port ≡ dotted-is ++ codes ":" ++ port
-peer_pieces dotted dotted-is port e = rw e (simp append_assoc)
 
 shown_small : (byte : ℕ) → shown_byte byte < 128
 shown_small byte = grind arith

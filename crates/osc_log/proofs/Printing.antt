@@ -8,5 +8,5 @@ left_out_pieces ms count words words-is e = rw e (simp append_assoc)
 pub refused_pieces : (code why why-is : List ℕ) → why ≡ why-is → codes "refused " ++ (code ++ (codes ": " ++ why)) ≡ codes "refused " ++ code ++ codes ": " ++ why-is
 refused_pieces code why why-is e = rw e (simp append_assoc)
 
-pub who_pieces : (ms peer peer-is : List ℕ) → peer ≡ peer-is → ms ++ (codes " " ++ (peer ++ codes " ")) ≡ ms ++ codes " " ++ peer-is ++ codes " "
-who_pieces ms peer peer-is e = rw e (simp append_assoc)
+pub who_pieces : (ms peer : List ℕ) → ms ++ (codes " " ++ (peer ++ codes " ")) ≡ ms ++ codes " " ++ peer ++ codes " "
+who_pieces ms peer = simp append_assoc

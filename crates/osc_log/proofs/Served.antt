@@ -1,24 +1,20 @@
 -- Lines of what is served stand in what a log says.
 use Rattle.std.proofs.Common.{◌≡◌, ◌∙◌, ◌/◌, ◌==◌, ℕ, Bool, true, false, ◌⊎◌, List, [], ◌∷◌, ◌++◌, Option, None, inl, inr, refl, ap, sym, subst, append_assoc, append-nil}
 use Rattle.std.proofs.lemmas.Bool.{eqb-true, eq-eqb}
-use Rattle.std.proofs.lemmas.List.Elements.{All-head, All-tail}
-use Rattle.osc_model.specs.StepNotes.{StepNotes}
 use Rattle.osc_model.specs.declared.node.Moment.{Moment}
 use Rattle.osc_model.specs.declared.step.Datagram.{Datagram}
 use Rattle.osc_log.specs.Counters.{hourly_text}
 use Rattle.osc_log.specs.Faults.{untold_text}
-use Rattle.osc_log.specs.Holders.{Learns, LearnsOf}
 use Rattle.osc_log.specs.Kinds.{kind_of}
 use Rattle.osc_log.specs.Limits.{after_line, limits_at, with_line}
 use Rattle.osc_log.specs.Log.{Event, Says, SaysOf, turned}
 use Rattle.osc_log.specs.Log as log
 use Rattle.osc_log.specs.Sent.{ended_text, line_text, line_told, telling_of, told_by}
-use Rattle.osc_log.specs.Served.{AreStrangers, IsStrangers, IsTold, Serves, StandsIn, lines_by, lines_of}
+use Rattle.osc_log.specs.Served.{IsTold, Serves, StandsIn, lines_by, lines_of}
 use Rattle.osc_log.specs.Time.{IsTime}
 use Rattle.osc_log.specs.Turns.{Telling, Turn}
 use Rattle.osc_log.specs.declared.form.Form.{Form}
 use Rattle.osc_log.specs.declared.held.Held.{Held}
-use Rattle.osc_log.specs.declared.holders.Holder.{Holder}
 use Rattle.osc_log.specs.declared.kind.Kind.{Kind}
 use Rattle.osc_log.specs.declared.limits.Limits.{Limits}
 use Rattle.osc_log.specs.declared.seen.Seen.{Seen}
@@ -77,48 +73,30 @@ stands_itself text = ([], [], sym (append-nil text))
 
 -- of one event
 said_of : (form : Form) (seen : Seen) (turn : Turn) (held : Held) (text : List ℕ) (last : Seen) → Serves turn → SaysOf form seen (turned turn held) text last
-    → (time : List ℕ) × IsTime turn.now time × (StandsIn (lines_of form time seen.holders turn) text ⊎ StandsIn (untold_text form time) text)
-said_of form seen turn held text last serves (log.told same_turn same_held time holders is_time learns) =
-    let telling = telling_of form time seen turn in
+    → (time : List ℕ) × IsTime turn.now time × (StandsIn (lines_of form time turn) text ⊎ StandsIn (untold_text form time) text)
+said_of form seen turn held text last serves (log.told same_turn same_held time is_time) =
+    let telling = telling_of form time in
     let first = told_after telling turn seen.limits turn.step.out serves in
     let hourly = hourly_text telling turn seen.counters held in
     (time, is_time, inl (first.0, hourly, ap (λ (t : List ℕ). t ++ hourly) first.1))
 said_of form seen turn held text last serves (log.untold same_turn same_held time is_time) = (time, is_time, inr (stands_itself (untold_text form time)))
 
 -- either of them, with more said around it
-either : (form : Form) (time : List ℕ) (holders : List Holder) (turn : Turn) (text more : List ℕ) → (StandsIn text more)
-    → StandsIn (lines_of form time holders turn) text ⊎ StandsIn (untold_text form time) text
-    → StandsIn (lines_of form time holders turn) more ⊎ StandsIn (untold_text form time) more
-either form time holders turn text more around (inl lines) = inl (stands_within _ text more lines around)
-either form time holders turn text more around (inr lines) = inr (stands_within _ text more lines around)
+either : (form : Form) (time : List ℕ) (turn : Turn) (text more : List ℕ) → (StandsIn text more)
+    → StandsIn (lines_of form time turn) text ⊎ StandsIn (untold_text form time) text
+    → StandsIn (lines_of form time turn) more ⊎ StandsIn (untold_text form time) more
+either form time turn text more around (inl lines) = inl (stands_within _ text more lines around)
+either form time turn text more around (inr lines) = inr (stands_within _ text more lines around)
 
 pub told_in : (form : Form) (first last : Seen) (before after : List Event) (turn : Turn) (held : Held) (text : List ℕ) → Serves turn
-    → Says form first (before ++ turned turn held ∷ after) text last → IsTold form first before turn text
+    → Says form first (before ++ turned turn held ∷ after) text last → IsTold form turn text
 told_in form first last [] after turn held text serves (log.more a b c event events said others_said p ps) =
     let it = said_of form a turn held said b serves p in
-    record { between = a; said = []; says = log.nothing a; time = it.0; is_time = it.1; stands = either form it.0 a.holders turn said (said ++ others_said) ([], others_said, refl) it.2 }
+    record { time = it.0; is_time = it.1; stands = either form it.0 turn said (said ++ others_said) ([], others_said, refl) it.2 }
 told_in form first last (earlier ∷ before) after turn held text serves (log.more a b c event events said others_said p ps) =
     let it = told_in form b c before after turn held others_said serves ps in
     record {
-      between = it.between;
-      said = said ++ it.said;
-      says = log.more a b it.between earlier before said it.said p it.says;
       time = it.time;
       is_time = it.is_time;
-      stands = either form it.time it.between.holders turn others_said (said ++ others_said) (said, [], sym (append-nil (said ++ others_said))) it.stands;
+      stands = either form it.time turn others_said (said ++ others_said) (said, [], sym (append-nil (said ++ others_said))) it.stands;
     }
-
--- ---- strangers
-
-nothing_learnt : (notes : StepNotes) (old new : List Holder) → notes.drawn ≡ None → Learns notes old new → new ≡ old
-nothing_learnt notes old new none learns = subst (λ (drawn : Option (List ℕ)). LearnsOf drawn notes.opens old new) none learns
-
-same_after : (form : Form) (seen last : Seen) (event : Event) (text : List ℕ) → IsStrangers event → SaysOf form seen event text last → last.holders ≡ seen.holders
-same_after form seen last event text strangers (log.told turn held time holders is_time learns) = nothing_learnt turn.step.notes seen.holders holders strangers.1 learns
-same_after form seen last event text strangers (log.untold turn held time is_time) = refl
-same_after form seen last event text strangers (log.missed now time is_time) = refl
-
-pub same_holders : (form : Form) (first last : Seen) (events : List Event) (text : List ℕ) → AreStrangers events → Says form first events text last → last.holders ≡ first.holders
-same_holders form first last events text strangers (log.nothing seen) = refl
-same_holders form first last events text strangers (log.more a b c event others said others_said p ps) =
-    same_holders form b c others others_said (All-tail IsStrangers event others strangers) ps ∙ same_after form a b event said (All-head IsStrangers event others strangers) p

@@ -4,7 +4,6 @@ use Rattle.std.specs.Io.KnownBytes.{Appends}
 use Rattle.osc_model.specs.declared.node.Moment.{Moment}
 use Rattle.osc_log.specs.Counters.{after_turn, with_lost}
 use Rattle.osc_log.specs.Faults.{IsUnreadText, lost_text, unsaid_text, untold_text}
-use Rattle.osc_log.specs.Holders.{Learns}
 use Rattle.osc_log.specs.Log.{Event, Says, SaysIf, SaysOf, Tells, Told, Writes, counted_by, lost, turned, unseen}
 use Rattle.osc_log.specs.Log as log
 use Rattle.osc_log.specs.Sent.{seen_after, turn_text}
@@ -14,7 +13,6 @@ use Rattle.osc_log.specs.declared.counters.Counters.{Counters}
 use Rattle.osc_log.specs.declared.form.Form.{Form}
 use Rattle.osc_log.specs.declared.form.Form.TheVariants.{Text}
 use Rattle.osc_log.specs.declared.held.Held.{Held}
-use Rattle.osc_log.specs.declared.holders.Holder.{Holder}
 use Rattle.osc_log.specs.declared.seen.Seen.{Seen}
 use Rattle.osc_log.proofs.Appended.{appends_more, appends_none}
 
@@ -116,16 +114,16 @@ pub recounted : (w seen : Seen) (counters counted : Counters) → w ≡ seen →
 recounted w seen counters counted e d =
     ap (λ (c : Counters). record w { counters = c }) d ∙ ap (λ (s : Seen). record s { counters = counted }) e
 
-pub tells_turn : (old new : Told) (turn : Turn) (held : Held) (seen last : Seen) (between : Option (List ℕ)) (time text : List ℕ) (holders : List Holder)
-    → new.form ≡ old.form → old.seen ≡ Some seen → new.seen ≡ Some last → last ≡ seen_after turn holders seen
-    → IsTime turn.now time → Learns turn.step.notes seen.holders holders → text ≡ turn_text old.form time seen turn held
+pub tells_turn : (old new : Told) (turn : Turn) (held : Held) (seen last : Seen) (between : Option (List ℕ)) (time text : List ℕ)
+    → new.form ≡ old.form → old.seen ≡ Some seen → new.seen ≡ Some last → last ≡ seen_after turn seen
+    → IsTime turn.now time → text ≡ turn_text old.form time seen turn held
     → (old.dropped ≡ 0 → between ≡ old.text) → (new.dropped ≡ 0 → (old.dropped ≡ 0) × Appends between new.text text)
     → Tells old new (turned turn held ∷ [])
-tells_turn old new turn held seen last between time text holders form is_old is_new is_last is_time learns is_text untouched written =
+tells_turn old new turn held seen last between time text form is_old is_new is_last is_time is_text untouched written =
     let event = turned turn held in
     tells_this old new event seen last between text form is_old is_new (ap (λ (s : Seen). s.counters) is_last) untouched written
     (subst (SaysOf old.form seen event text) (sym is_last)
-    (subst (λ (t : List ℕ). SaysOf old.form seen event t (seen_after turn holders seen)) (sym is_text) (log.told turn held time holders is_time learns)))
+    (subst (λ (t : List ℕ). SaysOf old.form seen event t (seen_after turn seen)) (sym is_text) (log.told turn held time is_time)))
 
 pub tells_untold : (old new : Told) (turn : Turn) (held : Held) (seen last : Seen) (between : Option (List ℕ)) (time text : List ℕ)
     → new.form ≡ old.form → old.seen ≡ Some seen → new.seen ≡ Some last → last ≡ record seen { counters = after_turn turn seen.counters }

@@ -2,19 +2,19 @@
 use Rattle.std.specs.Prelude.{ℕ, List, Option, Some, None, Result, Ok, Err, codes}
 use Rattle.hex.specs.Hex.{encode_lower}
 use Rattle.serde_json.specs.Data.{Members, number, put, string, unsigned}
-use Rattle.osc_model.specs.{method_of}
+use Rattle.osc_model.specs.{method_of, peer_text}
+use Rattle.osc_model.specs.StepNotes.{StepNotes}
 use Rattle.osc_model.specs.declared.code.Code.{Code}
 use Rattle.osc_model.specs.declared.node.Peer.{Peer}
 use Rattle.osc_model.specs.declared.request.Request.{Request}
 use Rattle.osc_model.specs.declared.step.Datagram.{Datagram}
 use Rattle.osc_model.specs.declared.step.Entry.{Entry}
 use Rattle.osc_model.specs.declared.step.RefusedRequest.{RefusedRequest}
-use Rattle.osc_options.specs.{read_request}
 use Rattle.osc_log.specs.Code.{code_text}
 use Rattle.osc_log.specs.Kinds.{kind_level, kind_words}
 use Rattle.osc_log.specs.Line.{begun_members, object_line}
 use Rattle.osc_log.specs.Turns.{Telling, Turn, code_in}
-use Rattle.osc_log.specs.Words.{method_text, path_text, peer_text, why_words}
+use Rattle.osc_log.specs.Words.{method_text, path_text, why_words}
 use Rattle.osc_log.specs.declared.kind.Kind.{Kind}
 
 -- "level", "peer" and "time"
@@ -24,7 +24,7 @@ to_peer time level peer = put (codes "peer") (string (peer_text peer)) (begun_me
 abbrev pub with_code : ℕ → Members → Members
 with_code code members = put (codes "code") (string (code_text code)) members
 
--- "token": the id of the token in hexadecimal, where it is known
+-- "token": the id of the token in hexadecimal, where there is one
 abbrev pub with_token : Option (List ℕ) → Members → Members
 with_token None members = members
 with_token (Some id) members = put (codes "token") (string (encode_lower id)) members
@@ -40,21 +40,24 @@ with_reason None members = members
 with_reason (Some reason) members = put (codes "reason") (number (unsigned reason)) members
 
 abbrev pub served_members : Option (List ℕ) → Entry → Members → Members
-served_members token entry members = with_code entry.reply.code.0 (with_asked (read_request entry.plaintext) (with_token token members))
+served_members holder entry members = with_code entry.reply.code.0 (with_asked entry.request (with_token holder members))
 
 abbrev pub refused_members : RefusedRequest → Members → Members
 refused_members refused members =
     put (codes "why") (string (why_words refused.code refused.reason)) (with_reason refused.reason (with_code refused.code.0 members))
 
 -- what the step refused or served, or else the code of what it sent
-abbrev pub what_members : Telling → Datagram → Option RefusedRequest → Option Entry → Members
-what_members telling datagram (Some refused) served = refused_members refused (to_peer telling.time (codes "refused") datagram.to)
-what_members telling datagram None (Some entry) = served_members telling.token entry (to_peer telling.time (codes "served") datagram.to)
-what_members telling datagram None None = with_code (code_in datagram.bytes) (to_peer telling.time (codes "sent") datagram.to)
+abbrev pub what_members_of : Telling → Datagram → Option RefusedRequest → Option Entry → Option (List ℕ) → Members
+what_members_of telling datagram (Some refused) served holder = refused_members refused (to_peer telling.time (codes "refused") datagram.to)
+what_members_of telling datagram None (Some entry) holder = served_members holder entry (to_peer telling.time (codes "served") datagram.to)
+what_members_of telling datagram None None holder = with_code (code_in datagram.bytes) (to_peer telling.time (codes "sent") datagram.to)
+
+abbrev pub what_members : Telling → Datagram → StepNotes → Members
+what_members telling datagram notes = what_members_of telling datagram notes.refused notes.served notes.holder
 
 -- the line of a datagram of a turn
 abbrev pub line_text : Telling → Turn → Datagram → List ℕ
-line_text telling turn datagram = object_line (what_members telling datagram turn.step.notes.refused turn.step.notes.served)
+line_text telling turn datagram = object_line (what_members telling datagram turn.step.notes)
 
 -- "left_out": how many lines were, and "what": of which kind
 abbrev pub left_out_text : List ℕ → Kind → ℕ → List ℕ

@@ -4,7 +4,6 @@ pub mod Time
 pub mod Line
 pub mod Words
 pub mod Turns
-pub mod Holders
 pub mod Text
 pub mod Json
 pub mod Counters
@@ -17,9 +16,8 @@ pub mod Served
 pub mod Inner
 pub use Counters.{after_turn, are_due, counted_text, with_lost, with_turn}
 pub use Faults.{IsUnreadText, fault_text, lost_text, unsaid_text, untold_text}
-pub use Holders.{IsTokenId, Learns, token_of}
 pub use Log.{Event, Says, SaysOf, Tells, Told, Writes, counted_by, lost, missed, told, turned, unseen, untold}
-pub use Served.{AreStrangers, IsTold, Serves, lines_of}
+pub use Served.{IsTold, Serves, lines_of}
 pub use Time.{IsTime}
 pub use Sent.{line_text, seen_after, turn_text}
 pub use Turns.{Turn}

@@ -4,7 +4,6 @@ use Rattle.std.specs.Io.KnownBytes.{Appends}
 use Rattle.osc_model.specs.declared.node.Moment.{Moment}
 use Rattle.osc_log.specs.Counters.{after_turn, no_counters, with_lost}
 use Rattle.osc_log.specs.Faults.{lost_text, untold_text}
-use Rattle.osc_log.specs.Holders.{Learns}
 use Rattle.osc_log.specs.Limits.{none_told}
 use Rattle.osc_log.specs.Time.{IsTime}
 use Rattle.osc_log.specs.Sent.{seen_after, turn_text}
@@ -13,7 +12,6 @@ use Rattle.osc_log.specs.declared.counters.Counters.{Counters}
 use Rattle.osc_log.specs.declared.form.Form.{Form}
 use Rattle.osc_log.specs.declared.form.Form.TheVariants.{Text}
 use Rattle.osc_log.specs.declared.held.Held.{Held}
-use Rattle.osc_log.specs.declared.holders.Holder.{Holder}
 use Rattle.osc_log.specs.declared.seen.Seen.{Seen}
 
 -- ---- what it is told
@@ -27,12 +25,12 @@ pub data Event : Type 0 where
 
 -- nothing was seen yet
 abbrev pub nothing_seen : Seen
-nothing_seen = record { limits = none_told 0; counters = no_counters; holders = [] }
+nothing_seen = record { limits = none_told 0; counters = no_counters }
 
 -- what is said of an event by a log that has seen this much, and what it has seen then. There may be no memory for the lines of a turn.
 pub data SaysOf (form : Form) (seen : Seen) : Event → List ℕ → Seen → Type 0 where
-  told : (turn : Turn) (held : Held) (time : List ℕ) (holders : List Holder) → IsTime turn.now time → Learns turn.step.notes seen.holders holders
-      → SaysOf form seen (turned turn held) (turn_text form time seen turn held) (seen_after turn holders seen)
+  told : (turn : Turn) (held : Held) (time : List ℕ) → IsTime turn.now time
+      → SaysOf form seen (turned turn held) (turn_text form time seen turn held) (seen_after turn seen)
   untold : (turn : Turn) (held : Held) (time : List ℕ) → IsTime turn.now time
       → SaysOf form seen (turned turn held) (untold_text form time) (record seen { counters = after_turn turn seen.counters })
   missed : (now : Moment) (time : List ℕ) → IsTime now time

@@ -3,7 +3,6 @@ use Rattle.std.specs.Prelude.{ℕ, ◌==◌, ◌/◌, if◌then◌else◌, List,
 use Rattle.osc_model.specs.declared.node.Moment.{Moment}
 use Rattle.osc_model.specs.declared.step.Datagram.{Datagram}
 use Rattle.osc_log.specs.Counters.{after_turn, hourly_text}
-use Rattle.osc_log.specs.Holders.{token_served}
 use Rattle.osc_log.specs.Json as json
 use Rattle.osc_log.specs.Kinds.{kind_of}
 use Rattle.osc_log.specs.Limits.{after_line, is_told, limits_at}
@@ -12,7 +11,6 @@ use Rattle.osc_log.specs.Turns.{Telling, Turn}
 use Rattle.osc_log.specs.declared.form.Form.{Form}
 use Rattle.osc_log.specs.declared.form.Form.TheVariants.{Text, Json}
 use Rattle.osc_log.specs.declared.held.Held.{Held}
-use Rattle.osc_log.specs.declared.holders.Holder.{Holder}
 use Rattle.osc_log.specs.declared.kind.Kind.{Kind}
 use Rattle.osc_log.specs.declared.kind.Kind.TheVariants as kind
 use Rattle.osc_log.specs.declared.limits.Limits.{Limits}
@@ -66,14 +64,14 @@ after_lines turn limits (datagram ∷ out) = after_lines turn (after_line turn l
 -- ---- a turn
 
 -- a turn is told in this form, at this time
-abbrev pub telling_of : Form → List ℕ → Seen → Turn → Telling
-telling_of form time seen turn = record { form = form; time = time; token = token_served turn.step.notes.served seen.holders }
+abbrev pub telling_of : Form → List ℕ → Telling
+telling_of form time = record { form = form; time = time }
 
 -- what is told of a turn at this time: its lines, and then the counters, where these are due
 abbrev pub turn_text : Form → List ℕ → Seen → Turn → Held → List ℕ
 turn_text form time seen turn held =
-    told_by (telling_of form time seen turn) turn seen.limits turn.step.out ++ hourly_text (telling_of form time seen turn) turn seen.counters held
+    told_by (telling_of form time) turn seen.limits turn.step.out ++ hourly_text (telling_of form time) turn seen.counters held
 
--- what the log has seen after it, where it has learnt these holders
-abbrev pub seen_after : Turn → List Holder → Seen → Seen
-seen_after turn holders seen = record { limits = after_lines turn seen.limits turn.step.out; counters = after_turn turn seen.counters; holders = holders }
+-- what the log has seen after it
+abbrev pub seen_after : Turn → Seen → Seen
+seen_after turn seen = record { limits = after_lines turn seen.limits turn.step.out; counters = after_turn turn seen.counters }

@@ -1,18 +1,10 @@
 -- What lines say of a request.
-use Rattle.std.specs.Prelude.{ℕ, ◌==◌, ◌&&◌, nat_le, if◌then◌else◌, List, ◌++◌, map, Option, Some, None, codes, decimal}
-use Rattle.std.specs.Net.Text.{ipv4_text}
+use Rattle.std.specs.Prelude.{ℕ, ◌==◌, ◌&&◌, nat_le, if◌then◌else◌, List, map, Option, Some, None, codes}
 use Rattle.osc_model.specs.Refusals as refusal
 use Rattle.osc_model.specs.declared.code.Code.{Code}
 use Rattle.osc_model.specs.declared.code.Method.{Method}
-use Rattle.osc_model.specs.declared.node.Peer.{Peer}
 use Rattle.osc_scope.specs.{name_of}
 use Rattle.osc_log.specs.Code.{code_text}
-
--- ---- who
-
--- A.B.C.D:PORT
-abbrev pub peer_text : Peer → List ℕ
-peer_text peer = ipv4_text peer.address ++ codes ":" ++ decimal peer.port
 
 -- ---- what was asked
 

@@ -1,6 +1,5 @@
 //! Lines of JSON, each one object.
 ghost use Rattle.std.specs.Prelude.{◌≡◌, IfOk, Ok, option_map};
-ghost use Rattle.osc_options.specs.{read_request};
 ghost use Rattle.osc_log.specs.Inner.Objects.{members_of};
 ghost use Rattle.osc_log.specs.Json as spec;
 ghost use Rattle.osc_log.specs.Turns.{code_in as code_of};
@@ -9,12 +8,11 @@ use crate::code::CodeText;
 use crate::kind::Kind;
 use crate::object::Object;
 use crate::turn::{Telling, Turn};
-use crate::words::{method_text, path_text, peer_text, why_words};
-use osc_model::{Datagram, Entry, Peer, RefusedRequest, Request};
-use osc_options::request_in;
+use crate::words::{method_text, path_text, why_words};
+use osc_model::{Code, Datagram, Entry, Peer, RefusedRequest, Request};
 use std::alloc::{AllocError, Global};
 
-/// The object of a datagram that the turn sent, on a line. Nothing of a payload, a token or a key is in it.
+/// The object of a datagram that the turn sent, on a line. Nothing of a payload, a token but its id, or a key is in it.
 pub(crate) fn line_text(
     alloc: Global,
     telling: &Telling<'_>,
@@ -33,7 +31,7 @@ fn what_object(
     turn: &Turn<'_>,
     datagram: &Datagram,
 ) -> Result<Object, AllocError>
-    ensures { IfOk result (λ o. members_of o ≡ spec.what_members telling.entry.now datagram.now turn.entry.now.step.notes.refused turn.entry.now.step.notes.served) }
+    ensures { IfOk result (λ o. members_of o ≡ spec.what_members telling.entry.now datagram.now turn.entry.now.step.notes) }
 {
     match (turn.refused(), turn.served()) {
         (Some(refused), _) => {
@@ -42,7 +40,7 @@ fn what_object(
         }
         (None, Some(entry)) => {
             let o = to_peer(alloc, telling.time(), "served", datagram.to)?;
-            served_object(alloc, o, telling.token(), entry)
+            served_object(alloc, o, turn.holder(), entry)
         }
         (None, None) => {
             let o = to_peer(alloc, telling.time(), "sent", datagram.to)?;
@@ -60,7 +58,7 @@ fn code_in(bytes: &[u8]) -> u8
 fn to_peer(alloc: Global, time: &str, level: &str, peer: Peer) -> Result<Object, AllocError>
     ensures { IfOk result (λ o. members_of o ≡ spec.to_peer time.now level.now peer) }
 {
-    let peer = peer_text(alloc, peer)?;
+    let peer = peer.to_string(alloc)?;
     Object::begun(alloc, time, level)?.with_text(alloc, "peer", &peer)
 }
 
@@ -76,13 +74,13 @@ fn with_code(alloc: Global, o: Object, code: u8) -> Result<Object, AllocError>
 fn served_object(
     alloc: Global,
     o: Object,
-    token: Option<&[u8]>,
+    holder: Option<&[u8]>,
     entry: &Entry,
 ) -> Result<Object, AllocError>
-    ensures { IfOk result (λ more. members_of more ≡ spec.served_members (option_map (λ id. id.now) token.entry) entry.now (members_of o)) }
+    ensures { IfOk result (λ more. members_of more ≡ spec.served_members (option_map (λ id. id.now) holder.entry) entry.now (members_of o)) }
 {
-    let o = with_token(alloc, o, token)?;
-    let o = with_asked(alloc, o, entry.plaintext.as_slice())?;
+    let o = with_token(alloc, o, holder)?;
+    let o = with_asked(alloc, o, &entry.request)?;
     with_code(alloc, o, entry.reply.code.0)
 }
 
@@ -99,11 +97,11 @@ fn with_token(alloc: Global, o: Object, token: Option<&[u8]>) -> Result<Object, 
 }
 
 // The method and the path of what was opened.
-fn with_asked(alloc: Global, o: Object, plaintext: &[u8]) -> Result<Object, AllocError>
-    ensures { IfOk result (λ more. members_of more ≡ spec.with_asked (read_request plaintext.now) (members_of o)) }
+fn with_asked(alloc: Global, o: Object, asked: &Result<Request, Code>) -> Result<Object, AllocError>
+    ensures { IfOk result (λ more. members_of more ≡ spec.with_asked asked.now (members_of o)) }
 {
-    match request_in(alloc, plaintext)? {
-        Ok(request) => with_request(alloc, o, &request),
+    match asked {
+        Ok(request) => with_request(alloc, o, request),
         Err(_) => Ok(o),
     }
 }

@@ -2,7 +2,7 @@
 
 ghost use Rattle.std.specs.Prelude.{◌≡◌, ℕ, List, [], ◌∷◌, ◌++◌};
 ghost use Rattle.osc_log.specs.Log.{Event, Says, Tells, Told as AnyLog, turned};
-ghost use Rattle.osc_log.specs.Served.{AreStrangers, IsTold, Serves};
+ghost use Rattle.osc_log.specs.Served.{IsTold, Serves};
 ghost use Rattle.osc_log.specs.Turns.{Turn as AnyTurn};
 ghost use Rattle.osc_log.specs.declared.form.Form.{Form as AnyForm};
 ghost use Rattle.osc_log.specs.declared.held.Held.{Held as AnyHeld};
@@ -15,10 +15,8 @@ pub fn telling_goes_on()
 {}
 
 /// The lines of what is served stand in what a log said, whatever it was told before, and however much: each datagram of such a turn has its line, unless
-/// there was no memory for it. Strangers don't change what it says, which is by whom posts have made contexts.
+/// there was no memory for it.
 pub fn what_is_served_is_told()
-    ensures told { (form : AnyForm) (first last : AnySeen) (before after : List Event) (turn : AnyTurn) (held : AnyHeld) (text : List ℕ)
-        → Serves turn → Says form first (before ++ turned turn held ∷ after) text last → IsTold form first before turn text }
-    ensures strangers { (form : AnyForm) (first last : AnySeen) (events : List Event) (text : List ℕ)
-        → AreStrangers events → Says form first events text last → last.holders ≡ first.holders }
+    ensures { (form : AnyForm) (first last : AnySeen) (before after : List Event) (turn : AnyTurn) (held : AnyHeld) (text : List ℕ)
+        → Serves turn → Says form first (before ++ turned turn held ∷ after) text last → IsTold form turn text }
 {}

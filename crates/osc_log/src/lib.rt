@@ -8,7 +8,6 @@ mod counting;
 mod faults;
 mod form;
 mod held;
-mod holders;
 mod json;
 mod kind;
 pub mod laws;

@@ -105,7 +105,7 @@ pub struct Lines<W: Write + Drop> {
 
 impl<W: Write + Drop> Lines<W> {
     /// Lines of this form, which this writer takes.
-    pub fn new(alloc: Global, form: Form, writer: W) -> Lines<W>
+    pub fn new(form: Form, writer: W) -> Lines<W>
         ensures form { result.form ≡ form }
         ensures writer { result.writer ≡ writer }
         ensures seen { result.seen ≡ spec.nothing_seen }
@@ -114,7 +114,7 @@ impl<W: Write + Drop> Lines<W> {
         Lines {
             form,
             writer,
-            seen: Seen::nothing(alloc),
+            seen: Seen::nothing(),
             dropped: 0,
             told_dropped: 0,
         }

@@ -1,18 +1,16 @@
 //! Lines of text.
-ghost use Rattle.std.specs.Prelude.{◌≡◌, IfOk, None, Ok, string_bytes};
-ghost use Rattle.osc_options.specs.{read_request};
+ghost use Rattle.std.specs.Prelude.{◌≡◌, ◌++◌, IfOk, Ok, option_map, string_bytes};
 ghost use Rattle.osc_log.specs.Text as spec;
 
 use crate::code::CodeText;
 use crate::kind::Kind;
 use crate::turn::Turn;
-use crate::words::{code_words, method_text, path_text, peer_text, reason_words};
+use crate::words::{code_words, method_text, path_text, reason_words};
 use osc_model::{Code, Datagram, Entry, Moment, Peer, RefusedRequest, Request};
-use osc_options::request_in;
 use std::alloc::{AllocError, Global};
 
-/// `MOMENT A.B.C.D:PORT WHAT` for a datagram that a turn sent, where WHAT is `refused CODE: WHY`, `served METHOD PATH: CODE` or else
-/// `sent CODE`. Nothing of a payload or a key is in it.
+/// `MOMENT A.B.C.D:PORT WHAT` for a datagram that a turn sent, where WHAT is `refused CODE: WHY`, `served METHOD PATH: CODE by ID` or else
+/// `sent CODE`, with ` by ID` where it answers a post that was agreed to. The ID is that of the token. Nothing of a payload or a key is in it.
 pub(crate) fn line_text(
     alloc: Global,
     turn: &Turn<'_>,
@@ -33,27 +31,63 @@ fn who_text(alloc: Global, now: Moment, peer: Peer) -> Result<String, AllocError
     ensures { IfOk result (λ text. string_bytes text ≡ spec.who_text now peer) }
 {
     let ms = now.ms;
-    let peer = peer_text(alloc, peer)?;
     format!(in alloc; "{ms} {peer} ")
 }
 
 // What the turn refused or served, or else what it sent.
 fn what_text(alloc: Global, turn: &Turn<'_>, bytes: &[u8]) -> Result<Vec<u8>, AllocError>
-    ensures { IfOk result (λ text. text.items ≡ spec.what_text turn.entry.now.step.notes.refused turn.entry.now.step.notes.served bytes.now) }
+    ensures { IfOk result (λ text. text.items ≡ spec.what_text turn.entry.now.step.notes bytes.now) }
 {
     match (turn.refused(), turn.served()) {
         (Some(refused), _) => refused_text(alloc, refused),
-        (None, Some(entry)) => served_text(alloc, entry),
-        (None, None) => sent_text(alloc, bytes),
+        (None, Some(entry)) => named(alloc, served_text(alloc, entry)?, turn.holder()),
+        (None, None) => named(alloc, sent_text(alloc, bytes)?, turn.holder()),
     }
 }
 
 fn sent_text(alloc: Global, bytes: &[u8]) -> Result<Vec<u8>, AllocError>
-    ensures { IfOk result (λ text. text.items ≡ spec.what_text None None bytes.now) }
+    ensures { IfOk result (λ text. text.items ≡ spec.sent_text bytes.now) }
 {
     let code = CodeText(bytes.get(1).copied().unwrap_or(0));
     let text = format!(in alloc; "sent {code}")?;
     Vec::from_slice(alloc, text.as_bytes())
+}
+
+// ---- by whose token
+
+// The text, and after it by whose token that was, where there is one.
+fn named(alloc: Global, mut text: Vec<u8>, holder: Option<&[u8]>) -> Result<Vec<u8>, AllocError>
+    ensures { IfOk result (λ more. more.items ≡ text.items ++ spec.by_text (option_map (λ id. id.now) holder.entry)) }
+{
+    let by = by_text(alloc, holder)?;
+    text.extend_from_slice(&by)?;
+    Ok(text)
+}
+
+// ` by ID`, where there is one.
+fn by_text(alloc: Global, holder: Option<&[u8]>) -> Result<Vec<u8>, AllocError>
+    ensures { IfOk result (λ text. text.items ≡ spec.by_text (option_map (λ id. id.now) holder.entry)) }
+{
+    match holder {
+        Some(id) => {
+            let id = id_text(alloc, id)?;
+            let mut text = Vec::from_slice(alloc, b" by ")?;
+            text.extend_from_slice(&id)?;
+            Ok(text)
+        }
+        None => Ok(Vec::new(alloc)),
+    }
+}
+
+// The id in hexadecimal, or `-` where it has no byte.
+fn id_text(alloc: Global, id: &[u8]) -> Result<Vec<u8>, AllocError>
+    ensures { IfOk result (λ text. text.items ≡ spec.id_text id.now) }
+{
+    if id.is_empty() {
+        return Vec::from_slice(alloc, b"-");
+    }
+    let digits = hex::encode(alloc, id)?;
+    Vec::from_slice(alloc, digits.as_bytes())
 }
 
 // ---- what was served
@@ -61,7 +95,7 @@ fn sent_text(alloc: Global, bytes: &[u8]) -> Result<Vec<u8>, AllocError>
 fn served_text(alloc: Global, entry: &Entry) -> Result<Vec<u8>, AllocError>
     ensures { IfOk result (λ text. text.items ≡ spec.served_text entry.now) }
 {
-    let asked = asked_text(alloc, entry.plaintext.as_slice())?;
+    let asked = asked_text(alloc, &entry.request)?;
     let code = CodeText(entry.reply.code.0);
     let answered = format!(in alloc; ": {code}")?;
     let mut text = Vec::from_slice(alloc, b"served ")?;
@@ -71,11 +105,11 @@ fn served_text(alloc: Global, entry: &Entry) -> Result<Vec<u8>, AllocError>
 }
 
 // The method and the path of what was opened.
-fn asked_text(alloc: Global, plaintext: &[u8]) -> Result<Vec<u8>, AllocError>
-    ensures { IfOk result (λ text. text.items ≡ spec.asked_text (read_request plaintext.now)) }
+fn asked_text(alloc: Global, asked: &Result<Request, Code>) -> Result<Vec<u8>, AllocError>
+    ensures { IfOk result (λ text. text.items ≡ spec.asked_text asked.now) }
 {
-    match request_in(alloc, plaintext)? {
-        Ok(request) => request_text(alloc, &request),
+    match asked {
+        Ok(request) => request_text(alloc, request),
         Err(_) => Vec::from_slice(alloc, b"what is no request"),
     }
 }

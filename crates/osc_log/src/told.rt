@@ -1,10 +1,8 @@
 //! What is told of a turn: its lines, but for some lines where there are many of their kind, and counters where they are due.
 ghost use Rattle.std.specs.Prelude.{◌≡◌, ◌++◌, IfOk, List, OnErr, OnOk, ℕ};
-ghost use Rattle.osc_log.specs.Holders.{Learns};
 ghost use Rattle.osc_log.specs.Limits.{after_line};
 ghost use Rattle.osc_log.specs.Time.{IsTime};
 ghost use Rattle.osc_log.specs.Sent as spec;
-ghost use Rattle.osc_log.specs.declared.holders.Holder.{Holder as AnyHolder};
 
 use crate::counting::hourly_text;
 use crate::form::Form;
@@ -26,14 +24,12 @@ pub(crate) fn told_text<N: Holds>(
     node: &N,
     seen: &mut Seen,
 ) -> Result<Vec<u8>, AllocError>
-    ensures ok { IfOk result (λ told. (time : List ℕ) × (holders : List AnyHolder) × IsTime turn.entry.now.now time
-        × Learns turn.entry.now.step.notes seen.old.holders holders
+    ensures ok { IfOk result (λ told. (time : List ℕ) × IsTime turn.entry.now.now time
         × (told.items ≡ spec.turn_text form time seen.old turn.entry.now (N.held node.now))
-        × (seen.new ≡ record { limits = spec.after_lines turn.entry.now seen.old.limits turn.entry.now.step.out; counters = seen.old.counters; holders = holders })) }
+        × (seen.new ≡ record { limits = spec.after_lines turn.entry.now seen.old.limits turn.entry.now.step.out; counters = seen.old.counters })) }
     ensures err { OnErr result (seen.new ≡ seen.old) }
 {
     let text = text_of(alloc, form, turn, node, seen)?;
-    seen.holders.learn(alloc, turn.notes())?;
     seen.limits = after_lines(turn, seen.limits);
     Ok(text)
 }
@@ -63,11 +59,7 @@ fn text_at<N: Holds>(
 ) -> Result<Vec<u8>, AllocError>
     ensures { IfOk result (λ told. told.items ≡ spec.turn_text form time.now seen.now turn.entry.now (N.held node.now)) }
 {
-    let telling = Telling {
-        form,
-        time,
-        token: seen.holders.token_served(turn.served()),
-    };
+    let telling = Telling { form, time };
     let mut text = told_by(alloc, &telling, turn, seen.limits)?;
     add(
         &mut text,

@@ -60,6 +60,13 @@ impl Turn<'_> {
         self.step.notes.served()
     }
 
+    /// By whose token: the id of the token that a post was agreed to with, or that made the context of what was served.
+    pub(crate) fn holder(&self) -> Option<&[u8]>
+        ensures { option_map (λ id. id.now) result ≡ self.entry.now.step.notes.holder }
+    {
+        self.step.notes.holder()
+    }
+
     /// What the step refused.
     pub(crate) fn refused(&self) -> Option<RefusedRequest>
         ensures { result ≡ self.entry.now.step.notes.refused }
@@ -68,21 +75,19 @@ impl Turn<'_> {
     }
 }
 
-/// How a turn is told: in which form, at which time, and with which token id of whoever was served, where that is known.
+/// How a turn is told: in which form, and at which time.
 #[derive(Drop)]
 pub(crate) struct Telling<'a> {
     pub form: Form,
     pub time: &'a str,
-    pub token: Option<&'a [u8]>,
 }
 
 impl<'a> Model for Telling<'a> {
-    ghost use Rattle.std.specs.Prelude.{option_copied};
     ghost use Rattle.osc_log.specs.Turns.{Telling as Told};
 
     ghost Value = { Told };
 
-    ghost view = { λ telling. record { form = telling.form; time = telling.time.now; token = option_copied telling.token } };
+    ghost view = { λ telling. record { form = telling.form; time = telling.time.now } };
 }
 
 impl Telling<'_> {
@@ -98,12 +103,5 @@ impl Telling<'_> {
         ensures { result.now ≡ self.entry.now.time }
     {
         self.time
-    }
-
-    /// With which token id.
-    pub(crate) fn token(&self) -> Option<&[u8]>
-        ensures { option_map (λ id. id.now) result ≡ self.entry.now.token }
-    {
-        self.token
     }
 }

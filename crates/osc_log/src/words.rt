@@ -5,20 +5,8 @@ ghost use Rattle.osc_scope.specs.{name_of};
 ghost use Rattle.osc_log.specs.Words as spec;
 
 use crate::code::CodeText;
-use osc_model::{Code, Method, Path, Peer, refusals};
+use osc_model::{Code, Method, Path, refusals};
 use std::alloc::{AllocError, Global};
-use std::net::Ipv4Addr;
-
-// ---- who
-
-/// `A.B.C.D:PORT`.
-pub(crate) fn peer_text(alloc: Global, peer: Peer) -> Result<String, AllocError>
-    ensures { IfOk result (λ text. string_bytes text ≡ spec.peer_text peer) }
-{
-    let address = Ipv4Addr::from_octets(peer.address);
-    let port = peer.port;
-    format!(in alloc; "{address}:{port}")
-}
 
 // ---- what was asked
 

@@ -1,5 +1,5 @@
 -- A tick sends at most as many datagrams as there are open messages.
-use Rattle.std.proofs.Common.{ℕ, ◌≤◌, suc, List, [], ◌∷◌, ◌++◌, length, ap, inl, inr, arith}
+use Rattle.std.proofs.Common.{ℕ, ◌≤◌, suc, Bool, true, false, List, [], ◌∷◌, ◌++◌, length, ap, arith}
 use Rattle.std.specs.List.{filter_map}
 use Rattle.osc_model.specs.declared.node.Moment.{Moment}
 use Rattle.osc_message.specs.declared.due.Due.{Due}
@@ -23,6 +23,6 @@ few_of now all earlier (message ∷ later) =
 pub few_are_sent : (now : Moment) (all : List Open) → length (tick_sends now all) ≤ length all
 few_are_sent now all = few_of now all [] all
 
-pub going_few : (now : Moment) (all : List Open) (out : List Datagram) → GoesOut (tick_sends now all) out → length out ≤ length all
-going_few now all out (inl is) = omega (arith, few_are_sent now all, ap length is)
-going_few now all out (inr is) = omega (arith, ap length is)
+pub going_few : (now : Moment) (all : List Open) (lost : Bool) (out : List Datagram) → GoesOut lost (tick_sends now all) out → length out ≤ length all
+going_few now all false out is = omega (arith, few_are_sent now all, ap length is)
+going_few now all true out is = omega (arith, ap length is)

@@ -11,7 +11,8 @@ use Rattle.osc_model.specs.declared.node.Moment.{Moment}
 use Rattle.osc_model.specs.declared.node.Peer.{Peer}
 use Rattle.osc_message.specs.declared.due.Due.{Due}
 use Rattle.osc_message.specs.declared.due.Due.TheVariants.{Keep, Send, GiveUp}
-use Rattle.osc_message.specs.{Sent, Open, same_peer, is_to, is_outstanding, has_open, has_outstanding, waiting, peers_of, takes, sent_at, with_open, outstanding_due, waiting_due, due_of, dues, after, ticked, IsWithinLimits}
+use Rattle.osc_model.specs.{same_peer}
+use Rattle.osc_message.specs.{Sent, Open, is_to, is_outstanding, has_open, has_outstanding, waiting, peers_of, takes, sent_at, with_open, outstanding_due, waiting_due, due_of, dues, after, ticked, IsWithinLimits}
 use Rattle.osc_message.proofs.Peers.{same_peer_equiv, any_peers, peers_distinct, weight}
 
 -- ---- counts, by recursion

@@ -7,7 +7,8 @@ use Rattle.std.proofs.lemmas.List.Sums.{sum_by-cons}
 use Rattle.osc_model.specs.declared.node.Moment.{Moment}
 use Rattle.osc_model.specs.declared.node.Peer.{Peer}
 use Rattle.osc_message.specs.declared.queued.Queued.{Queued}
-use Rattle.osc_message.specs.{Open, same_peer, is_to, is_named, has_open, peers_of, IsBounded, due_of, dues, messages, IsMarkedFor, AreMarked, marked_one, marked}
+use Rattle.osc_model.specs.{same_peer}
+use Rattle.osc_message.specs.{Open, is_to, is_named, has_open, peers_of, IsBounded, due_of, dues, messages, IsMarkedFor, AreMarked, marked_one, marked}
 use Rattle.osc_message.proofs.Limits.{weight_is, open_push, open_same}
 use Rattle.osc_message.proofs.Peers.{same_peer_equiv, length_peers, weight}
 

@@ -4,7 +4,8 @@ use Rattle.std.specs.Cmp.{IsEquivalence}
 use Rattle.std.specs.Cmp.Rules.{comparing}
 use Rattle.std.specs.List.{list_any, IsDistinct, AllByRecursion}
 use Rattle.osc_model.specs.declared.node.Peer.{Peer}
-use Rattle.osc_message.specs.{Open, same_peer, has_open, peers_of}
+use Rattle.osc_model.specs.{same_peer}
+use Rattle.osc_message.specs.{Open, has_open, peers_of}
 
 pub same_peer_equiv : IsEquivalence same_peer
 same_peer_equiv = search (comparing, rules)

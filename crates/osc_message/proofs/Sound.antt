@@ -1,5 +1,5 @@
 -- What holds of the open messages at all times.
-use Rattle.std.proofs.Common.{◌≡◌, ℕ, ◌<◌, ◌≤◌, Bool, true, false, cond, ltb, List, [], ◌∷◌, ◌++◌, length, length-append, filter, refl, ap, sym, subst, ◌∙◌, inl, inr, Option, Some, None, arith}
+use Rattle.std.proofs.Common.{◌≡◌, ℕ, ◌<◌, ◌≤◌, Bool, true, false, cond, ltb, List, [], ◌∷◌, ◌++◌, length, length-append, filter, refl, ap, sym, subst, ◌∙◌, Option, Some, None, arith}
 use Rattle.std.specs.List.{All, filter_map, zip, cons_option}
 use Rattle.std.proofs.lemmas.Bool.{ltb-true}
 use Rattle.std.proofs.lemmas.List.Elements.{All-nil, All-cons, All-head, All-tail, All-push, All-filter}
@@ -130,6 +130,6 @@ room_for_one to all taken sound =
     let more : length (with_open now to 0 0 [] all) ≤ 1088 = most_messages (with_open now to 0 0 [] all) (limits_push now to 0 0 [] all taken sound.limits) in
     omega (arith, more, length-append all ((record { to = to; id = 0; timeout = 0; bytes = []; sent = sent_at now (has_open to all) }) ∷ []))
 
-pub going_out_fits : (now : Moment) (all : List Open) (out : List Datagram) → IsSound all → GoesOut (tick_sends now all) out → AreSendable out
-going_out_fits now all out sound (inl is) = subst AreSendable (sym is) (ticks_fit now all sound)
-going_out_fits now all out sound (inr is) = subst AreSendable (sym is) (All-nil (λ sent. FitsDatagram sent.bytes))
+pub going_out_fits : (now : Moment) (all : List Open) (lost : Bool) (out : List Datagram) → IsSound all → GoesOut lost (tick_sends now all) out → AreSendable out
+going_out_fits now all false out sound is = subst AreSendable (sym is) (ticks_fit now all sound)
+going_out_fits now all true out sound is = subst AreSendable (sym is) (All-nil (λ sent. FitsDatagram sent.bytes))

@@ -1,6 +1,7 @@
 -- Confirmable messages that are open, in the order in which they were made (RFC 7252 sections 4.2, 4.7 and 4.8).
-use Rattle.std.specs.Prelude.{ℕ, Bool, ◌&&◌, not, nat_eq, nat_lt, bytes_eq, if◌then◌else◌, List, [], ◌∷◌, ◌++◌, length, filter, count_by, Option, Some, None, is_some}
+use Rattle.std.specs.Prelude.{ℕ, Bool, ◌&&◌, not, nat_eq, nat_lt, if◌then◌else◌, List, [], ◌∷◌, ◌++◌, length, filter, count_by, Option, Some, None, is_some}
 use Rattle.std.specs.List.{list_any}
+use Rattle.osc_model.specs.{same_peer}
 use Rattle.osc_model.specs.declared.bytes.Bytes.{Bytes}
 use Rattle.osc_model.specs.declared.node.Moment.{Moment}
 use Rattle.osc_model.specs.declared.node.Peer.{Peer}
@@ -15,9 +16,6 @@ Sent = SentMessage
 -- timeout in ms and its bytes
 abbrev pub Open : Type 0
 Open = OpenMessage
-
-abbrev pub same_peer : Peer → Peer → Bool
-same_peer a b = bytes_eq a.address b.address && nat_eq a.port b.port
 
 abbrev pub is_to : Peer → Open → Bool
 is_to peer message = same_peer peer message.to

@@ -1,6 +1,6 @@
 -- The state of a node's message layer, and what each call makes of it (RFC 7252 section 4).
 use Rattle.std.specs.Prelude.{ℕ, ◌+◌, ◌%◌, List, [], Option, Some, None}
-use Rattle.osc_model.specs.{message_id_drawn}
+use Rattle.osc_model.specs.{exchange_lifetime, message_id_drawn, non_lifetime}
 use Rattle.osc_model.specs.declared.bytes.Bytes.{Bytes}
 use Rattle.osc_model.specs.declared.node.Draw.{Draw}
 use Rattle.osc_model.specs.declared.node.Moment.{Moment}
@@ -36,10 +36,10 @@ id_taken draw state = record state { next_id = Some ((own_id draw state.next_id 
 
 -- ---- what was heard is settled
 
--- EXCHANGE_LIFETIME and NON_LIFETIME in ms (section 4.8.2)
+-- how long a note of one lives, in ms (section 4.8.2)
 abbrev pub lifetime : Kind → ℕ
-lifetime Confirmable = 247000
-lifetime kind = 145000
+lifetime Confirmable = exchange_lifetime
+lifetime kind = non_lifetime
 
 -- one noted, until its lifetime ends; acknowledgements can't be repeated and aren't
 abbrev pub noted : Moment → Peer → Kind → ℕ → Option Bytes → List Entry → List Entry

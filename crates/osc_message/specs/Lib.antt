@@ -12,7 +12,7 @@ pub mod Timeout
 pub mod Schedule
 pub mod Outbox
 pub use Bounds.{AreShort, IsBounded, IsBoundedSent, IsSound, is_reached, most_open}
-pub use Confirmables.{Open, Sent, acknowledged, has_open, has_outstanding, is_named, is_outstanding, is_to, peers_of, same_peer, sent_at, takes, waiting, with_open}
+pub use Confirmables.{Open, Sent, acknowledged, has_open, has_outstanding, is_named, is_outstanding, is_to, peers_of, sent_at, takes, waiting, with_open}
 pub use Endpoint.{EndpointState, acknowledged_by, after_tick, fresh, id_taken, noted, own_id, settled}
 pub use Heard.{AnswersAlone, IsAlone, IsSendableHeard, empty_heard, heard, ignores, is_reserved, new_or_repeated, noted_reply, rejected, rejects, repeats}
 pub use Limits.{IsWithinLimits}

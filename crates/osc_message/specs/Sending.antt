@@ -1,5 +1,5 @@
 -- Messages that every node sends (RFC 7252 sections 4.2, 4.3 and 5.2), and their datagrams.
-use Rattle.std.specs.Prelude.{◌≡◌, ◌⊎◌, ℕ, ◌≤◌, Bool, true, false, if◌then◌else◌, List, [], ◌∷◌, length, Option, Some, None, IfSome}
+use Rattle.std.specs.Prelude.{◌≡◌, ℕ, ◌≤◌, Bool, true, false, if◌then◌else◌, List, [], ◌∷◌, length, Option, Some, None, IfSome}
 use Rattle.std.specs.List.{All}
 use Rattle.osc_model.specs.declared.bytes.Bytes.{Bytes}
 use Rattle.osc_model.specs.declared.node.Draw.{Draw}
@@ -73,9 +73,10 @@ abbrev pub again : Peer → Option Bytes → List Datagram
 again from None = []
 again from (Some bytes) = (record { to = from; bytes = bytes }) ∷ []
 
--- What is due is sent, all of it, in order. Without memory for it nothing is: it is lost, as on the way.
-abbrev pub GoesOut : List Datagram → List Datagram → Type 0
-GoesOut due out = (out ≡ due) ⊎ (out ≡ [])
+-- What is due is sent, all of it, in order. Without memory for it nothing is: it is lost, as on the way, and said to be.
+abbrev pub GoesOut : Bool → List Datagram → List Datagram → Type 0
+GoesOut false due out = out ≡ due
+GoesOut true due out = out ≡ []
 
 -- ---- how long they are
 

@@ -302,12 +302,12 @@ impl<const PLACES: usize> Endpoint<PLACES> {
     }
 
     /// Sends what is due at this moment, gives up what nobody acknowledged, and lets the notes go whose lifetime has ended. Memory is
-    /// taken for what is sent alone: without it that is lost, as on the way, and all else is done.
+    /// taken for what is sent alone: without it that is lost, as on the way, which it says, and all else is done.
     ///
     /// The work grows with the number of open messages, and so again for each one that goes out for the first time or is given
     /// up: at most one for each peer.
     pub fn on_tick(&mut self, alloc: Global, now: Moment) -> Ticked
-        ensures sent { GoesOut (tick_sends now self.old.sending) result.out }
+        ensures sent { GoesOut result.lost (tick_sends now self.old.sending) result.out }
         ensures fits { AreSendable result.out }
         ensures few { length result.out ≤ length self.old.sending }
         ensures given_up { result.given_up.items ≡ tick_gives_up now self.old.sending }

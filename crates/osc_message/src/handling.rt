@@ -1,5 +1,6 @@
 //! What a node made of a message, and what that changes.
 ghost use Rattle.std.specs.Prelude.{◌≡◌, ◌≤◌, vec_len, vec_capacity};
+ghost use Rattle.osc_model.specs.{exchange_lifetime};
 ghost use Rattle.osc_message.specs.Bounds.{AreShort};
 ghost use Rattle.osc_message.specs.Queue.{IsSoundQueue, messages};
 ghost use Rattle.osc_message.specs.Endpoint.{lifetime as lifetime_of, noted, acknowledged_by, handled_seen, handled_sending};
@@ -9,6 +10,7 @@ use crate::confirmable::acknowledge;
 use crate::queued::Queued;
 use osc_coap::{Kind, MessageRef};
 use osc_dedup::{Duplicates, Noted};
+use osc_model::limits::{EXCHANGE_LIFETIME, NON_LIFETIME};
 use osc_model::{Bytes, Moment, Peer};
 
 /// What a node made of a message that was new. The message layer knows no tokens: by this it settles what it heard.
@@ -26,11 +28,11 @@ pub enum Handling {
 /// How long a note of a message of this kind lives, in ms (RFC 7252 section 4.8.2).
 fn lifetime(kind: Kind) -> u64
     ensures value { result ≡ lifetime_of kind }
-    ensures small { result ≤ 247000 }
+    ensures small { result ≤ exchange_lifetime }
 {
     match kind {
-        Kind::Confirmable => 247_000,
-        _ => 145_000,
+        Kind::Confirmable => EXCHANGE_LIFETIME,
+        _ => NON_LIFETIME,
     }
 }
 

@@ -8,7 +8,7 @@ ghost use Rattle.osc_model.specs.declared.node.Moment.{Moment as AnyMoment};
 ghost use Rattle.osc_model.specs.declared.node.Peer.{Peer as AnyPeer};
 ghost use Rattle.osc_coap.specs.{datagram_limit, HasSpelling, spelling};
 ghost use Rattle.osc_coap.specs.Message.{Message};
-ghost use Rattle.osc_message.specs.Confirmables.{Sent as AnySent, Open as AnyOpen, same_peer, takes, with_open, acknowledged};
+ghost use Rattle.osc_message.specs.Confirmables.{Sent as AnySent, Open as AnyOpen, takes, with_open, acknowledged};
 ghost use Rattle.osc_dedup.specs.{Entry};
 ghost use Rattle.osc_message.specs.Heard.{heard};
 ghost use Rattle.osc_message.specs.declared.heard.Heard.TheVariants as heard_as;
@@ -48,12 +48,6 @@ pub fn what_nodes_send()
     growing();
     length_of_growing();
 }
-
-/// Two peers are told apart by their addresses and ports.
-pub fn one_peer()
-    ensures same { (a b : AnyPeer) → same_peer a b ≡ true → a ≡ b }
-    ensures itself { (a : AnyPeer) → same_peer a a ≡ true }
-{}
 
 /// Whatever happens to them, the open messages stay within their limits.
 pub fn within_limits()

@@ -17,7 +17,8 @@ impl Default for MessageName {
     fn default() -> MessageName {
         MessageName {
             peer: Peer {
-                address: [0; 4],
+                address: [0; 16],
+                scope: 0,
                 port: 0,
             },
             id: 0,

@@ -1,6 +1,6 @@
 //! What a tick does to the open messages (RFC 7252 sections 4.2 and 4.8): first what is due of each, and then the changes. Memory is taken for
 //! what is sent alone: without it that is lost, and all else is done.
-ghost use Rattle.std.specs.Prelude.{◌≡◌, ◌≤◌, ◌<◌, ◌+◌, ◌^◌, [], ◌∷◌, ◌++◌, List, length, take, drop, Some, IfSome, IfOk, OnOk, vec_len, vec_capacity};
+ghost use Rattle.std.specs.Prelude.{◌≡◌, ◌≤◌, ◌<◌, ◌+◌, ◌^◌, [], ◌∷◌, ◌++◌, List, length, take, drop, false, Some, IfSome, IfOk, OnOk, vec_len, vec_capacity};
 ghost use Rattle.std.specs.List.{All, filter_map, zip};
 ghost use Rattle.std.specs.Option.{option_to_list};
 ghost use Rattle.osc_model.specs.declared.step.Datagram.{Datagram as AnyDatagram};
@@ -164,19 +164,31 @@ pub(crate) fn apply(sending: &mut Vec<Queued>, dues: &[Due], now: Moment)
 /// What a tick did.
 #[derive(Drop)]
 pub struct Ticked {
-    /// What is sent, in order; nothing without memory for it.
+    /// What is sent, in order: all that was due, or nothing where that was lost.
     pub out: Datagrams,
+    /// Whether what was due was lost for lack of memory.
+    pub lost: bool,
     /// Which were given up, in order.
     pub given_up: GivenUp,
 }
 
-/// What is sent, or nothing without memory for it.
-fn sent_or_lost(alloc: Global, out: Option<Datagrams>) -> Datagrams
-    ensures { (due : List AnyDatagram) → IfSome out (λ made. made ≡ due) → GoesOut due result }
+/// What the plan sends and gives up, or, without memory for it, that what was due is lost.
+fn sent_or_lost(alloc: Global, plan: Plan) -> Ticked
+    ensures out { (due : List AnyDatagram) → IfSome plan.out (λ made. made ≡ due) → GoesOut result.lost due result.out }
+    ensures given_up { result.given_up ≡ plan.given_up }
 {
+    let Plan { out, given_up } = plan;
     match out {
-        Some(out) => out,
-        None => Datagrams::new(alloc),
+        Some(out) => Ticked {
+            out,
+            lost: false,
+            given_up,
+        },
+        None => Ticked {
+            out: Datagrams::new(alloc),
+            lost: true,
+            given_up,
+        },
     }
 }
 
@@ -184,7 +196,7 @@ fn sent_or_lost(alloc: Global, out: Option<Datagrams>) -> Datagrams
 fn act(sending: &mut Vec<Queued>, dues: &mut Vec<Due>, alloc: Global, now: Moment) -> Ticked
     requires sound { IsSoundQueue sending.old.items }
     requires room { vec_len sending.old ≤ vec_capacity dues.old }
-    ensures out { GoesOut (tick_sends now (messages sending.old.items)) result.out }
+    ensures out { GoesOut result.lost (tick_sends now (messages sending.old.items)) result.out }
     ensures given_up { result.given_up.items ≡ tick_gives_up now (messages sending.old.items) }
     ensures items { messages sending.new.items ≡ ticked now (messages sending.old.items) }
     ensures sound { IsSoundQueue sending.new.items }
@@ -192,21 +204,20 @@ fn act(sending: &mut Vec<Queued>, dues: &mut Vec<Due>, alloc: Global, now: Momen
     ensures capacity { vec_capacity sending.new ≡ vec_capacity sending.old }
     ensures dues { vec_capacity dues.new ≡ vec_capacity dues.old }
 {
-    let Plan { out, given_up } = make_plan(dues, alloc, now, sending);
+    let plan = make_plan(dues, alloc, now, sending);
     apply(sending, dues, now);
-    Ticked {
-        out: sent_or_lost(alloc, out),
-        given_up,
-    }
+    sent_or_lost(alloc, plan)
 }
 
 /// A tick at which nothing is due.
 fn nothing(alloc: Global) -> Ticked
     ensures out { result.out ≡ [] }
+    ensures lost { result.lost ≡ false }
     ensures given_up { result.given_up.items ≡ [] }
 {
     Ticked {
         out: Datagrams::new(alloc),
+        lost: false,
         given_up: GivenUp::new(),
     }
 }
@@ -221,7 +232,7 @@ pub(crate) fn tick(
 ) -> Ticked
     requires sound { IsSoundQueue sending.old.items }
     requires room { vec_len sending.old ≤ vec_capacity dues.old }
-    ensures out { GoesOut (tick_sends now (messages sending.old.items)) result.out }
+    ensures out { GoesOut result.lost (tick_sends now (messages sending.old.items)) result.out }
     ensures given_up { result.given_up.items ≡ tick_gives_up now (messages sending.old.items) }
     ensures items { messages sending.new.items ≡ ticked now (messages sending.old.items) }
     ensures sound { IsSoundQueue sending.new.items }

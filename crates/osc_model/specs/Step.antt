@@ -5,7 +5,7 @@ use Rattle.osc_model.specs.declared.step.Datagram.{Datagram}
 use Rattle.osc_model.specs.declared.step.RefusedRequest.{RefusedRequest}
 use Rattle.osc_model.specs.declared.step.Step.{Step}
 
--- a step that sends these datagrams, and neither seals, opens, serves, learns, draws nor refuses
+-- a step that sends these datagrams, and neither seals, opens, serves, learns, draws, refuses nor loses anything
 abbrev pub sends : List Datagram → Step
 sends datagrams = record { out = datagrams; notes = quiet }
 

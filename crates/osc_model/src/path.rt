@@ -6,6 +6,7 @@ ghost use Rattle.std.specs.Cmp.Lexicographic.{pointwise, nat_list_eq_equiv, nat_
 ghost use Rattle.std.specs.Str.{is_utf8};
 ghost use Rattle.osc_model.specs.Path.{path_cmp, path_of, path_text, is_segment, are_segments, segments_of, begins_with, IsPath};
 
+use crate::limits::{LONGEST_SEGMENT, MOST_SEGMENTS};
 use std::alloc::{AllocError, Global};
 use std::cmp::Ordering;
 use std::marker::Model;
@@ -145,7 +146,7 @@ fn text_length(segments: &[&[u8]]) -> usize
 fn are_segments(rest: &[u8]) -> bool
     ensures { result ≡ are_segments (slice_split (λ b. b == 47) rest.now) }
 {
-    slashes(rest) < 8 && all_segments(rest)
+    slashes(rest) < MOST_SEGMENTS && all_segments(rest)
 }
 
 fn slashes(bytes: &[u8]) -> usize
@@ -165,7 +166,7 @@ fn all_segments(rest: &[u8]) -> bool
 fn is_segment(bytes: &[u8]) -> bool
     ensures { result ≡ is_segment bytes.now }
 {
-    !bytes.is_empty() && bytes.len() <= 32 && !bytes.contains(&b'/') && is_utf8(bytes)
+    !bytes.is_empty() && bytes.len() <= LONGEST_SEGMENT && !bytes.contains(&b'/') && is_utf8(bytes)
 }
 
 fn is_utf8(bytes: &[u8]) -> bool

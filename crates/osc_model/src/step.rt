@@ -3,6 +3,7 @@ ghost use Rattle.std.specs.Prelude.{◌≡◌, ◌+◌, ◌≤◌, [], ◌++◌,
 ghost use Rattle.std.specs.Option.{option_to_list};
 ghost use Rattle.osc_model.specs.Datagrams.{listed};
 ghost use Rattle.osc_model.specs.Step.{refuses, sends};
+ghost use Rattle.osc_model.specs.StepNotes.{quiet_or_lost};
 
 use crate::associated_data::AssociatedData;
 use crate::bytes::Bytes;
@@ -10,6 +11,7 @@ use crate::code::Code;
 use crate::context::Side;
 use crate::node::{Moment, Peer};
 use crate::reply::Reply;
+use crate::request::Request;
 use crate::shared_name::SharedName;
 use crate::step_notes::StepNotes;
 use std::alloc::{AllocError, Global};
@@ -62,6 +64,8 @@ pub struct Entry {
     pub number: u64,
     /// What was opened.
     pub plaintext: Bytes,
+    /// What was opened, as it is read: a request, or the code of the error that answers what is none (RFC 8613 section 8.2).
+    pub request: Result<Request, Code>,
     /// When it was served.
     pub moment: Moment,
     /// What it was answered.
@@ -74,6 +78,7 @@ impl Drop for Entry {
             context: _,
             number: _,
             plaintext: _,
+            request: _,
             moment: _,
             reply: _,
         } = self;
@@ -288,7 +293,7 @@ fn room_after_one(alloc: Global, more: usize) -> Option<Vec<Datagram>>
 pub struct Step {
     /// What is sent.
     pub out: Datagrams,
-    /// What was sealed, opened, served, learnt, drawn and refused.
+    /// What was sealed, opened, served, learnt, drawn, refused and lost.
     pub notes: StepNotes,
 }
 
@@ -300,6 +305,16 @@ impl Step {
         Step {
             out,
             notes: StepNotes::quiet(),
+        }
+    }
+
+    /// A step at a tick that sends these, and whether what was due was lost for lack of memory; takes no memory.
+    pub fn of_tick(out: Datagrams, lost: bool) -> Step
+        ensures { result ≡ record { out = out; notes = quiet_or_lost lost } }
+    {
+        Step {
+            out,
+            notes: StepNotes::quiet().with_lost(lost),
         }
     }
 

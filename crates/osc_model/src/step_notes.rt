@@ -2,10 +2,11 @@
 ghost use Rattle.std.specs.Prelude.{◌≡◌, Some, option_map};
 ghost use Rattle.osc_model.specs.StepNotes.{quiet};
 
+use crate::shared_bytes::SharedBytes;
 use crate::step::{ClientResult, Entry, Note, RefusedRequest};
 use std::marker::Model;
 
-/// What a step sealed, opened, served, learnt, drew and refused: mostly nothing. Contracts see a record of the six.
+/// What a step sealed, opened, served, learnt, drew, refused and lost, and whose token it went by: mostly nothing. Contracts see a record of the eight.
 #[derive(Debug)]
 pub struct StepNotes {
     seals: Option<Note>,
@@ -14,6 +15,8 @@ pub struct StepNotes {
     result: Option<ClientResult>,
     drawn: Option<[u8; 8]>,
     refused: Option<RefusedRequest>,
+    lost: bool,
+    holder: Option<SharedBytes>,
 }
 
 impl Drop for StepNotes {
@@ -25,6 +28,8 @@ impl Drop for StepNotes {
             result: _,
             drawn: _,
             refused: _,
+            lost: _,
+            holder: _,
         } = self;
     }
 }
@@ -34,7 +39,7 @@ impl Model for StepNotes {
 
     ghost Value = { Noted };
 
-    ghost view = { λ n. record { seals = n.seals; opens = n.opens; served = n.served; result = n.result; drawn = n.drawn; refused = n.refused } };
+    ghost view = { λ n. record { seals = n.seals; opens = n.opens; served = n.served; result = n.result; drawn = n.drawn; refused = n.refused; lost = n.lost; holder = n.holder } };
 }
 
 impl StepNotes {
@@ -49,12 +54,19 @@ impl StepNotes {
             result: None,
             drawn: None,
             refused: None,
+            lost: false,
+            holder: None,
         }
     }
 
-    /// A request was opened and served, and its answer sealed; takes no memory.
-    pub fn of_request(sealed: Note, opened: Note, entry: Entry) -> StepNotes
-        ensures { result ≡ record quiet { seals = Some sealed; opens = Some opened; served = Some entry } }
+    /// A request was opened and served under a context of the token of this id, and its answer sealed; takes no memory.
+    pub fn of_request(
+        sealed: Note,
+        opened: Note,
+        entry: Entry,
+        holder: Option<SharedBytes>,
+    ) -> StepNotes
+        ensures { result ≡ record quiet { seals = Some sealed; opens = Some opened; served = Some entry; holder = holder } }
     {
         StepNotes {
             seals: Some(sealed),
@@ -63,6 +75,8 @@ impl StepNotes {
             result: None,
             drawn: None,
             refused: None,
+            lost: false,
+            holder,
         }
     }
 
@@ -114,6 +128,22 @@ impl StepNotes {
         self
     }
 
+    /// The same, and whether what was due was lost for lack of memory.
+    pub fn with_lost(mut self, lost: bool) -> StepNotes
+        ensures { result ≡ record self { lost = lost } }
+    {
+        self.lost = lost;
+        self
+    }
+
+    /// The same, and it went by the token of this id.
+    pub fn with_holder(mut self, holder: SharedBytes) -> StepNotes
+        ensures { result ≡ record self { holder = Some holder } }
+    {
+        self.holder = Some(holder);
+        self
+    }
+
     /// What was sealed, if anything was.
     pub fn seals(&self) -> Option<&Note>
         ensures { option_map (λ note. note.now) result ≡ self.now.seals }
@@ -154,5 +184,22 @@ impl StepNotes {
         ensures { result ≡ self.now.refused }
     {
         self.refused
+    }
+
+    /// Whether what was due was lost for lack of memory, as on the way.
+    pub fn lost(&self) -> bool
+        ensures { result ≡ self.now.lost }
+    {
+        self.lost
+    }
+
+    /// The id of the token that a post was agreed to with, or that made the context of the request that was served, if either was.
+    pub fn holder(&self) -> Option<&[u8]>
+        ensures { option_map (λ id. id.now) result ≡ self.now.holder }
+    {
+        match &self.holder {
+            Some(id) => Some(id.as_slice()),
+            None => None,
+        }
     }
 }

@@ -6,8 +6,7 @@ ghost use Rattle.std.specs.Iterator.{YieldsFirstBy, item_count};
 ghost use Rattle.osc_options.specs.Recognised as spec;
 ghost use Rattle.osc_options.specs.Requests.{value as value_in};
 
-use crate::numbers;
-use crate::table::is_critical;
+use crate::table::{is_critical, rule_of};
 use osc_coap::{MessageRef, Options};
 use std::marker::Model;
 
@@ -17,24 +16,13 @@ use std::marker::Model;
 pub fn is_recognised(before: u16, number: u16, value: &[u8]) -> bool
     ensures { result ≡ spec.is_recognised before (number, value.now) }
 {
+    let Some(rule) = rule_of(number) else {
+        return false;
+    };
     let size = value.len();
-    match number {
-        numbers::IF_MATCH => size <= 8,
-        numbers::ETAG => 1 <= size && size <= 8,
-        numbers::LOCATION_PATH | numbers::URI_PATH | numbers::URI_QUERY | numbers::LOCATION_QUERY =>
-            size <= 255,
-        numbers::URI_HOST | numbers::PROXY_SCHEME => {
-            number != before && 1 <= size && size <= 255
-        }
-        numbers::IF_NONE_MATCH => number != before && size == 0,
-        numbers::URI_PORT | numbers::CONTENT_FORMAT | numbers::ACCEPT => {
-            number != before && size <= 2
-        }
-        numbers::OSCORE => number != before && size <= 255,
-        numbers::MAX_AGE | numbers::SIZE1 => number != before && size <= 4,
-        numbers::PROXY_URI => number != before && 1 <= size && size <= 1034,
-        _ => false,
-    }
+    rule.shortest as usize <= size
+        && size <= rule.longest as usize
+        && (rule.repeats || number != before)
 }
 
 /// The first critical option that isn't recognised, by its number.

@@ -78,12 +78,8 @@ pub fn rule_of(number: u16) -> Option<Rule>
 pub fn class_of(number: u16) -> Class
     ensures { result ≡ spec.class_of number }
 {
-    match number {
-        numbers::URI_HOST
-        | numbers::URI_PORT
-        | numbers::OSCORE
-        | numbers::PROXY_URI
-        | numbers::PROXY_SCHEME => Class::U,
-        _ => Class::E,
+    match rule_of(number) {
+        Some(rule) => rule.class,
+        None => Class::E,
     }
 }

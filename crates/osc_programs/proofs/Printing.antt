@@ -2,9 +2,8 @@
 use Rattle.std.proofs.Common.{◌≡◌, ℕ, List, [], ◌∷◌, ◌++◌, append_assoc, codes}
 use Rattle.osc_simulation.specs.{line}
 
-pub address_pieces : (name dotted dotted-is port : List ℕ) → dotted ≡ dotted-is
-    → name ++ (codes " " ++ (dotted ++ (codes ":" ++ (port ++ 10 ∷ [])))) ≡ line (name ++ codes " " ++ (dotted-is ++ codes ":" ++ port))
-address_pieces name dotted dotted-is port e = rw e (simp append_assoc)
+pub address_pieces : (name address : List ℕ) → name ++ (codes " " ++ (address ++ 10 ∷ [])) ≡ line (name ++ codes " " ++ address)
+address_pieces name address = simp append_assoc
 
 pub grant_pieces : (size alg : List ℕ) → codes "token " ++ (size ++ (codes " bytes, alg " ++ (alg ++ 10 ∷ []))) ≡ line (codes "token " ++ size ++ codes " bytes, alg " ++ alg)
 grant_pieces size alg = simp append_assoc

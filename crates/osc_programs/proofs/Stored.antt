@@ -6,6 +6,7 @@ use Rattle.osc_settings.specs.declared.server.ServerSettings.{ServerSettings}
 use Rattle.osc_model.specs.declared.step.Step.{Step}
 use Rattle.osc_server.specs.State.{State as Server}
 use Rattle.osc_run.specs.{Cause}
+use Rattle.osc_store.specs.declared.error.KeepError.{KeepError}
 use Rattle.osc_programs.specs.{BeginsBy, BeginsWith, IsKept, SomeKeeps, tree_of, EndsKept, EndsServer, EndsServing, EndsStore, EndsTurns, EndsUnkept, IsFault, NoSettings, NoStore, NotOpened, LeavesKept, LeavesNode, StaysKept}
 use Rattle.osc_programs.specs.declared.ended.Ended.{Ended}
 use Rattle.osc_programs.specs.declared.ended.Ended.TheVariants.{Done, BadCommandLine, BadLine, TooLong, BadSettings, OutOfMemory, Failed, PortFailed, NotDone, Unopened, NotKept}
@@ -49,18 +50,22 @@ fault_kept NotDone f = absurd f
 fault_kept (Unopened error) f = absurd f
 fault_kept (NotKept error) f = absurd f
 
-pub turns_kept : (ended : Ended) → EndsTurns ended → EndsKept ended
-turns_kept Done f = tt
-turns_kept BadCommandLine f = absurd f
-turns_kept (BadLine number) f = absurd f
-turns_kept TooLong f = absurd f
-turns_kept BadSettings f = absurd f
-turns_kept OutOfMemory f = tt
-turns_kept Failed f = tt
-turns_kept PortFailed f = tt
-turns_kept NotDone f = absurd f
-turns_kept (Unopened error) f = absurd f
-turns_kept (NotKept error) f = absurd f
+-- who ends so, and not with a change that isn't kept
+pub kept_turns : (ended : Ended) → EndsKept ended → ((error : KeepError) → ended ≢ NotKept error) → EndsTurns ended
+kept_turns Done f none = tt
+kept_turns BadCommandLine f none = absurd f
+kept_turns (BadLine number) f none = absurd f
+kept_turns TooLong f none = absurd f
+kept_turns BadSettings f none = absurd f
+kept_turns OutOfMemory f none = tt
+kept_turns Failed f none = tt
+kept_turns PortFailed f none = tt
+kept_turns NotDone f none = absurd f
+kept_turns (Unopened error) f none = absurd f
+kept_turns (NotKept error) f none = absurd (none error refl)
+
+pub fault_keeps : (ended : Ended) (error : KeepError) → IsFault ended → ended ≢ NotKept error
+fault_keeps ended error f is = subst (λ (e : Ended). IsFault e) is f
 
 pub kept_serving : (ended : Ended) → EndsKept ended → EndsServing ended
 kept_serving Done f = tt

@@ -1,8 +1,7 @@
 -- What `--check` says of settings that it read. Nothing of a key, a secret, a token or a payload is in it.
 use Rattle.std.specs.Prelude.{ℕ, List, [], ◌++◌, length, map, Option, Some, None, codes, decimal}
 use Rattle.std.specs.List.{flat_map}
-use Rattle.std.specs.Net.Text.{ipv4_text}
-use Rattle.osc_model.specs.{algorithm_number}
+use Rattle.osc_model.specs.{algorithm_number, peer_text}
 use Rattle.osc_model.specs.declared.node.Peer.{Peer}
 use Rattle.osc_settings.specs.declared.client.ClientSettings.{ClientSettings}
 use Rattle.osc_settings.specs.declared.proxy.ProxySettings.{ProxySettings}
@@ -11,10 +10,6 @@ use Rattle.osc_settings.specs.declared.resource.ResourceSetting.{ResourceSetting
 use Rattle.osc_settings.specs.declared.server.ServerSettings.{ServerSettings}
 use Rattle.osc_simulation.specs.{line}
 use Rattle.osc_log.specs.{shown_byte}
-
--- A.B.C.D:PORT
-abbrev pub peer_text : Peer → List ℕ
-peer_text peer = ipv4_text peer.address ++ codes ":" ++ decimal peer.port
 
 -- NAME A.B.C.D:PORT
 abbrev pub address_line : List ℕ → Peer → List ℕ

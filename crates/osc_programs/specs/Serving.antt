@@ -2,7 +2,7 @@
 use Rattle.std.specs.Prelude.{◌≡◌, ℕ, Bool, List, [], fold, map}
 use Rattle.std.specs.FinMap as map
 use Rattle.std.specs.FinSet as set
-use Rattle.osc_model.specs.{exactly}
+use Rattle.osc_model.specs.{exactly, remembered_posts}
 use Rattle.osc_model.specs.Tree.{Tree}
 use Rattle.osc_model.specs.declared.code.Method.TheVariants.{Get}
 use Rattle.osc_model.specs.declared.node.Moment.{Moment}
@@ -29,10 +29,6 @@ with_resource tree resource = map.insert tree resource.path (record { format = r
 
 abbrev pub tree_of : List ResourceSetting → Tree
 tree_of resources = fold with_resource map.empty resources
-
--- how many posts of each token id it knows again
-abbrev pub remembered_posts : ℕ
-remembered_posts = 8
 
 -- the server of these settings, which did nothing yet: it has these resources and no contexts, and a GET of the open paths needs no protection
 pub record IsServerOf (settings : ServerSettings) (resources : Tree) (server : Server) : Type 0 where

@@ -9,7 +9,6 @@ use osc_settings::{
     ClientSettings, ProxySettings, ResourceSetting, ServerSettings, StoreFile, TargetSetting,
 };
 use std::alloc::{AllocError, Global};
-use std::net::Ipv4Addr;
 
 /// Of a server: `bind ADDRESS`, `audience TEXT`, `store FILE` where it has one, `open PATH` for each open path, and `resource PATH FORMAT N bytes`
 /// for each resource.
@@ -60,9 +59,7 @@ pub(crate) fn client_text(alloc: Global, settings: &ClientSettings) -> Result<Ve
 fn address_line(alloc: Global, name: &str, peer: Peer) -> Result<String, AllocError>
     ensures { IfOk result (λ text. string_bytes text ≡ spec.address_line name.now peer) }
 {
-    let address = Ipv4Addr::from_octets(peer.address);
-    let port = peer.port;
-    format!(in alloc; "{name} {address}:{port}\n")
+    format!(in alloc; "{name} {peer}\n")
 }
 
 fn shown_line(alloc: Global, name: &str, bytes: &[u8]) -> Result<Vec<u8>, AllocError>

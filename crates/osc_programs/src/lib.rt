@@ -11,7 +11,6 @@ mod ended;
 mod holding;
 mod input;
 mod issue;
-mod kept;
 mod key;
 mod noted;
 mod payload_file;

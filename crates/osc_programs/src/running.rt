@@ -8,6 +8,7 @@ ghost use Rattle.osc_turn.specs.{IsOfSeed, grown};
 ghost use Rattle.osc_programs.specs.Ended as ends;
 ghost use Rattle.osc_log.specs.{Event, Tells};
 ghost use Rattle.osc_programs.specs.Input.{IsWithin, TakesAtMost, longest_settings};
+ghost use Rattle.osc_programs.specs.Kept.{StaysKept};
 ghost use Rattle.osc_programs.specs.Revoking.{AreRevoked, KeepsTree, with_revoked};
 ghost use Rattle.osc_programs.specs.Serving as spec;
 ghost use Rattle.osc_programs.specs.Storing.{BeginsWith, IsKept, SomeKeeps};
@@ -22,7 +23,7 @@ ghost use Rattle.osc_settings.specs.declared.server.ServerSettings.{ServerSettin
 use crate::ended::Ended;
 use crate::holding::Holding;
 use crate::reading::{proxy_settings, server_settings};
-use crate::revoking::revoke_at_start;
+use crate::revoking::{KeepsServer, revoke_at_start};
 use crate::store::{Stores, tell_unkept};
 use crate::storing::serve_stored;
 use crate::supply::supply_of;
@@ -32,6 +33,7 @@ use osc_authz::{ContextRules, DeskParts, ServerDesk};
 use osc_ccm::Suite;
 use osc_log::Log;
 use osc_model::laws::permissions_are_ordered;
+use osc_model::limits::REMEMBERED_POSTS;
 use osc_model::{ClientResult, Datagrams, Method, Path, Peer, Resource};
 use osc_proxy::{Proxy, Target, Targets};
 use osc_run::Node;
@@ -40,7 +42,7 @@ use osc_server::Server;
 use osc_settings::{ProxySettings, ResourceSetting, ServerSettings, TargetSetting};
 use osc_store::Forgetful;
 use osc_tree::{LONGEST_PAYLOAD, Tree};
-use osc_turn::{Port, Seeds, send_all};
+use osc_turn::{KeepsSteps, KeptNode, Port, Seeds, send_all};
 use std::alloc::{AllocError, Global};
 use std::io::{Eprint, ErrorKind, Read};
 use std::time::Clock;
@@ -131,21 +133,21 @@ fn serve_by<R: Clock + Eprint + Seeds + Sockets + Stores, L: Log>(
     }
 }
 
-// With the resources of a store, of which this keeps the changes.
-fn serve_revoking<R: Clock + Eprint + Seeds + Sockets + Stores, L: Log>(
+// With these resources, of which this keeps the changes.
+fn serve_revoking<R: Clock + Eprint + Seeds + Sockets, K: KeepsServer + Drop, L: Log>(
     alloc: Global,
     runtime: &R,
     settings: ServerSettings,
-    stored: (R::Keeper, Tree),
+    stored: (K, Tree),
     log: &mut L,
     turns: u64,
 ) -> Ended
     ensures done { result ≡ Ended.Done → (text : List Event)
         × (serves : spec.Serves settings (with_revoked settings.revoked settings.revoked_ids.items stored.1) turns text) × system.RunsOn (R.gave runtime.now) (R.opened runtime.now settings.bind None) R.Socket.sent serves.runs.start serves.runs.sent
-        × (KeepsTree R.Keeper.keeps stored.0 stored.1 → SomeKeeps R.Keeper.keeps serves.last)
+        × (KeepsTree K.keeps stored.0 stored.1 → SomeKeeps K.keeps serves.last)
         × AreRevoked settings.revoked serves.first.tree settings.revoked_ids.items
         × Tells (L.told log.old) (L.told log.new) text }
-    ensures ends { ends.EndsServing result }
+    ensures ends { ends.EndsKept result }
 {
     let (mut keeper, mut tree) = stored;
     match revoke_at_start(alloc, runtime, &mut keeper, &mut tree, &settings) {
@@ -154,7 +156,7 @@ fn serve_revoking<R: Clock + Eprint + Seeds + Sockets + Stores, L: Log>(
     }
 }
 
-// Without a store.
+// Without a store: of the resources of the settings nothing is kept.
 fn serve_from_settings<R: Clock + Eprint + Seeds + Sockets, L: Log>(
     alloc: Global,
     runtime: &R,
@@ -168,9 +170,8 @@ fn serve_from_settings<R: Clock + Eprint + Seeds + Sockets, L: Log>(
         × Tells (L.told log.old) (L.told log.new) text }
     ensures ends { ends.EndsKept result }
 {
-    let bind = settings.bind;
-    match server_of(alloc, runtime, settings) {
-        Ok(mut server) => run(alloc, runtime, bind, &mut server, log, turns),
+    match tree_of(alloc, &settings.resources) {
+        Ok(tree) => serve_revoking(alloc, runtime, settings, (Forgetful, tree), log, turns),
         Err(ended) => ended,
     }
 }
@@ -189,29 +190,14 @@ fn forward_by<R: Clock + Eprint + Seeds + Sockets, L: Log>(
 {
     let bind = settings.bind;
     match proxy_of(alloc, settings) {
-        Ok(mut proxy) => run(alloc, runtime, bind, &mut proxy, log, turns),
+        Ok(node) => {
+            let mut kept = KeptNode {
+                node,
+                keeper: Forgetful,
+            };
+            run(alloc, runtime, bind, &mut kept, log, turns)
+        }
         Err(_) => Ended::OutOfMemory,
-    }
-}
-
-// How many posts of each token id a server knows again.
-const REMEMBERED: u8 = 8;
-
-// A server with the resources of its settings, and without contexts.
-fn server_of<R: Eprint>(
-    alloc: Global,
-    runtime: &R,
-    settings: ServerSettings,
-) -> Result<Server, Ended>
-    ensures server { IfOk result (λ server. spec.IsServerOf settings (with_revoked settings.revoked settings.revoked_ids.items (spec.tree_of settings.resources.items)) server) }
-    ensures revoked { IfOk result (λ server. AreRevoked settings.revoked server.tree settings.revoked_ids.items) }
-    ensures ends { IfErr result ends.EndsUnkept }
-{
-    let mut tree = tree_of(alloc, &settings.resources)?;
-    revoke_at_start(alloc, runtime, &mut Forgetful, &mut tree, &settings)?;
-    match server_with(alloc, settings, tree) {
-        Ok(server) => Ok(server),
-        Err(_) => Err(Ended::OutOfMemory),
     }
 }
 
@@ -243,7 +229,7 @@ pub(crate) fn server_with(
             rules: ContextRules {
                 revoked,
                 seconds: context_seconds,
-                remembered: REMEMBERED,
+                remembered: REMEMBERED_POSTS,
                 reserved: reserved_id,
                 subtrees,
             },
@@ -337,22 +323,29 @@ fn target_of(setting: &TargetSetting) -> Result<Target, AllocError>
 
 // ---- turns
 
-// The node takes so many turns at this address.
-fn run<R: Clock + Eprint + Seeds + Sockets, N: Node<Suite> + Holding, L: Log>(
+/// The node takes so many turns at this address.
+pub(crate) fn run<
+    R: Clock + Eprint + Seeds + Sockets,
+    N: Node<Suite> + Holding,
+    K: KeepsSteps<Suite, N>,
+    L: Log,
+>(
     alloc: Global,
     runtime: &R,
     bind: Peer,
-    node: &mut N,
+    kept: &mut KeptNode<N, K>,
     log: &mut L,
     turns: u64,
 ) -> Ended
     ensures done { result ≡ Ended.Done → (text : List Event)
-        × (runs : turning.Runs N.acts N.is_step N.held turns text node.old node.new) × system.RunsOn (R.gave runtime.now) (R.opened runtime.now bind None) R.Socket.sent runs.start runs.sent
+        × (runs : turning.Runs N.acts N.is_step N.held turns text kept.old.node kept.new.node) × system.RunsOn (R.gave runtime.now) (R.opened runtime.now bind None) R.Socket.sent runs.start runs.sent
         × Tells (L.told log.old) (L.told log.new) text }
-    ensures ends { ends.EndsTurns result }
+    ensures kept { K.keeps kept.old.keeper kept.old.node → StaysKept K.keeps K.may_hold result kept.new.node kept.new.keeper }
+    ensures fails { (error : _) → result ≡ Ended.NotKept error → (keeper : K) × K.may_fail keeper }
+    ensures ends { ends.EndsKept result }
 {
     match opened(alloc, runtime, bind, None) {
-        Ok(mut port) => started(alloc, runtime, &mut port, node, log, turns),
+        Ok(mut port) => started(alloc, runtime, &mut port, kept, log, turns),
         Err(ended) => ended,
     }
 }
@@ -410,9 +403,7 @@ fn port_line(
     let Some(peer) = peer else {
         return format!(in alloc; "{what}: {kind}");
     };
-    let [a, b, c, d] = peer.address;
-    let number = peer.port;
-    format!(in alloc; "{what} {a}.{b}.{c}.{d}:{number}: {kind}")
+    format!(in alloc; "{what} {peer}: {kind}")
 }
 
 // How a program ends that has no port.
@@ -425,23 +416,31 @@ fn ended_by_port(why: &Why) -> Ended
     }
 }
 
-fn started<R: Clock + Eprint + Seeds, P: SocketPort, N: Node<Suite> + Holding, L: Log>(
+fn started<
+    R: Clock + Eprint + Seeds,
+    P: SocketPort,
+    N: Node<Suite> + Holding,
+    K: KeepsSteps<Suite, N>,
+    L: Log,
+>(
     alloc: Global,
     runtime: &R,
     port: &mut P,
-    node: &mut N,
+    kept: &mut KeptNode<N, K>,
     log: &mut L,
     turns: u64,
 ) -> Ended
     ensures done { result ≡ Ended.Done → (text : List Event)
-        × (runs : turning.Runs N.acts N.is_step N.held turns text node.old node.new) × IsOfSeed (R.gave runtime.now) runs.start.generator
+        × (runs : turning.Runs N.acts N.is_step N.held turns text kept.old.node kept.new.node) × IsOfSeed (R.gave runtime.now) runs.start.generator
         × (P.sent port.new ≡ grown (P.sent port.old) runs.sent) × Tells (L.told log.old) (L.told log.new) text }
-    ensures ends { ends.EndsTurns result }
+    ensures kept { K.keeps kept.old.keeper kept.old.node → StaysKept K.keeps K.may_hold result kept.new.node kept.new.keeper }
+    ensures fails { (error : _) → result ≡ Ended.NotKept error → (keeper : K) × K.may_fail keeper }
+    ensures ends { ends.EndsKept result }
 {
     tell_address(alloc, runtime, port);
     match supply_of(runtime) {
         Ok(mut supply) => {
-            let ended = take_turns(alloc, &mut supply, port, node, log, turns);
+            let ended = take_turns(alloc, &mut supply, port, kept, log, turns);
             tell_end(alloc, runtime, port, ended);
             ended
         }
@@ -449,13 +448,8 @@ fn started<R: Clock + Eprint + Seeds, P: SocketPort, N: Node<Suite> + Holding, L
     }
 }
 
-/// Tells why the port failed, where that ended the node.
-pub(crate) fn tell_end<R: Eprint, P: SocketPort>(
-    alloc: Global,
-    runtime: &R,
-    port: &P,
-    ended: Ended,
-) {
+// Tells why the port failed, where that ended the node.
+fn tell_end<R: Eprint, P: SocketPort>(alloc: Global, runtime: &R, port: &P, ended: Ended) {
     if ended == Ended::PortFailed {
         tell_failure(alloc, runtime, port);
     }
@@ -465,22 +459,20 @@ pub(crate) fn tell_end<R: Eprint, P: SocketPort>(
 const EVERY_ADDRESS: &str =
     "answers leave from the address that the system picks, and a client that asked another address of this machine doesn't know them: bind one address";
 
-/// `listening on A.B.C.D:PORT`, on the standard error, and at 0.0.0.0 a line more. A notice that can't be written is nobody's failure.
-pub(crate) fn tell_address<R: Eprint, P: SocketPort>(alloc: Global, runtime: &R, port: &P) {
+// `listening on A.B.C.D:PORT`, on the standard error, and at 0.0.0.0 a line more. A notice that can't be written is nobody's failure.
+fn tell_address<R: Eprint, P: SocketPort>(alloc: Global, runtime: &R, port: &P) {
     if let Some(peer) = port.address() {
         if let Ok(line) = address_line(alloc, peer) {
             let _told = runtime.eprintln(line.as_str());
         }
-        if peer.address == [0, 0, 0, 0] {
+        if peer.octets() == Some([0, 0, 0, 0]) {
             let _told = runtime.eprintln(EVERY_ADDRESS);
         }
     }
 }
 
 fn address_line(alloc: Global, peer: Peer) -> Result<String, AllocError> {
-    let number = peer.port;
-    let [a, b, c, d] = peer.address;
-    format!(in alloc; "listening on {a}.{b}.{c}.{d}:{number}")
+    format!(in alloc; "listening on {peer}")
 }
 
 /// Sends these datagrams.

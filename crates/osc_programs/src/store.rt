@@ -1,7 +1,7 @@
 //! The store of a server: opened, made where there is none yet, and listed.
 ghost use Rattle.std.specs.FinMap as map;
 ghost use Rattle.std.specs.Io.KnownBytes.{Appends};
-ghost use Rattle.std.specs.Prelude.{◌≡◌, ◌≤◌, ◌++◌, [], IfErr, IfOk, IfSome, List, OnOk, fold, ℕ};
+ghost use Rattle.std.specs.Prelude.{◌≡◌, ◌≤◌, ◌++◌, [], IfErr, IfOk, IfSome, List, OnOk, fold, ℕ, ⊤};
 ghost use Rattle.std.specs.List.{flat_map};
 ghost use Rattle.sqlite_store.specs.FileStore.{recovers, view};
 ghost use Rattle.sqlite_trees.specs.View.{IsClean, doubt};
@@ -30,7 +30,8 @@ use osc_model::{Code, Entry, Path, Resource, StepNotes};
 use osc_server::Server;
 use osc_settings::ResourceSetting;
 use osc_store::{
-    FileKeeper, KeepError, Keeper, Keeping, OpenError, Start, Unknown, Wary, draw_mark, read_store,
+    FRAMED_LOG, FileKeeper, KeepError, Keeper, Keeping, OpenError, Start, Unknown, Wary, draw_mark,
+    read_store,
 };
 use osc_tree::Tree;
 use osc_turn::laws::one_path_changes;
@@ -164,14 +165,11 @@ impl KeepsSteps<Suite, Server> for StoreFile {
 
     ghost may_hold = { λ it before after. IsClean (view it.keeper.store) → MayLeave view recovers it.keeper.store before.tree after.tree };
 
-    fn keep_step(
-        &mut self,
-        alloc: Global,
-        node: &Server,
-        notes: &StepNotes,
-    ) -> Result<(), KeepError> {
+    ghost may_fail = { λ _. ⊤ };
+
+    fn keep_step(&mut self, node: &Server, notes: &StepNotes) -> Result<(), KeepError> {
         one_path_changes();
-        keep_change(alloc, &mut self.keeper, node.tree(), notes.served())?;
+        keep_change(&mut self.keeper, node.tree(), notes.served())?;
         self.settle(is_change(notes.served()))
     }
 }
@@ -392,13 +390,10 @@ fn make_store(rt: &HostRuntime, file: &str, first: &[ResourceSetting]) -> Result
     }
 }
 
-// How many bytes a log has at least that has a frame.
-const FRAMED_LOG: u64 = 56;
-
 // Whether there is a log of a file that is gone, which no first start left that was cut off.
 fn is_lost(rt: &HostRuntime, new: &NewFiles) -> bool {
     match fs::metadata(rt, new.log_to.as_str()) {
-        Ok(log) => log.len() >= FRAMED_LOG && is_missing(rt, new.db.as_str()),
+        Ok(log) => log.len() >= FRAMED_LOG as u64 && is_missing(rt, new.db.as_str()),
         Err(_) => false,
     }
 }

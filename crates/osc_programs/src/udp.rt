@@ -101,7 +101,7 @@ impl UdpPort {
         ensures failures { IfOk result (λ port. port.failures ≡ 0) }
         ensures peer { IfOk result (λ port. port.peer ≡ None) }
     {
-        let socket = UdpSocket::bind(net, socket_address(at))?;
+        let socket = UdpSocket::bind(net, socket_address(at)?)?;
         socket.set_read_timeout(Some(Duration::from_millis(WAIT_MILLIS)))?;
         Ok(UdpPort {
             socket,
@@ -120,7 +120,7 @@ impl UdpPort {
         let Some(named) = peer else {
             return Ok(self);
         };
-        match self.socket.connect(socket_address(named)) {
+        match connect(&self.socket, named) {
             Ok(()) => Ok(self),
             Err(error) => Err(Why {
                 what: "send to",
@@ -209,6 +209,10 @@ impl Port for UdpPort {
     }
 }
 
+fn connect(socket: &UdpSocket, peer: Peer) -> io::Result<()> {
+    socket.connect(socket_address(peer)?)
+}
+
 // To the peer that the socket is connected to no address is named.
 fn send_to(
     socket: &UdpSocket,
@@ -219,7 +223,7 @@ fn send_to(
     if connected == Some(to) {
         socket.send(bytes)
     } else {
-        socket.send_to(bytes, socket_address(to))
+        socket.send_to(bytes, socket_address(to)?)
     }
 }
 
@@ -237,17 +241,18 @@ fn heard(connected: Option<Peer>, from: SocketAddr) -> Option<Peer> {
     }
 }
 
-fn socket_address(peer: Peer) -> SocketAddr {
-    SocketAddr::new(IpAddr::V4(Ipv4Addr::from_octets(peer.address)), peer.port)
+// The address of a peer for a socket of IPv4, which reaches no other address.
+fn socket_address(peer: Peer) -> io::Result<SocketAddr> {
+    match peer.octets() {
+        Some(octets) => Ok(SocketAddr::new(IpAddr::V4(Ipv4Addr::from_octets(octets)), peer.port)),
+        None => Err(io::Error::from(ErrorKind::AddrNotAvailable)),
+    }
 }
 
 // The peer at a socket's address, if that is an IPv4 address.
 fn peer_of(address: SocketAddr) -> Option<Peer> {
     match address.ip() {
-        IpAddr::V4(ip) => Some(Peer {
-            address: ip.octets(),
-            port: address.port(),
-        }),
+        IpAddr::V4(ip) => Some(Peer::v4(ip.octets(), address.port())),
         IpAddr::V6(_) => None,
     }
 }

@@ -1,5 +1,5 @@
 -- What a tick leaves open, and what it sends.
-use Rattle.std.proofs.Common.{◌≡◌, ◌≤◌, ◌<◌, ◌+◌, inl, inr, ℕ, Bool, true, false, not, ◌&&◌, List, [], ◌∷◌, ◌++◌, length, refl, ap, sym, ◌∙◌, arith, Some}
+use Rattle.std.proofs.Common.{◌≡◌, ◌≤◌, ◌<◌, ◌+◌, ℕ, Bool, true, false, not, ◌&&◌, List, [], ◌∷◌, ◌++◌, length, refl, ap, sym, ◌∙◌, arith, Some}
 use Rattle.std.specs.Prelude.{filter, if◌then◌else◌}
 use Rattle.std.specs.List.{All, Contains, filter_map}
 use Rattle.std.proofs.lemmas.Bool.{leb-false, not-true, or_parts}
@@ -8,6 +8,7 @@ use Rattle.std.proofs.lemmas.List.Filters.{length-filter_both}
 use Rattle.std.proofs.lemmas.List.Elements.{All-append, All-cons, All-contains_itself, All-filter, All-head, All-nil, All-same, All-tail, All-weaker, filter_passes}
 use Rattle.osc_coap.specs.{spelling}
 use Rattle.osc_coap.specs.Message.{Message}
+use Rattle.osc_model.specs.{exchange_lifetime}
 use Rattle.osc_model.specs.declared.node.Draw.{Draw}
 use Rattle.osc_model.specs.declared.node.Moment.{Moment}
 use Rattle.osc_model.specs.declared.node.Peer.{Peer}
@@ -17,7 +18,7 @@ use Rattle.osc_message.specs.{Open, EndpointState, after_tick, GoesOut, datagram
 use Rattle.osc_message.specs.declared.due.Due.{Due}
 use Rattle.osc_message.specs.declared.due.Due.TheVariants.{Keep, Send, GiveUp}
 use Rattle.osc_message.specs.declared.name.MessageName.{MessageName}
-use Rattle.osc_proxy.specs.{EachHasItsExchange, is_its, is_of_over, is_request, without_over, count, entries, get, is_overdue, lifetime, goes_now, sends_own, back_sends, has_way_back, AllEnd, AreOfExchanges, IsOfExchange, is_given_up, is_over, timed_out, timeout, without_its, without_over_in}
+use Rattle.osc_proxy.specs.{EachHasItsExchange, is_its, is_of_over, is_request, without_over, count, entries, get, is_overdue, goes_now, sends_own, back_sends, has_way_back, AllEnd, AreOfExchanges, IsOfExchange, is_given_up, is_over, timed_out, timeout, without_its, without_over_in}
 use Rattle.osc_proxy.specs.Exchanges.{Table}
 use Rattle.osc_proxy.specs.State.{State}
 use Rattle.osc_proxy.specs.Ticks.{Ticks}
@@ -48,9 +49,9 @@ none_overdue old new now draw step ticks key exchange is =
     (none_left now draw names (begun now old) new ticks.answers ticks.ends key exchange is)).1
 
 pub left_ends : (old new : State) (now : Moment) (draw : Draw) (step : Step) → Ticks old now draw step new
-    → (key : ℕ) (exchange : Exchange) → get new.exchanges key ≡ Some exchange → now.ms < exchange.opened.ms + lifetime
+    → (key : ℕ) (exchange : Exchange) → get new.exchanges key ≡ Some exchange → now.ms < exchange.opened.ms + exchange_lifetime
 left_ends old new now draw step ticks key exchange is =
-    leb-false (exchange.opened.ms + lifetime) now.ms (none_overdue old new now draw step ticks key exchange is)
+    leb-false (exchange.opened.ms + exchange_lifetime) now.ms (none_overdue old new now draw step ticks key exchange is)
 
 -- ---- each open request has its exchange
 
@@ -164,25 +165,25 @@ of_answers old now draw names first new out (one_is was last left key exchange l
     (none_back old now (without_its was.endpoint exchange) exchange answer (timeout_is_none was.endpoint draw exchange))
     (of_answers old now draw names (timed_out was now draw exchange left) last later rest)
 
-of_those : (old : State) (now : Moment) (due out : List Datagram) → GoesOut due out → All (Of old now) due → All (Of old now) out
-of_those old now due out (inl all) each = All-same (Of old now) out due all each
-of_those old now due out (inr none) each = All-same (Of old now) out [] none (All-nil (Of old now))
+of_those : (old : State) (now : Moment) (lost : Bool) (due out : List Datagram) → GoesOut lost due out → All (Of old now) due → All (Of old now) out
+of_those old now false due out all each = All-same (Of old now) out due all each
+of_those old now true due out none each = All-same (Of old now) out [] none (All-nil (Of old now))
 
 pub requests_are : (old new : State) (now : Moment) (draw : Draw) (step : Step) → Ticks old now draw step new
     → EachHasItsExchange old.exchanges old.endpoint.sending → AreOfExchanges old now step.out
 requests_are old new now draw step ticks each =
     let names = tick_gives_up now (without_over now old.exchanges old.endpoint.sending) in
-    All-same (Of old now) step.out (ticks.repeats ++ ticks.told_answers) (ap (λ (s : Step). s.out) ticks.told)
+    All-same (Of old now) step.out (ticks.repeats ++ ticks.told_answers) ticks.told
     (All-append (Of old now) ticks.repeats ticks.told_answers
-    (of_those old now _ ticks.repeats ticks.repeated (of_sent old now each))
-    (of_those old now ticks.answers ticks.told_answers ticks.answered
+    (of_those old now ticks.lost_repeats _ ticks.repeats ticks.repeated (of_sent old now each))
+    (of_those old now ticks.lost_answers ticks.answers ticks.told_answers ticks.answered
     (of_answers old now draw names (begun now old) new ticks.answers ticks.ends)))
 
 -- ---- how much is sent
 
-those_few : (due out : List Datagram) → GoesOut due out → length out ≤ length due
-those_few due out (inl all) = omega (arith, ap length all)
-those_few due out (inr none) = omega (arith, ap length none)
+those_few : (lost : Bool) (due out : List Datagram) → GoesOut lost due out → length out ≤ length due
+those_few false due out all = omega (arith, ap length all)
+those_few true due out none = omega (arith, ap length none)
 
 fewer : {X : Type 0} (test : X → Bool) (xs : List X) → length (filter test xs) ≤ length xs
 fewer test xs = omega (arith, length-filter_both test (λ x. not (test x)) (λ x. refl) xs)
@@ -191,10 +192,10 @@ pub few_sent : ((now : Moment) (all : List Open) → length (tick_sends now all)
     → Ticks old now draw step new → length step.out ≤ length old.endpoint.sending + count old.exchanges
 few_sent few old new now draw step ticks =
     let left = without_over now old.exchanges old.endpoint.sending in
-    let repeats = those_few (tick_sends now left) ticks.repeats ticks.repeated in
+    let repeats = those_few ticks.lost_repeats (tick_sends now left) ticks.repeats ticks.repeated in
     let sent = few now left in
     let kept = fewer (λ message. not (is_of_over now (entries old.exchanges) message)) old.endpoint.sending in
-    let answers = those_few ticks.answers ticks.told_answers ticks.answered in
+    let answers = those_few ticks.lost_answers ticks.answers ticks.told_answers ticks.answered in
     let ended = few_end now draw (tick_gives_up now left) (begun now old) new ticks.answers ticks.ends in
-    let whole = ap (λ (s : Step). length s.out) ticks.told ∙ length-append ticks.repeats ticks.told_answers in
+    let whole = ap length ticks.told ∙ length-append ticks.repeats ticks.told_answers in
     omega (arith, repeats, sent, kept, answers, ended, whole)

@@ -1,5 +1,5 @@
 -- Each open message that is a request has an exchange that is open, whatever happens to the one and the other.
-use Rattle.std.proofs.Common.{◌≡◌, inl, inr, ℕ, Bool, true, false, not, nat_eq, ◌&&◌, bytes_eq, List, [], ◌∷◌, ◌++◌, refl, ap, sym, ◌∙◌, subst, Some, None}
+use Rattle.std.proofs.Common.{◌≡◌, inl, inr, ℕ, Bool, true, false, not, nat_eq, ◌&&◌, bytes_eq, List, [], ◌∷◌, ◌++◌, refl, ap, ap₂, sym, ◌∙◌, subst, Some, None}
 use Rattle.std.specs.Prelude.{filter, if◌then◌else◌}
 use Rattle.std.specs.List.{filter_map}
 use Rattle.std.proofs.lemmas.Bool.{and_from, and_parts, cases_eq, eq-eqb, eqb-true}
@@ -11,7 +11,8 @@ use Rattle.osc_coap.specs.declared.kind.Kind.TheVariants.{Confirmable, NonConfir
 use Rattle.osc_model.specs.declared.node.Draw.{Draw}
 use Rattle.osc_model.specs.declared.node.Moment.{Moment}
 use Rattle.osc_model.specs.declared.node.Peer.{Peer}
-use Rattle.osc_message.specs.{Open, acknowledged, has_open, is_named as names_message, same_peer, sent_at, EndpointState, acknowledged_by, own_id, after, due_of, dues, ticked, timeout_of}
+use Rattle.osc_model.specs.{same_peer}
+use Rattle.osc_message.specs.{Open, acknowledged, has_open, is_named as names_message, sent_at, EndpointState, acknowledged_by, own_id, after, due_of, dues, ticked, timeout_of}
 use Rattle.osc_message.specs.declared.due.Due.{Due}
 use Rattle.osc_message.specs.declared.due.Due.TheVariants.{Keep, Send, GiveUp}
 use Rattle.osc_proxy.specs.Inner.Bounds.{names_one}
@@ -28,15 +29,20 @@ Its table message = is_request message.bytes ≡ true → has_exchange table mes
 
 one_peer : (a b : Peer) → same_peer a b ≡ true → a ≡ b
 one_peer a b same =
-    let both = and_parts (bytes_eq a.address b.address) (nat_eq a.port b.port) same in
+    let both = and_parts (bytes_eq a.address b.address) (nat_eq a.scope b.scope && nat_eq a.port b.port) same in
+    let numbers = and_parts (nat_eq a.scope b.scope) (nat_eq a.port b.port) both.1 in
     let address : a.address ≡ b.address = (bytes_eq-Decides a.address b.address).0 both.0 in
-    let port : a.port ≡ b.port = eqb-true a.port b.port both.1 in
-    subst (λ (x : List ℕ). a ≡ record { address = x; port = b.port }) address (ap (λ n. record { address = a.address; port = n }) port)
+    let scope : a.scope ≡ b.scope = eqb-true a.scope b.scope numbers.0 in
+    let port : a.port ≡ b.port = eqb-true a.port b.port numbers.1 in
+    subst (λ (x : List ℕ). a ≡ record { address = x; scope = b.scope; port = b.port }) address
+    (ap₂ (λ (s p : ℕ). record { address = a.address; scope = s; port = p }) scope port)
 
 pub peer_same : (a b : Peer) → a ≡ b → same_peer a b ≡ true
 peer_same a b e =
-    and_from (bytes_eq a.address b.address) (nat_eq a.port b.port) ((bytes_eq-Decides a.address b.address).1 (ap (λ (p : Peer). p.address) e))
-    (eq-eqb a.port b.port (ap (λ (p : Peer). p.port) e))
+    and_from (bytes_eq a.address b.address) (nat_eq a.scope b.scope && nat_eq a.port b.port)
+    ((bytes_eq-Decides a.address b.address).1 (ap (λ (p : Peer). p.address) e))
+    (and_from (nat_eq a.scope b.scope) (nat_eq a.port b.port) (eq-eqb a.scope b.scope (ap (λ (p : Peer). p.scope) e))
+    (eq-eqb a.port b.port (ap (λ (p : Peer). p.port) e)))
 
 -- whoever names the exchange names its message
 pub its_named : (from : Peer) (id : ℕ) (exchange : Exchange) (message : Open) → same_peer exchange.target from ≡ true → id ≡ exchange.id

@@ -7,7 +7,8 @@ use Rattle.std.proofs.lemmas.Option.{same_Some}
 use Rattle.osc_model.specs.declared.bytes.Bytes.{Bytes}
 use Rattle.osc_model.specs.declared.node.Moment.{Moment}
 use Rattle.osc_model.specs.declared.node.Peer.{Peer}
-use Rattle.osc_message.specs.{Open, acknowledged, has_open, is_named, is_to, same_peer, sent_at, with_open}
+use Rattle.osc_model.specs.{same_peer}
+use Rattle.osc_message.specs.{Open, acknowledged, has_open, is_named, is_to, sent_at, with_open}
 use Rattle.osc_proxy.specs.{Changes, HasOwnTokens, count, free_key, get}
 use Rattle.osc_proxy.specs.Exchanges.{Table}
 use Rattle.osc_proxy.specs.declared.exchanges.Exchange.{Exchange}

@@ -4,7 +4,7 @@ use Rattle.std.proofs.lemmas.Bool.{and_parts}
 use Rattle.std.proofs.lemmas.Slice.Eq.{bytes_eq-Decides}
 use Rattle.osc_coap.specs.Message.{Message}
 use Rattle.osc_model.specs.declared.node.Peer.{Peer}
-use Rattle.osc_message.specs.{same_peer}
+use Rattle.osc_model.specs.{same_peer}
 use Rattle.osc_proxy.specs.{HasOwnTokens, answers, first_key, get, is_in_place}
 use Rattle.osc_proxy.specs.Exchanges.{Table}
 use Rattle.osc_proxy.specs.declared.exchanges.Exchange.{Exchange}

@@ -4,7 +4,8 @@ use Rattle.slab.specs.Slab.{entries_from}
 use Rattle.osc_model.specs.declared.node.Moment.{Moment}
 use Rattle.osc_model.specs.declared.node.Peer.{Peer}
 use Rattle.osc_coap.specs.Message.{Message as CoapMessage}
-use Rattle.osc_message.specs.{same_peer, is_acknowledgement}
+use Rattle.osc_model.specs.{exchange_lifetime, same_peer}
+use Rattle.osc_message.specs.{is_acknowledgement}
 use Rattle.osc_proxy.specs.declared.exchanges.Exchange.{Exchange}
 
 -- what is under each key, from 0 on, and the key of the next exchange that is opened
@@ -62,10 +63,6 @@ is_named from id exchange = exchange.confirmable && (same_peer exchange.target f
 
 -- ---- how long it stays open
 
--- EXCHANGE_LIFETIME in ms (section 4.8.2)
-abbrev pub lifetime : ℕ
-lifetime = 247000
-
--- it was opened so long ago, whether its forwarded message waits, is outstanding or was acknowledged
+-- it was opened EXCHANGE_LIFETIME ago (section 4.8.2), whether its forwarded message waits, is outstanding or was acknowledged
 abbrev pub is_overdue : Moment → Exchange → Bool
-is_overdue now exchange = nat_le (exchange.opened.ms + lifetime) now.ms
+is_overdue now exchange = nat_le (exchange.opened.ms + exchange_lifetime) now.ms

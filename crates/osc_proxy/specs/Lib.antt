@@ -17,7 +17,7 @@ pub mod ThereAndBack
 pub mod Inner
 pub use Case.{IsNewAnswered, case_of, ended_by}
 pub use Ends.{EachHasItsExchange, has_exchange, is_its, is_of_over, is_request, without, without_over}
-pub use Exchanges.{Changes, HasOwnTokens, answers, count, entries, first_key, free_key, get, is_in_place, is_named, is_overdue, lifetime, none_open}
+pub use Exchanges.{Changes, HasOwnTokens, answers, count, entries, first_key, free_key, get, is_in_place, is_named, is_overdue, none_open}
 pub use Forwarding.{answer, forwarded, forwarded_options, forwarded_token, has_proxy_uri, is_taken_out}
 pub use Hearing.{Hears}
 pub use Own.{goes_now, has_room, kind_of, sends_own, with_own}

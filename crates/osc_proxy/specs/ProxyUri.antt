@@ -2,6 +2,7 @@
 -- path (RFC 7252 sections 5.10.2 and 6.1).
 use Rattle.std.specs.Prelude.{◌≡◌, ℕ, ◌+◌, ◌-◌, ◌*◌, ◌<◌, ◌≤◌, Bool, true, false, ◌&&◌, not, ◌==◌, nat_le, List, [], ◌∷◌, ◌++◌, length, fold, Option, Some, None, IfSome, codes}
 use Rattle.std.specs.List.{AllByRecursion}
+use Rattle.osc_model.specs.{default_port}
 
 -- a host has one byte or more, and neither ':' (58) nor '/' (47) among them
 abbrev pub is_host_byte : ℕ → Bool
@@ -22,10 +23,6 @@ pub record IsPort (digits : List ℕ) : Type 0 where
 
 abbrev pub decimal : List ℕ → ℕ
 decimal digits = fold (λ n digit. 10 * n + (digit - 48)) 0 digits
-
--- the port of the scheme `coap` (section 6.1)
-abbrev pub default_port : ℕ
-default_port = 5683
 
 -- ':' and the port, where one is named
 abbrev pub port_spelling : Option (List ℕ) → List ℕ

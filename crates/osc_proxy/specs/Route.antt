@@ -1,9 +1,10 @@
 -- Where a request goes (RFC 7252 sections 5.7.2 and 5.10.2).
 use Rattle.std.specs.Prelude.{◌≡◌, ℕ, Bool, ◌||◌, bytes_eq, if◌then◌else◌, List, Option, Some, None, is_some, option_map, codes}
+use Rattle.osc_model.specs.{default_port}
 use Rattle.osc_model.specs.declared.node.Peer.{Peer}
 use Rattle.osc_coap.specs.{NumberAndValue}
 use Rattle.osc_options.specs.{proxy_scheme, proxy_uri, uri_host, uri_port, has_unrecognised_unsafe, recognised, uint, value}
-use Rattle.osc_proxy.specs.ProxyUri.{HostAndPort, Reads, default_port}
+use Rattle.osc_proxy.specs.ProxyUri.{HostAndPort, Reads}
 use Rattle.osc_proxy.specs.Targets.{peer_of}
 use Rattle.osc_proxy.specs.declared.route.Route.{Route}
 use Rattle.osc_proxy.specs.declared.route.Route.TheVariants.{BadOption, NotFound, NotSupported, To}

@@ -1,7 +1,7 @@
 -- What comes due at a proxy (RFC 7252 sections 4.2, 4.8.2 and 5.7.1).
 use Rattle.std.specs.Prelude.{◌≡◌, ℕ, Bool, true, false, ◌||◌, List, [], ◌++◌, Some, None}
 use Rattle.std.specs.List.{All, Contains, list_any}
-use Rattle.osc_model.specs.{code, sends, quiet}
+use Rattle.osc_model.specs.{code, quiet_or_lost}
 use Rattle.osc_model.specs.declared.node.Draw.{Draw}
 use Rattle.osc_model.specs.declared.node.Moment.{Moment}
 use Rattle.osc_model.specs.declared.step.Datagram.{Datagram}
@@ -60,19 +60,21 @@ abbrev pub without_over_in : Moment → State → EndpointState
 without_over_in now state = record state.endpoint { sending = without_over now state.exchanges state.endpoint.sending }
 
 -- First the messages of exchanges that are over leave, so that their peers are free; then what is due of the others goes out; and then
--- the answers that say that none came, each in at most 1,152 bytes. Without memory for datagrams they are lost, as on the way,
--- and all else is done. Nothing is sealed or opened.
+-- the answers that say that none came, each in at most 1,152 bytes. Without memory for datagrams they are lost, as on the way, which the
+-- step says, and all else is done. Nothing is sealed or opened.
 pub record Ticks (old : State) (now : Moment) (draw : Draw) (step : Step) (new : State) : Type 0 where
+  pub lost_repeats : Bool
   pub repeats : List Datagram
-  pub repeated : GoesOut (tick_sends now (without_over now old.exchanges old.endpoint.sending)) repeats
+  pub repeated : GoesOut lost_repeats (tick_sends now (without_over now old.exchanges old.endpoint.sending)) repeats
   pub answers : List Datagram
   pub ends : AllEnd now draw (tick_gives_up now (without_over now old.exchanges old.endpoint.sending))
       (record old { endpoint = after_tick now (without_over_in now old) }) answers new
+  pub lost_answers : Bool
   pub told_answers : List Datagram
-  pub answered : GoesOut answers told_answers
-  pub told : step ≡ sends (repeats ++ told_answers)
+  pub answered : GoesOut lost_answers answers told_answers
+  pub told : step.out ≡ repeats ++ told_answers
   pub targets : new.targets ≡ old.targets
-  pub silent : step.notes ≡ quiet
+  pub noted : step.notes ≡ quiet_or_lost (lost_repeats || lost_answers)
   pub fits : AreSendable step.out
 
 -- ---- what it sends

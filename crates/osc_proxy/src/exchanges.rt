@@ -11,6 +11,7 @@ use crate::deadline::first_of;
 use crate::token::Token;
 use osc_coap::MessageRef;
 use osc_message::{Buffer, MessageName, is_acknowledgement};
+use osc_model::limits::EXCHANGE_LIFETIME;
 use osc_model::{Bytes, Moment, Peer};
 use slab::Slab;
 use std::alloc::{AllocError, Global};
@@ -18,13 +19,10 @@ use std::fmt;
 use std::marker::Model;
 
 /// How many exchanges are open at most.
-const MOST: usize = 64;
+const MOST_EXCHANGES: usize = 64;
 
 /// How long a message without options and payload is at most, in bytes: a header and a token.
 const LONGEST_FAILURE: usize = 12;
-
-/// EXCHANGE_LIFETIME (RFC 7252 section 4.8.2), in ms.
-const LIFETIME: u64 = 247_000;
 
 /// A request that was forwarded, and whose answer hasn't gone back yet.
 #[derive(Debug, Drop)]
@@ -132,7 +130,7 @@ fn is_named(from: Peer, id: u16, exchange: &Exchange) -> bool
 fn end_of(exchange: &Exchange) -> u64
     ensures { (now : AnyMoment) → nat_le result now.ms ≡ spec.is_overdue now exchange.now }
 {
-    exchange.opened.ms + LIFETIME
+    exchange.opened.ms + EXCHANGE_LIFETIME
 }
 
 /// Whether no answer came for so long that none is awaited any more.
@@ -173,7 +171,7 @@ impl Exchanges {
         ensures { IfOk result (λ exchanges. exchanges ≡ spec.none_open) }
     {
         Ok(Exchanges {
-            open: Slab::with_capacity(alloc, MOST)?,
+            open: Slab::with_capacity(alloc, MOST_EXCHANGES)?,
         })
     }
 
@@ -197,7 +195,7 @@ impl Exchanges {
         ensures { result ≡ spec.free_key self.now }
     {
         let key = self.open.vacant_key();
-        if MOST <= self.open.len() || 256 <= key {
+        if MOST_EXCHANGES <= self.open.len() || 256 <= key {
             return None;
         }
         Some(key as u8)

@@ -1,5 +1,6 @@
 //! Laws of the definitions, for the crates above. These functions do nothing: whoever calls one has its clauses for a proof.
 ghost use Rattle.std.specs.Prelude.{◌≡◌, ◌≢◌, ◌<◌, ◌≤◌, ◌+◌, ℕ, true, false, List, [], length, Option, Some, None, codes};
+ghost use Rattle.osc_model.specs.{exchange_lifetime};
 ghost use Rattle.osc_model.specs.Arrival.{Arrival};
 ghost use Rattle.osc_model.specs.declared.node.Draw.{Draw as AnyDraw};
 ghost use Rattle.osc_coap.specs.{HasSpelling, NumberAndValue, spelling};
@@ -9,7 +10,7 @@ ghost use Rattle.osc_options.specs.{recognised, value as value_in, AreInOrder, o
 ghost use Rattle.osc_model.specs.declared.node.Moment.{Moment as AnyMoment};
 ghost use Rattle.osc_model.specs.declared.node.Peer.{Peer as AnyPeer};
 ghost use Rattle.osc_model.specs.declared.step.Step.{Step as AnyStep};
-ghost use Rattle.osc_proxy.specs.Exchanges.{HasOwnTokens, Table, answers, first_key, get, is_overdue, lifetime};
+ghost use Rattle.osc_proxy.specs.Exchanges.{HasOwnTokens, Table, answers, first_key, get, is_overdue};
 ghost use Rattle.osc_proxy.specs.Forwarding.{forwarded, forwarded_options, has_proxy_uri, is_taken_out};
 ghost use Rattle.osc_proxy.specs.Hearing.{Hears};
 ghost use Rattle.osc_proxy.specs.Passage.{Passage};
@@ -29,7 +30,7 @@ pub fn none_is_over()
     ensures over { (old new : State) (now : AnyMoment) (draw : AnyDraw) (step : AnyStep) → Ticks old now draw step new
         → (key : ℕ) (exchange : AnyExchange) → get new.exchanges key ≡ Some exchange → is_overdue now exchange ≡ false }
     ensures ends { (old new : State) (now : AnyMoment) (draw : AnyDraw) (step : AnyStep) → Ticks old now draw step new
-        → (key : ℕ) (exchange : AnyExchange) → get new.exchanges key ≡ Some exchange → now.ms < exchange.opened.ms + lifetime }
+        → (key : ℕ) (exchange : AnyExchange) → get new.exchanges key ≡ Some exchange → now.ms < exchange.opened.ms + exchange_lifetime }
 {}
 
 /// A response answers one exchange at most: no two have one token, since each begins with the key of its own.

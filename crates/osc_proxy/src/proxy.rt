@@ -469,7 +469,8 @@ impl Proxy {
     }
 
     /// Ends the exchanges that were opened 247 seconds ago or earlier, and those whose forwarded message was given up, by 5.04, and sends
-    /// what is due at this moment. Memory is taken for what is sent alone: without it that is lost, as on the way, and all else is done.
+    /// what is due at this moment. Memory is taken for what is sent alone: without it that is lost, as on the way, which the step says, and
+    /// all else is done.
     pub fn on_tick(&mut self, alloc: Global, now: Moment, draw: &Draw) -> Step
         ensures ticked { Ticks self.old now draw.now result self.new }
         ensures few { length result.out ≤ length self.old.endpoint.sending + count self.old.exchanges }

@@ -4,8 +4,7 @@ ghost use Rattle.std.specs.List.{AllByRecursion, prefix_len};
 ghost use Rattle.osc_proxy.specs.ProxyUri.{Reads, is_digit as is_digit_of, is_host_byte as is_host_byte_of};
 ghost use Rattle.osc_proxy.specs.Inner.Reading as spec;
 
-/// The port of a URI that names none (RFC 7252 section 6.1).
-pub const DEFAULT_PORT: u16 = 5683;
+use osc_model::limits::DEFAULT_PORT;
 
 /// The host and the port that a request names for its target.
 #[derive(Clone, Copy, Debug, PartialEq, Eq)]

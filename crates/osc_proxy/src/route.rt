@@ -6,10 +6,11 @@ ghost use Rattle.osc_proxy.specs.ProxyUri.{HostAndPort};
 ghost use Rattle.osc_proxy.specs.Route as spec;
 
 use crate::laws::something_is_named;
-use crate::proxy_uri::{DEFAULT_PORT, Origin, read_proxy_uri};
+use crate::proxy_uri::{Origin, read_proxy_uri};
 use crate::targets::Targets;
 use osc_coap::MessageRef;
 use osc_model::Peer;
+use osc_model::limits::DEFAULT_PORT;
 use osc_options::{Named, survey_of, uint};
 
 /// Where a request goes.

@@ -1,5 +1,5 @@
 //! What comes due at a proxy.
-ghost use Rattle.std.specs.Prelude.{◌≡◌, ◌≤◌, ◌<◌, ◌+◌, ◌++◌, [], true, IfErr, IfOk, List, if◌then◌else◌, vec_len, vec_capacity};
+ghost use Rattle.std.specs.Prelude.{◌≡◌, ◌≤◌, ◌<◌, ◌+◌, ◌++◌, [], true, List, if◌then◌else◌, vec_len, vec_capacity};
 ghost use Rattle.std.specs.Option.{option_to_list};
 ghost use Rattle.osc_model.specs.declared.step.Datagram.{Datagram as AnyDatagram};
 ghost use Rattle.osc_coap.specs.{HasSpelling, spelling};
@@ -85,44 +85,44 @@ fn all_end(
     }
 }
 
-/// The datagrams with room after them for the answer of each exchange; as they are where none is over, which takes no memory, or
-/// where there is no memory for that room.
-fn with_room(
-    exchanges: &Exchanges,
+/// The datagrams of a tick, and whether answers were lost for lack of memory.
+#[derive(Drop)]
+struct Sent {
     out: Datagrams,
-    now: Moment,
-    given_up: &[MessageName],
-) -> Result<Vec<Datagram>, Datagrams>
-    ensures ok { IfOk result (λ room. (room.items ≡ out) × (vec_len room + count exchanges.now ≤ vec_capacity room)) }
-    ensures err { IfErr result (λ same. same ≡ out) }
-{
-    match exchanges.find_over(now, given_up) {
-        Some(_) => out.into_vec(exchanges.count()),
-        None => Err(out),
-    }
+    lost: bool,
 }
 
-/// Ends each exchange that is over by 5.04. The datagrams go after the others, or, without memory for them, are lost.
+/// Ends each exchange that is over by 5.04. The datagrams go after the others, or, without memory for them, are lost. Where none is over, it
+/// takes no memory.
 fn answer_all(
     exchanges: &mut Exchanges,
     endpoint: &mut Endpoint,
     alloc: Global,
     out: Datagrams,
     tick: AtTick<'_>,
-) -> Datagrams
-    ensures { (answers : List AnyDatagram) × (told : List AnyDatagram) × (result ≡ out ++ told) × GoesOut answers told
+) -> Sent
+    ensures { (answers : List AnyDatagram) × (told : List AnyDatagram) × (result.out ≡ out ++ told) × GoesOut result.lost answers told
         × ((targets : List AnyTarget) → AllEnd tick.entry.at tick.entry.draw.now tick.entry.given_up.now (record { targets = targets; exchanges = exchanges.old; endpoint = endpoint.old }) answers
         (record { targets = targets; exchanges = exchanges.new; endpoint = endpoint.new })) × AreSendable answers }
 {
-    match with_room(exchanges, out, tick.at, tick.given_up) {
+    if exchanges.find_over(tick.at, tick.given_up).is_none() {
+        return Sent { out, lost: false };
+    }
+    match out.into_vec(exchanges.count()) {
         Ok(mut room) => {
             all_end(exchanges, endpoint, &mut room, true, tick);
-            Datagrams::from_vec(room)
+            Sent {
+                out: Datagrams::from_vec(room),
+                lost: false,
+            }
         }
         Err(same) => {
-            let mut lost = Vec::new(alloc);
-            all_end(exchanges, endpoint, &mut lost, false, tick);
-            same
+            let mut none = Vec::new(alloc);
+            all_end(exchanges, endpoint, &mut none, false, tick);
+            Sent {
+                out: same,
+                lost: true,
+            }
         }
     }
 }
@@ -139,12 +139,16 @@ pub(crate) fn tick(
         (record { targets = targets; exchanges = exchanges.new; endpoint = endpoint.new }) }
 {
     exchanges.withdraw_over(endpoint, now);
-    let Ticked { out, given_up } = endpoint.on_tick(alloc, now);
+    let Ticked {
+        out,
+        lost: lost_repeats,
+        given_up,
+    } = endpoint.on_tick(alloc, now);
     let tick = AtTick {
         at: now,
         draw,
         given_up: given_up.as_slice(),
     };
-    let out = answer_all(exchanges, endpoint, alloc, out, tick);
-    Step::sending(out)
+    let Sent { out, lost } = answer_all(exchanges, endpoint, alloc, out, tick);
+    Step::of_tick(out, lost_repeats || lost)
 }

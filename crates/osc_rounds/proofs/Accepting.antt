@@ -17,7 +17,8 @@ use Rattle.osc_coap.specs.Plaintext.{Plaintext}
 use Rattle.osc_coap.specs.declared.kind.Kind.TheVariants.{Acknowledgement, Confirmable}
 use Rattle.osc_options.specs.{reply_in, reply_plaintext, value, has_oscore, outer_options, plaintext_of, protected, merge, IsReplyIn, IsWithinRanges, reply_text}
 use Rattle.osc_dedup.specs.{Entry, looked}
-use Rattle.osc_message.specs.{same_peer, heard, Receives, acknowledgement, sent_to}
+use Rattle.osc_model.specs.{same_peer}
+use Rattle.osc_message.specs.{heard, Receives, acknowledgement, sent_to}
 use Rattle.osc_message.specs.declared.heard.Heard.{Heard}
 use Rattle.osc_message.specs.declared.heard.Heard.TheVariants as heard_as
 use Rattle.osc_message.specs.declared.received.Received.{Received}

@@ -7,7 +7,7 @@ use Rattle.std.proofs.lemmas.List.{length-take}
 use Rattle.std.proofs.lemmas.Str.{IsUtf8-from_ascii, is_utf8-from_IsUtf8}
 use Rattle.std.proofs.lemmas.Str.Ascii.{IsAscii-nil}
 use Rattle.std.proofs.lemmas.Option.{same_Some}
-use Rattle.osc_model.specs.{read_as, code, nonce_drawn, HasBegun, IsNotOver, quiet, revocation_of, stands}
+use Rattle.osc_model.specs.{read_as, code, nonce_drawn, HasBegun, IsNotOver, quiet, revocation_of, stands, same_peer}
 use Rattle.osc_model.specs.Arrival.{Arrival}
 use Rattle.osc_model.specs.Scope.{Scope}
 use Rattle.osc_model.specs.declared.algorithm.Algorithm.TheVariants.{EightByteTag}
@@ -23,7 +23,7 @@ use Rattle.osc_coap.specs.declared.kind.Kind.{Kind}
 use Rattle.osc_coap.specs.declared.kind.Kind.TheVariants.{Acknowledgement, Confirmable}
 use Rattle.osc_options.specs.{has_oscore}
 use Rattle.osc_dedup.specs.{Entry as Noted, looked}
-use Rattle.osc_message.specs.{same_peer, EndpointState, heard, Receives, acknowledgement, datagram, sent_to}
+use Rattle.osc_message.specs.{EndpointState, heard, Receives, acknowledgement, datagram, sent_to}
 use Rattle.osc_message.specs.declared.heard.Heard.{Heard}
 use Rattle.osc_message.specs.declared.heard.Heard.TheVariants as heard_as
 use Rattle.osc_message.specs.declared.received.Received.{Received}

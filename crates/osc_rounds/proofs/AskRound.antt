@@ -6,7 +6,7 @@ use Rattle.std.specs.Option.{ForSome}
 use Rattle.std.proofs.lemmas.List.Elements.{recursion_from_All}
 use Rattle.std.proofs.lemmas.List.{length-take}
 use Rattle.std.proofs.lemmas.Option.{same_Some}
-use Rattle.osc_model.specs.{apply_read, token_drawn, IsWithinLimits}
+use Rattle.osc_model.specs.{apply_read, token_drawn, IsWithinLimits, same_peer}
 use Rattle.osc_model.specs.Arrival.{Arrival}
 use Rattle.osc_model.specs.Scope.{Scope}
 use Rattle.osc_model.specs.Tree.{Tree}
@@ -26,7 +26,7 @@ use Rattle.osc_coap.specs.declared.kind.Kind.{Kind}
 use Rattle.osc_coap.specs.declared.kind.Kind.TheVariants.{Acknowledgement, Confirmable}
 use Rattle.osc_dedup.specs.{looked}
 use Rattle.osc_options.specs.{reply_plaintext, etag_option, format_option, with_reply, request_options, outer_options, plaintext_of, read_request}
-use Rattle.osc_message.specs.{same_peer, EndpointState, own_id, acknowledgement, empty_acknowledgement, is_confirmable, reply_start, sent_to}
+use Rattle.osc_message.specs.{EndpointState, own_id, acknowledgement, empty_acknowledgement, is_confirmable, reply_start, sent_to}
 use Rattle.osc_context.specs.{longest_id}
 use Rattle.osc_protect.specs.{HasShortContext, IsProtectedRequest, longest_message, plain_bytes, request_length, request_value}
 use Rattle.osc_authz.specs.{ClientContextState, IsLive, In, IsLawfulContext, IsTable, contexts, meant}

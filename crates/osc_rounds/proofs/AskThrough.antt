@@ -2,7 +2,7 @@
 use Rattle.std.proofs.Common.{◌≡◌, ◌∙◌, sym, ap, subst, refl, ℕ, ◌+◌, ◌^◌, ◌<◌, ◌≤◌, Bool, true, false, not, List, [], ◌∷◌, length, Option, Some, None, arith}
 use Rattle.std.specs.Prelude.{filter}
 use Rattle.osc_model.specs.Arrival.{Arrival}
-use Rattle.osc_model.specs.{token_drawn, IsWithinLimits}
+use Rattle.osc_model.specs.{token_drawn, IsWithinLimits, same_peer}
 use Rattle.osc_model.specs.declared.node.Draw.{Draw}
 use Rattle.osc_model.specs.declared.node.Moment.{Moment}
 use Rattle.osc_model.specs.declared.node.Peer.{Peer}
@@ -13,7 +13,7 @@ use Rattle.osc_coap.specs.Message.{Message}
 use Rattle.osc_coap.specs.declared.kind.Kind.TheVariants.{Acknowledgement, Confirmable}
 use Rattle.osc_options.specs.{request_options, AreInOrder, merge, outer_options, has_unrecognised_unsafe}
 use Rattle.osc_dedup.specs.{looked}
-use Rattle.osc_message.specs.{same_peer, EndpointState, own_id, datagram, empty_acknowledgement}
+use Rattle.osc_message.specs.{EndpointState, own_id, datagram, empty_acknowledgement}
 use Rattle.osc_context.specs.{longest_id}
 use Rattle.osc_ccm.specs.{Sealings, Tags}
 use Rattle.osc_protect.specs.{HasShortContext, plain_bytes, request_value, response_value}

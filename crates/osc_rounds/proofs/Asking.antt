@@ -27,7 +27,7 @@ use Rattle.osc_window.specs.{IsFresh}
 use Rattle.osc_protect.specs.{aad_of, HasShortContext, IsFor, IsProtectedRequest, IsProtectedResponse, IsRequest, SealedRequest, plain_bytes, request_nonce, request_value, Compressed, SpellsValue}
 use Rattle.osc_ccm.specs.{Sealings}
 use Rattle.osc_authz.specs.SecurityContext.{SecurityContext}
-use Rattle.osc_authz.specs.{meant, accepted}
+use Rattle.osc_authz.specs.{holder_at, meant, accepted}
 use Rattle.osc_run.specs.{Replies as AppliesTo}
 use Rattle.osc_server.specs.{met, standing_of, case_of as server_case, Answers as ServerAnswers, AnswersNew as ServerAnswersNew, AnswersProtected, IsMeant, IsRefused, IsSealed, Sends, Serves, notes_of_request, refused, reply_to, served, Hears as ServerHears}
 use Rattle.osc_server.specs.State.{State as Server}
@@ -221,7 +221,7 @@ module _ (is_sealing : Sealings) (laws : RequestLaws is_sealing)
     answer : Message
     protects : IsProtectedResponse is_sealing h.name request.number None (reply_to old.endpoint came reply) answer
     sends : Sends (record old { tree = new.tree; desk = record old.desk { table = accepted request.kid request.number old.desk.table } })
-        came answer (notes_of_request now h request.number text reply) step new
+        came answer (notes_of_request now h (holder_at request.kid old.desk.table) request.number text reply) step new
 
   are_served : (s : Serves is_sealing old came step new) → AreServed s.held s.request s.text
   are_served s = record {

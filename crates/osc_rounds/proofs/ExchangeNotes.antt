@@ -126,12 +126,14 @@ module _ (is_sealing : Sealings) (laws : TokenLaws is_sealing)
   post_notes = record {
     protected = is_agreed.its.protected;
     iv = is_agreed.its.iv;
+    id = is_agreed.claims.material.id;
     is =
-        ap (λ (o : Option Note). let n : StepNotes = record quiet { opens = o; drawn = nonce_of_post post.answer; refused = refusal_of_post post.answer } in n)
+        ap (λ (o : Option Note). let n : StepNotes = record quiet { opens = o; drawn = nonce_of_post post.answer; refused = refusal_of_post post.answer; holder = post.holder } in n)
         (is_agreed.noted ∙ ap (λ (k : List ℕ). Some (token_note k is_agreed.its.protected is_agreed.its.iv is_agreed.its.text)) its_key)
-        ∙ ap (λ (a : Result PostReply PostError). let n : StepNotes = record quiet { opens = Some (token_note before.key is_agreed.its.protected is_agreed.its.iv is_agreed.its.text); drawn = nonce_of_post a; refused = refusal_of_post a } in n) answer.1
-        ∙ ap (λ (d : List ℕ). let n : StepNotes = record quiet { opens = Some (token_note before.key is_agreed.its.protected is_agreed.its.iv is_agreed.its.text); drawn = Some d } in n) answer.2
-        ∙ ap (λ (t : List ℕ). let n : StepNotes = record quiet { opens = Some (token_note before.key is_agreed.its.protected is_agreed.its.iv t); drawn = Some (nonce_drawn draw) } in n) its_text;
+        ∙ ap (λ (a : Result PostReply PostError). let n : StepNotes = record quiet { opens = Some (token_note before.key is_agreed.its.protected is_agreed.its.iv is_agreed.its.text); drawn = nonce_of_post a; refused = refusal_of_post a; holder = post.holder } in n) answer.1
+        ∙ ap (λ (d : List ℕ). let n : StepNotes = record quiet { opens = Some (token_note before.key is_agreed.its.protected is_agreed.its.iv is_agreed.its.text); drawn = Some d; holder = post.holder } in n) answer.2
+        ∙ ap (λ (t : List ℕ). let n : StepNotes = record quiet { opens = Some (token_note before.key is_agreed.its.protected is_agreed.its.iv t); drawn = Some (nonce_drawn draw); holder = post.holder } in n) its_text
+        ∙ ap (λ (h : Option (List ℕ)). let n : StepNotes = record quiet { opens = Some (token_note before.key is_agreed.its.protected is_agreed.its.iv text); drawn = Some (nonce_drawn draw); holder = h } in n) is_agreed.holder;
   }
 
 -- what a server notes of it, whichever way the post came
@@ -148,7 +150,7 @@ answer_notes is_sealing laws server agreed came step claims entries holder nonce
     let posts : Posts (is_sealing EightByteTag) server.desk (record { on = standing_of server came.at; body = body; draw = came.draw }) it.post agreed.desk =
     subst (λ (b : List ℕ). Posts (is_sealing EightByteTag) server.desk (record { on = standing_of server came.at; body = b; draw = came.draw }) it.post agreed.desk) bytes it.posts in
     let notes = post_notes is_sealing laws server.desk agreed.desk (standing_of server came.at) came.draw it.post claims entries holder nonce1 client_id welcome size unknown posts in
-    record { protected = notes.protected; iv = notes.iv; is = ap (λ (s : Step). s.notes) it.sent.sent ∙ notes.is }
+    record { protected = notes.protected; iv = notes.iv; id = notes.id; is = ap (λ (s : Step). s.notes) it.sent.sent ∙ notes.is }
 
 -- ---- what went out
 

@@ -3,7 +3,7 @@ use Rattle.std.proofs.Common.{◌≡◌, ◌∙◌, ap, subst, refl, ℕ, ◌^�
 use Rattle.std.specs.Prelude.{◌≢◌, IfSome, drop}
 use Rattle.std.proofs.lemmas.List.{length-drop, length-take}
 use Rattle.osc_model.specs.Arrival.{Arrival}
-use Rattle.osc_model.specs.{nonce_drawn, token_drawn, quiet}
+use Rattle.osc_model.specs.{nonce_drawn, token_drawn, quiet, same_peer}
 use Rattle.osc_model.specs.declared.node.Draw.{Draw}
 use Rattle.osc_model.specs.declared.node.Moment.{Moment}
 use Rattle.osc_model.specs.declared.node.Peer.{Peer}
@@ -12,7 +12,7 @@ use Rattle.osc_model.specs.declared.step.Step.{Step}
 use Rattle.osc_coap.specs.{Spells, spelling}
 use Rattle.osc_coap.specs.Message.{Message}
 use Rattle.osc_coap.specs.declared.kind.Kind.TheVariants.{Acknowledgement}
-use Rattle.osc_message.specs.{same_peer, own_id, datagram}
+use Rattle.osc_message.specs.{own_id, datagram}
 use Rattle.osc_ccm.specs.{Sealings}
 use Rattle.osc_protect.specs.{longest_message}
 use Rattle.osc_scope.specs.{Entry}

@@ -2,7 +2,7 @@
 use Rattle.std.proofs.Common.{◌≡◌, ◌∙◌, sym, ap, subst, refl, ℕ, ◌^◌, ◌<◌, ◌≤◌, true, List, [], ◌∷◌, length, Option, Some, None, arith}
 use Rattle.std.specs.Prelude.{◌≢◌, drop}
 use Rattle.std.proofs.lemmas.List.{length-drop, length-take}
-use Rattle.osc_model.specs.{read_as, nonce_drawn, token_drawn, quiet}
+use Rattle.osc_model.specs.{read_as, nonce_drawn, token_drawn, quiet, same_peer}
 use Rattle.osc_model.specs.Arrival.{Arrival}
 use Rattle.osc_model.specs.declared.node.Draw.{Draw}
 use Rattle.osc_model.specs.declared.node.Moment.{Moment}
@@ -13,7 +13,7 @@ use Rattle.osc_coap.specs.{datagram_limit, HasSpelling, spelling}
 use Rattle.osc_coap.specs.Message.{Message}
 use Rattle.osc_coap.specs.declared.kind.Kind.TheVariants.{Acknowledgement, Confirmable}
 use Rattle.osc_dedup.specs.{looked}
-use Rattle.osc_message.specs.{same_peer, EndpointState, own_id, datagram, empty_acknowledgement}
+use Rattle.osc_message.specs.{EndpointState, own_id, datagram, empty_acknowledgement}
 use Rattle.osc_ccm.specs.{Sealings}
 use Rattle.osc_protect.specs.{longest_message}
 use Rattle.osc_authz.specs.Begun.{Begun}
@@ -244,7 +244,7 @@ module _ (is_sealing : Sealings) (laws : ExchangeLaws is_sealing) (tokens : Toke
 
         made : IsAgreedAndMadeThrough is_sealing exchange sent came second agreed
         made = record {
-          notes = record { protected = post_noted.protected; iv = post_noted.iv; is = is.notes ∙ post_noted.is };
+          notes = record { protected = post_noted.protected; iv = post_noted.iv; id = post_noted.id; is = is.notes ∙ post_noted.is };
           response = response;
           out = is.out;
           forwardable = record {

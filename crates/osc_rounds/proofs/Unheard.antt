@@ -1,7 +1,8 @@
 -- Where one message is noted, what wasn't noted of others still isn't.
 use Rattle.std.proofs.Common.{◌≡◌, ◌∙◌, sym, refl, ℕ, zero, suc, Bool, true, false, ◌&&◌, List, [], ◌∷◌, ◌++◌, drop, Some, None, length, ◌+◌, ◌-◌}
-use Rattle.std.specs.Prelude.{◌≢◌, bytes_eq, filter, nat_eq, not}
+use Rattle.std.specs.Prelude.{◌≢◌, filter, not}
 use Rattle.std.proofs.lemmas.Bool.{ne_eqb}
+use Rattle.osc_model.specs.{same_peer}
 use Rattle.osc_model.specs.declared.node.Moment.{Moment}
 use Rattle.osc_model.specs.declared.node.Peer.{Peer}
 use Rattle.osc_dedup.specs.{Entry, is_alive, is_of, looked, most_entries, staying, with_note}
@@ -59,7 +60,7 @@ pub still_unheard : (now later : Moment) (peer from : Peer) (id other : ℕ) (no
 still_unheard now later peer from id other noted seen isnt none =
     let others = staying now from id seen in
     let one : Entry = record { peer = from; id = id; noted = noted } in
-    let differs : is_of peer other one ≡ false = rw (ne_eqb other id isnt) (and_false (bytes_eq peer.address from.address && nat_eq peer.port from.port)) in
+    let differs : is_of peer other one ≡ false = rw (ne_eqb other id isnt) (and_false (same_peer peer from)) in
     of_unheard later peer other (with_note now from id noted seen)
     (unheard_and later peer other (drop (length others + 1 - most_entries) others) one
     (unheard_dropped later peer other (length others + 1 - most_entries) others

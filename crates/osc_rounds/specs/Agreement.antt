@@ -3,7 +3,7 @@
 use Rattle.std.specs.Prelude.{◌≡◌, ℕ, ◌<◌, true, List, [], ◌∷◌, length, IfSome, Some, None, Ok}
 use Rattle.osc_model.specs.Tree.{Tree}
 use Rattle.osc_model.specs.Arrival.{Arrival}
-use Rattle.osc_model.specs.{code, nonce_drawn}
+use Rattle.osc_model.specs.{code, nonce_drawn, same_peer}
 use Rattle.osc_model.specs.declared.algorithm.Algorithm.TheVariants.{EightByteTag}
 use Rattle.osc_model.specs.declared.node.Peer.{Peer}
 use Rattle.osc_model.specs.declared.step.Step.{Step}
@@ -14,7 +14,7 @@ use Rattle.osc_coap.specs.declared.kind.Kind.{Kind}
 use Rattle.osc_coap.specs.declared.kind.Kind.TheVariants.{Acknowledgement}
 use Rattle.osc_options.specs.{with_reply}
 use Rattle.osc_dedup.specs.{looked}
-use Rattle.osc_message.specs.{same_peer, datagram}
+use Rattle.osc_message.specs.{datagram}
 use Rattle.osc_scope.specs.{Entry}
 use Rattle.osc_token.specs.declared.claims.Claims.{Claims}
 use Rattle.osc_ccm.specs.{Sealings}

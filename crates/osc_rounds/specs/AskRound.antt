@@ -13,7 +13,7 @@ use Rattle.osc_message.specs.{own_id, datagram}
 use Rattle.osc_ccm.specs.{Sealings}
 use Rattle.osc_protect.specs.{plain_bytes}
 use Rattle.osc_authz.specs.SecurityContext.{SecurityContext}
-use Rattle.osc_authz.specs.{IsTable, accepted}
+use Rattle.osc_authz.specs.{IsTable, accepted, holder_at}
 use Rattle.osc_run.specs.{request_note, Replies as AppliesTo}
 use Rattle.osc_options.specs.{read_request}
 use Rattle.osc_server.specs.State.{State as Server}
@@ -50,7 +50,7 @@ module _ (is_sealing : Sealings) where
   pub record IsServedAndAnswered (way : StraightRequest) (second : Step) (served : Server) : Type 0 where
     pub reply : Reply
     pub applied : AppliesTo way.server.tree (apply_read way.server.desk.rules.revoked way.server.tree way.held.scope (read_request way.text)) reply served.tree
-    pub entry : second.notes ≡ notes_of_request way.now way.held way.number way.text reply
+    pub entry : second.notes ≡ notes_of_request way.now way.held (holder_at way.held.name.client_id way.server.desk.table) way.number way.text reply
     pub kept : served.desk ≡ record way.server.desk { table = accepted way.held.name.client_id way.number way.server.desk.table }
     pub answer : Message
     pub out : second.out ≡ datagram way.at answer ∷ []

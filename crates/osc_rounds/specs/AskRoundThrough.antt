@@ -12,7 +12,7 @@ use Rattle.osc_coap.specs.Message.{Message}
 use Rattle.osc_message.specs.{datagram, empty_acknowledgement}
 use Rattle.osc_ccm.specs.{Sealings}
 use Rattle.osc_authz.specs.SecurityContext.{SecurityContext}
-use Rattle.osc_authz.specs.{accepted}
+use Rattle.osc_authz.specs.{accepted, holder_at}
 use Rattle.osc_run.specs.{request_note, Replies as AppliesTo}
 use Rattle.osc_options.specs.{read_request}
 use Rattle.osc_server.specs.{Hears as ServerHears, notes_of_request}
@@ -80,7 +80,7 @@ module _ (is_sealing : Sealings) where
   pub record IsServedAndBroughtBack (way : OnItsWay) (settled : Client) (passed : Proxy) (third : Step) (served : Server) : Type 0 where
     pub reply : Reply
     pub applied : AppliesTo way.server.tree (apply_read way.server.desk.rules.revoked way.server.tree way.held.scope (read_request way.text)) reply served.tree
-    pub entry : third.notes ≡ notes_of_request way.now way.held way.number way.text reply
+    pub entry : third.notes ≡ notes_of_request way.now way.held (holder_at way.held.name.client_id way.server.desk.table) way.number way.text reply
     pub kept : served.desk ≡ record way.server.desk { table = accepted way.held.name.client_id way.number way.server.desk.table }
     pub response : Message
     pub out : third.out ≡ datagram way.proxy_at response ∷ []

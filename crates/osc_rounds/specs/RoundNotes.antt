@@ -1,5 +1,5 @@
 -- What the steps of a round note, which is all that what is assumed of a run speaks of.
-use Rattle.std.specs.Prelude.{◌≡◌, ◌⊎◌, ℕ, List, [], ◌∷◌, Some, None}
+use Rattle.std.specs.Prelude.{◌≡◌, ◌⊎◌, ℕ, List, [], ◌∷◌, Option, Some, None}
 use Rattle.osc_model.specs.{nonce_drawn, quiet}
 use Rattle.osc_model.specs.StepNotes.{StepNotes}
 use Rattle.osc_model.specs.declared.node.Draw.{Draw}
@@ -21,19 +21,21 @@ AreAmongQuiet steps (one ∷ all) =
 -- A request: the client sealed this text, the server opened it and sealed the reply, and the client opened that, all three under one
 -- context and number (RFC 8613 sections 8.1 to 8.4).
 pub record AreNotesOfRequest (now : Moment) (request : OpenedRequest) (reply : Reply) (asked served answered : StepNotes) : Type 0 where
+  pub holder : Option (List ℕ)
   pub asked_is : asked ≡ record quiet { seals = Some (request_note request.held.name request.number request.text) }
-  pub served_is : served ≡ notes_of_request now request.held request.number request.text reply
+  pub served_is : served ≡ notes_of_request now request.held holder request.number request.text reply
   pub answered_is : answered
       ≡ record quiet {
         opens = Some (response_note request.held.name request.number None (reply_text reply));
         result = Some (result.Answer reply);
       }
 
--- the server opened a token of this text, which was sealed under this key, and drew a nonce
+-- the server opened a token of this text and some id, which was sealed under this key, and drew a nonce
 pub record AreNotesOfAgreement (key text : List ℕ) (draw : Draw) (agreed : StepNotes) : Type 0 where
   pub protected : List ℕ
   pub iv : List ℕ
-  pub is : agreed ≡ record quiet { opens = Some (token_note key protected iv text); drawn = Some (nonce_drawn draw) }
+  pub id : List ℕ
+  pub is : agreed ≡ record quiet { opens = Some (token_note key protected iv text); drawn = Some (nonce_drawn draw); holder = Some id }
 
 -- what client and server draw in an exchange
 pub record Draws : Type 0 where

@@ -51,7 +51,8 @@ use osc_authz::laws::{
 };
 use osc_ccm::Ciphers;
 use osc_coap::laws::{fewer_options, length_of_spelling, one_plaintext};
-use osc_message::laws::{one_peer, one_reception, what_nodes_send};
+use osc_message::laws::{one_reception, what_nodes_send};
+use osc_model::laws::one_peer;
 use osc_options::laws::{
     a_reply_is_read_again, a_written_reply, option_of_a_protected_message, requests_are_encrypted,
 };

@@ -8,7 +8,8 @@ use std::alloc::{AllocError, Global};
 
 /// From whom the messages come.
 const PEER: Peer = Peer {
-    address: [192, 0, 2, 1],
+    address: [0, 0, 0, 0, 0, 0, 0, 0, 0, 0, 0xff, 0xff, 192, 0, 2, 1],
+    scope: 0,
     port: 5683,
 };
 

@@ -88,9 +88,9 @@ impl Line {
         }
     }
 
-    /// Adds an address and a port, as a row has them.
+    /// Adds an IPv4 address and a port, as a row has them.
     pub fn peer(&mut self, peer: Peer) {
-        let [a, b, c, d] = peer.address;
+        let [_, _, _, _, _, _, _, _, _, _, _, _, a, b, c, d] = peer.address;
         let [high, low] = peer.port.to_be_bytes();
         self.bytes(&[a, b, c, d, high, low]);
     }

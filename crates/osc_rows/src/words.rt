@@ -91,13 +91,13 @@ impl<'a> Word<'a> {
         }
     }
 
-    /// An address and a port, in six bytes.
+    /// An IPv4 address and a port, in six bytes.
     pub fn peer(&self) -> Option<Peer> {
         match self.bytes()? {
-            [a, b, c, d, high, low] => Some(Peer {
-                address: [*a, *b, *c, *d],
-                port: 256 * *high as u16 + *low as u16,
-            }),
+            [a, b, c, d, high, low] => {
+                let port = 256 * *high as u16 + *low as u16;
+                Some(Peer::v4([*a, *b, *c, *d], port))
+            }
             _ => None,
         }
     }

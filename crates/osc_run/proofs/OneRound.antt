@@ -116,7 +116,7 @@ module _ (key text audience : List ℕ) (now : Moment) (claims : Claims) (lawful
   confirmed = confirmed_by 0 pending
 
   abbrev entry : Entry
-  entry = record { context = name; number = 0; plaintext = []; moment = now; reply = refusal }
+  entry = record { context = name; number = 0; plaintext = []; request = read_request []; moment = now; reply = refusal }
 
   -- ---- the client
 
@@ -141,7 +141,7 @@ module _ (key text audience : List ℕ) (now : Moment) (claims : Claims) (lawful
   started = by_client 0 false (record quiet { drawn = Some (eight 1) })
 
   abbrev posted : Noted
-  posted = by_server (record quiet { opens = Some (token_note key [] [] text); drawn = Some (eight 2) })
+  posted = by_server (record quiet { opens = Some (token_note key [] [] text); drawn = Some (eight 2); holder = Some claims.material.id })
 
   abbrev made : Noted
   made = by_client 0 false (record quiet { result = Some result.Made })
@@ -150,7 +150,7 @@ module _ (key text audience : List ℕ) (now : Moment) (claims : Claims) (lawful
   asked = by_client 0 false (record quiet { seals = Some (request_note name 0 []) })
 
   abbrev served : Noted
-  served = by_server (record quiet { seals = Some (reply_note name 0 refusal); opens = Some (opening_note name 0 []); served = Some entry })
+  served = by_server (record quiet { seals = Some (reply_note name 0 refusal); opens = Some (opening_note name 0 []); served = Some entry; holder = Some claims.material.id })
 
   abbrev answered : Noted
   answered = by_client 0 false (record quiet { opens = Some (response_note name 0 None (reply_text refusal)); result = Some (result.Answer refusal) })
@@ -203,7 +203,7 @@ module _ (key text audience : List ℕ) (now : Moment) (claims : Claims) (lawful
       (Started refl (record { begun = begun; size = refl; offered = refl; noted = refl; before = refl; is = refl })) refl
 
   step_posted : Has → WorldStep (world [] waiting (started ∷ [])) (world (pending ∷ []) waiting (posted ∷ started ∷ []))
-  step_posted h = OfServer now (record { contexts = pending ∷ []; tree = tree; rules = rules }) (record quiet { opens = Some (token_note key [] [] text); drawn = Some (eight 2) })
+  step_posted h = OfServer now (record { contexts = pending ∷ []; tree = tree; rules = rules }) (record quiet { opens = Some (token_note key [] [] text); drawn = Some (eight 2); holder = Some claims.material.id })
       (Posted (record {
         key = key;
         protected = [];
@@ -249,7 +249,7 @@ module _ (key text audience : List ℕ) (now : Moment) (claims : Claims) (lawful
       (Asked refl (record { context = record { name = name; next = 0 }; lawful = omega arith; plaintext = []; noted = refl; held = refl; before = refl; is = refl })) refl
 
   step_served : Has → WorldStep (world (pending ∷ []) asking (asked ∷ made ∷ posted ∷ started ∷ [])) (world (confirmed ∷ []) asking (served ∷ asked ∷ made ∷ posted ∷ started ∷ []))
-  step_served h = OfServer now (record { contexts = confirmed ∷ []; tree = tree; rules = rules }) (record quiet { seals = Some (reply_note name 0 refusal); opens = Some (opening_note name 0 []); served = Some entry })
+  step_served h = OfServer now (record { contexts = confirmed ∷ []; tree = tree; rules = rules }) (record quiet { seals = Some (reply_note name 0 refusal); opens = Some (opening_note name 0 []); served = Some entry; holder = Some claims.material.id })
       (Served (record {
         context = pending;
         is_held = inl refl;

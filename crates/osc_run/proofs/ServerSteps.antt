@@ -5,6 +5,7 @@ use Rattle.osc_model.specs.declared.context.ContextName.{ContextName}
 use Rattle.osc_model.specs.declared.node.Moment.{Moment}
 use Rattle.osc_model.specs.declared.step.Entry.{Entry}
 use Rattle.osc_context.specs.{server_nonce}
+use Rattle.osc_options.specs.{read_request}
 use Rattle.osc_window.specs.{IsFresh, with_accepted}
 use Rattle.osc_authz.specs.{new_context, OfToken, pending_of, confirmed_by, In}
 use Rattle.osc_run.specs.{Noted, ServerState, IsPosted, IsServed, ServerStep, ServerIdle, Posted, Served, ServerRestarted, IsDrawn, HasFreshDraws, history}
@@ -102,7 +103,7 @@ came old new now notes p c m =
     (p.contexts.only c m)
 
 abbrev pub entry_of : (old new : ServerState) (now : Moment) (notes : StepNotes) → IsServed old now notes new → Entry
-entry_of old new now notes p = record { context = p.context.held.name; number = p.number; plaintext = p.text; moment = now; reply = p.reply }
+entry_of old new now notes p = record { context = p.context.held.name; number = p.number; plaintext = p.text; request = read_request p.text; moment = now; reply = p.reply }
 
 -- a step that serves a request
 pub served_keeps : Laws → (old new : ServerState) (now : Moment) (notes : List Noted) (s : Noted) → IsServed old now s.notes new → ServerPart old.contexts notes → ServerPart new.contexts (s ∷ notes)

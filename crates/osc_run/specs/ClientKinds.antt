@@ -37,11 +37,13 @@ IsEnding (result.Refused number) = ⊤
 
 -- ---- kinds
 
--- Nothing changes. At most an answer opened that is no response, or something was refused before it began.
+-- Nothing changes. At most an answer opened that is no response, or something was refused before it began, or what was due was lost for
+-- lack of memory.
 pub record IsClientIdle (old : ClientState) (notes : StepNotes) (new : ClientState) : Type 0 where
   pub opened : Option Note
   pub refusal : Option ℕ
-  pub noted : notes ≡ record quiet { opens = opened; result = option_map result.Refused refusal }
+  pub lost : Bool
+  pub noted : notes ≡ record quiet { opens = opened; result = option_map result.Refused refusal; lost = lost }
   pub is : new ≡ old
 
 -- An exchange is open, with the nonce that the client drew and the recipient ID that it offers (RFC 9203 section 4.1).
@@ -96,11 +98,12 @@ pub record IsAnswered (old : ClientState) (notes : StepNotes) (new : ClientState
   pub before : old.outstanding ≡ Ask ask
   pub is : new ≡ record old { outstanding = Nothing }
 
--- What is open ends without an answer. The context is as it was.
+-- What is open ends without an answer. The context is as it was. What was due may have been lost for lack of memory.
 pub record IsEnded (old : ClientState) (notes : StepNotes) (new : ClientState) : Type 0 where
   pub result : ClientResult
   pub ending : IsEnding result
-  pub noted : notes ≡ record quiet { result = Some result }
+  pub lost : Bool
+  pub noted : notes ≡ record quiet { result = Some result; lost = lost }
   pub before : old.outstanding ≢ Nothing
   pub is : new ≡ record old { outstanding = Nothing }
 

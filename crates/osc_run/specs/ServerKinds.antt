@@ -72,7 +72,7 @@ pub record IsPosted (old : ServerState) (now : Moment) (notes : StepNotes) (new 
   pub short : length post.client_id ≤ longest_id
   pub size : length post.answer.nonce2 ≡ 8
   pub apart : post.answer.recipient_id ∷ [] ≢ post.client_id
-  pub noted : notes ≡ record quiet { opens = Some (token_note key protected iv text); drawn = Some post.answer.nonce2 }
+  pub noted : notes ≡ record quiet { opens = Some (token_note key protected iv text); drawn = Some post.answer.nonce2; holder = Some claims.material.id }
   pub contexts : HasAdded (standing old now) claims.material.id (new_context old.rules now claims scope post) old.contexts new.contexts
   pub tree : new.tree ≡ old.tree
   pub rules : new.rules ≡ old.rules
@@ -96,7 +96,8 @@ pub record IsServed (old : ServerState) (now : Moment) (notes : StepNotes) (new 
       ≡ record quiet {
         seals = Some (reply_note context.held.name number reply);
         opens = Some (opening_note context.held.name number text);
-        served = Some (record { context = context.held.name; number = number; plaintext = text; moment = now; reply = reply });
+        served = Some (record { context = context.held.name; number = number; plaintext = text; request = read_request text; moment = now; reply = reply });
+        holder = Some context.token;
       }
   pub contexts : HasTaken (standing old now) number context old.contexts new.contexts
   pub rules : new.rules ≡ old.rules

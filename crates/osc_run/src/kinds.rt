@@ -21,7 +21,7 @@ ghost use Rattle.osc_protect.specs.{plain_bytes};
 ghost use Rattle.osc_scope.specs.{Entry, IsScope, scope_of};
 ghost use Rattle.osc_token.specs.{FitTheirTypes, claims_item};
 ghost use Rattle.osc_token.specs.declared.claims.Claims.{Claims as AnyClaims};
-ghost use Rattle.osc_authz.specs.{ClientContextState, Finishes, offered_id, of_tokens, DeskState, Posts, IsTable, accepted, meant};
+ghost use Rattle.osc_authz.specs.{ClientContextState, Finishes, offered_id, of_tokens, DeskState, Posts, IsTable, accepted, holder_at, meant};
 ghost use Rattle.osc_authz.specs.Begun.{Begun};
 ghost use Rattle.osc_authz.specs.SecurityContext.{SecurityContext};
 ghost use Rattle.osc_authz.specs.Posting.{Posting};
@@ -55,7 +55,7 @@ pub fn posts_that_agree<A: Aead>()
     ensures { (before after : DeskState) (posting : Posting) (post : AnyPost) (answer : AnyAnswer)
         → length posting.draw.0 ≡ 32 → Posts A.is_sealing before posting post after → post.answer ≡ Ok (New answer) → IsTable after.table
         → IsPosted (record { contexts = of_tokens before.table; tree = posting.on.tree; rules = before.rules }) posting.on.at
-        (record quiet { opens = post.opened; drawn = Some answer.nonce2 })
+        (record quiet { opens = post.opened; drawn = Some answer.nonce2; holder = post.holder })
         (record { contexts = of_tokens after.table; tree = posting.on.tree; rules = after.rules }) }
 {
     osc_authz::laws::posts_that_agree::<A>();
@@ -67,7 +67,7 @@ pub fn posts_that_are_refused<A: Aead>()
     ensures { (before after : DeskState) (posting : Posting) (post : AnyPost) (error : AnyError) (why : Option AnyRefused)
         → Posts A.is_sealing before posting post after → post.answer ≡ Err error
         → IsServerIdle (record { contexts = of_tokens before.table; tree = posting.on.tree; rules = before.rules }) posting.on.at
-        (record quiet { opens = post.opened; refused = why })
+        (record quiet { opens = post.opened; refused = why; holder = post.holder })
         (record { contexts = of_tokens after.table; tree = posting.on.tree; rules = after.rules }) }
 {}
 
@@ -76,7 +76,7 @@ pub fn posts_that_are_known<A: Aead>()
     ensures { (before after : DeskState) (posting : Posting) (post : AnyPost) (answer : AnyAnswer)
         → Posts A.is_sealing before posting post after → post.answer ≡ Ok (Known answer)
         → IsServerIdle (record { contexts = of_tokens before.table; tree = posting.on.tree; rules = before.rules }) posting.on.at
-        (record quiet { opens = post.opened })
+        (record quiet { opens = post.opened; holder = post.holder })
         (record { contexts = of_tokens after.table; tree = posting.on.tree; rules = after.rules }) }
 {
     osc_authz::laws::known_posts::<A>();
@@ -93,7 +93,8 @@ pub fn requests_that_open()
         (record quiet {
           seals = Some (reply_note held.name number reply);
           opens = Some (opening_note held.name number text);
-          served = Some (record { context = held.name; number = number; plaintext = text; moment = now; reply = reply });
+          served = Some (record { context = held.name; number = number; plaintext = text; request = read_request text; moment = now; reply = reply });
+          holder = holder_at kid table;
         })
         (record { contexts = of_tokens (accepted kid number table); tree = after; rules = rules }) }
 {

@@ -1,5 +1,6 @@
 -- The nodes that a script names: their names and their addresses.
 use Rattle.std.specs.Prelude.{ℕ, ◌+◌, List, [], ◌∷◌, codes}
+use Rattle.osc_model.specs.{default_port, v4_peer}
 use Rattle.osc_model.specs.declared.node.Peer.{Peer}
 use Rattle.osc_script.specs.declared.client_name.ClientName.{ClientName}
 use Rattle.osc_script.specs.declared.node.Node.{Node}
@@ -22,10 +23,10 @@ name_of Stranger = codes "x"
 
 -- 127.0.0.1 and a port
 abbrev pub local : ℕ → Peer
-local port = record { address = 127 ∷ 0 ∷ 0 ∷ 1 ∷ []; port = port }
+local port = v4_peer (127 ∷ 0 ∷ 0 ∷ 1 ∷ []) port
 
 abbrev pub address_of : Node → Peer
-address_of Server = local 5683
+address_of Server = local default_port
 address_of (Client client) = local (7000 + client.digit)
 address_of (Proxy proxy) = local (6000 + proxy.digit)
 address_of Stranger = local 9000

@@ -8,6 +8,7 @@ use crate::client_name::ClientName;
 use crate::proxy_name::ProxyName;
 use crate::words;
 use osc_model::Peer;
+use osc_model::limits::DEFAULT_PORT;
 
 impl ClientName {
     /// The client of this name.
@@ -40,10 +41,7 @@ impl ClientName {
     pub fn address(self) -> Peer
         ensures { result ≡ spec.local (7000 + self.digit) }
     {
-        Peer {
-            address: LOCAL,
-            port: CLIENTS_PORT + self.digit as u16,
-        }
+        local(CLIENTS_PORT + self.digit as u16)
     }
 
     // The client of an address.
@@ -51,7 +49,7 @@ impl ClientName {
         ensures some { IfSome result (λ client. peer ≡ spec.local (7000 + client.digit)) }
         ensures none { IfNone result ((client : AnyClient) → ¬ (peer ≡ spec.local (7000 + client.digit))) }
     {
-        if peer.address != LOCAL || peer.port <= CLIENTS_PORT || peer.port > CLIENTS_PORT + 9 {
+        if peer != local(peer.port) || peer.port <= CLIENTS_PORT || peer.port > CLIENTS_PORT + 9 {
             return None;
         }
         Some(ClientName {
@@ -83,10 +81,7 @@ impl ProxyName {
     pub fn address(self) -> Peer
         ensures { result ≡ spec.local (6000 + self.digit) }
     {
-        Peer {
-            address: LOCAL,
-            port: PROXIES_PORT + self.digit as u16,
-        }
+        local(PROXIES_PORT + self.digit as u16)
     }
 
     // The proxy of an address.
@@ -94,7 +89,7 @@ impl ProxyName {
         ensures some { IfSome result (λ proxy. peer ≡ spec.local (6000 + proxy.digit)) }
         ensures none { IfNone result ((proxy : AnyProxy) → ¬ (peer ≡ spec.local (6000 + proxy.digit))) }
     {
-        if peer.address != LOCAL || peer.port <= PROXIES_PORT || peer.port > PROXIES_PORT + 9 {
+        if peer != local(peer.port) || peer.port <= PROXIES_PORT || peer.port > PROXIES_PORT + 9 {
             return None;
         }
         Some(ProxyName {
@@ -116,24 +111,20 @@ pub enum Node {
     Stranger,
 }
 
-// The address of all nodes, which their ports tell apart.
-const LOCAL: [u8; 4] = [127, 0, 0, 1];
-
 // The clients' ports are this and their digit.
 const CLIENTS_PORT: u16 = 7000;
 
 // The proxies' ports are this and their digit.
 const PROXIES_PORT: u16 = 6000;
 
-const SERVER: Peer = Peer {
-    address: LOCAL,
-    port: 5683,
-};
+const STRANGER_PORT: u16 = 9000;
 
-const STRANGER: Peer = Peer {
-    address: LOCAL,
-    port: 9000,
-};
+// The address of all nodes, 127.0.0.1, which their ports tell apart.
+fn local(port: u16) -> Peer
+    ensures { result ≡ spec.local port }
+{
+    Peer::v4([127, 0, 0, 1], port)
+}
 
 impl Node {
     /// Its name in a script and in a trace.
@@ -153,10 +144,10 @@ impl Node {
         ensures { result ≡ spec.address_of self }
     {
         match self {
-            Node::Server => SERVER,
+            Node::Server => local(DEFAULT_PORT),
             Node::Client(client) => client.address(),
             Node::Proxy(proxy) => proxy.address(),
-            Node::Stranger => STRANGER,
+            Node::Stranger => local(STRANGER_PORT),
         }
     }
 
@@ -165,9 +156,9 @@ impl Node {
         ensures some { IfSome result (λ node. peer ≡ spec.address_of node) }
         ensures none { IfNone result ((node : Node) → ¬ (peer ≡ spec.address_of node)) }
     {
-        if peer == SERVER {
+        if peer == local(DEFAULT_PORT) {
             Some(Node::Server)
-        } else if peer == STRANGER {
+        } else if peer == local(STRANGER_PORT) {
             Some(Node::Stranger)
         } else {
             match ClientName::at(peer) {

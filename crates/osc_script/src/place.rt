@@ -12,10 +12,8 @@ use crate::client_name::ClientName;
 use crate::line::Line;
 use crate::node::Node;
 use crate::proxy_name::ProxyName;
+use osc_model::limits::MOST_RESOURCES;
 use osc_model::{Moment, Path};
-
-// The most resources that a tree has.
-const MOST_RESOURCES: usize = 1024;
 
 /// What is kept of the lines above, so that not each line goes over all of them.
 #[derive(Clone, Copy, Debug)]

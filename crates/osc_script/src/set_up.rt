@@ -13,18 +13,10 @@ use crate::grants::grant_claims;
 use crate::line::Line;
 use crate::values::scope;
 use crate::words::{algorithm, client, dates, format, proxy, short_bytes};
+use osc_model::limits::{LONGEST_PAYLOAD, MOST_REVOCATION_SEGMENTS};
 use osc_model::{Algorithm, Bytes, Path, Resource};
-use osc_token::claims_text;
+use osc_token::{CLAIMS_LIMIT, claims_text};
 use std::alloc::{AllocError, Global};
-
-// The most bytes that a resource has.
-const LONGEST_PAYLOAD: u16 = 512;
-
-// The most segments of a revocation path: with those of an id it isn't too long.
-const MOST_SEGMENTS: usize = 4;
-
-// The most bytes of claims that the cipher takes.
-const CLAIMS_LIMIT: usize = 65535;
 
 // PATH FORMAT BYTES
 #[tactic(auto, unfolding(crate::specs::Inner::Reading::put_in))]
@@ -40,7 +32,7 @@ pub(crate) fn put(alloc: Global, args: &[&str]) -> Result<Option<Line>, AllocErr
     let Some(format) = format(form.as_bytes()) else {
         return Ok(None);
     };
-    let Some(payload) = short_bytes(alloc, payload.as_bytes(), LONGEST_PAYLOAD)? else {
+    let Some(payload) = short_bytes(alloc, payload.as_bytes(), LONGEST_PAYLOAD as u16)? else {
         return Ok(None);
     };
     let resource = Resource { format, payload };
@@ -71,7 +63,7 @@ pub(crate) fn revoked(alloc: Global, args: &[&str]) -> Result<Option<Line>, Allo
     let Some(path) = Path::from_text(alloc, path.as_bytes())? else {
         return Ok(None);
     };
-    if path.segments() > MOST_SEGMENTS {
+    if path.segments() > MOST_REVOCATION_SEGMENTS {
         return Ok(None);
     }
     Ok(Some(Line::Revoked { path }))

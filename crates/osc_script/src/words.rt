@@ -9,6 +9,7 @@ use crate::node::Node;
 use crate::proxy_name::ProxyName;
 use crate::split::parts;
 use crate::values::decoded;
+use osc_model::limits::DATAGRAM_LIMIT;
 use osc_model::{Algorithm, Bytes, Method};
 use std::alloc::{AllocError, Global};
 use std::cmp::min;
@@ -18,7 +19,7 @@ use std::str;
 const LAST_NUMBER: u64 = 1099511627775;
 
 // How many bytes of a datagram or a payload are kept: one more than a datagram has.
-const MOST_KEPT: usize = 1153;
+const MOST_KEPT: usize = DATAGRAM_LIMIT + 1;
 
 /// A number of 64 bits, in decimal digits without a sign.
 #[tactic(auto, unfolding(crate::specs::Inner::Reading::number_in))]

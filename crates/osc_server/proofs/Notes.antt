@@ -1,5 +1,5 @@
 -- What answered each message that is noted was a message.
-use Rattle.std.proofs.Common.{◌≡◌, ℕ, ◌+◌, ◌-◌, Bool, true, false, cond, List, [], ◌∷◌, length, find, drop, Option, Some, None, refl, subst, sym, inl, inr, ◌∙◌, arith}
+use Rattle.std.proofs.Common.{◌≡◌, ℕ, ◌+◌, ◌-◌, Bool, true, false, cond, List, [], ◌∷◌, length, find, drop, Option, Some, None, refl, subst, sym, ◌∙◌, arith}
 use Rattle.std.specs.Prelude.{not, ◌&&◌, if◌then◌else◌, option_and_then}
 use Rattle.std.specs.List.{All}
 use Rattle.std.specs.Option.{ForSome, option_map}
@@ -186,6 +186,6 @@ heard_sends seen now peer (heard.Empty kind id) kept alone fits = tt
 heard_sends seen now peer (heard.Message message) kept alone fits = tt
 
 -- nothing is due, so nothing goes out
-pub nothing_goes : (due out : List Datagram) → due ≡ [] → GoesOut due out → out ≡ []
-nothing_goes due out none (inl is) = is ∙ none
-nothing_goes due out none (inr is) = is
+pub nothing_goes : (lost : Bool) (due out : List Datagram) → due ≡ [] → GoesOut lost due out → out ≡ []
+nothing_goes false due out none is = is ∙ none
+nothing_goes true due out none is = is

@@ -8,7 +8,7 @@ use Rattle.osc_model.specs.declared.step.Datagram.{Datagram}
 use Rattle.osc_model.specs.declared.step.Note.{Note}
 use Rattle.osc_model.specs.declared.step.Step.{Step}
 use Rattle.osc_coap.specs.Message.{Message}
-use Rattle.osc_authz.specs.{accepted, taking}
+use Rattle.osc_authz.specs.{accepted, holder_at, taking}
 use Rattle.osc_authz.specs.SecurityContext.{SecurityContext}
 use Rattle.osc_ccm.specs.{Sealings, Tags}
 use Rattle.osc_protect.specs.{SealedRequest}
@@ -66,12 +66,12 @@ serves is_sealing old came request served tree step new is sent kept =
 pub served_as : (is_sealing : Sealings) (old : Standing) (came : Arrival Message) (request : SealedRequest)
     (held context : SecurityContext) (taken number : ℕ) (text : List ℕ) (served : Served) (new : Tree)
     → IsOpened is_sealing (record { tree = old.tree; table = old.desk.table }) came request held text → context ≡ taking taken held → number ≡ request.number
-    → IsReplied is_sealing old came (record { held = context; number = number; text = text }) served new
+    → IsReplied is_sealing old came (record { held = context; holder = holder_at request.kid old.desk.table; number = number; text = text }) served new
     → IsServedAs is_sealing old came request served new
 served_as is_sealing old came request held context taken number text served new opened is same replied =
-    let it : IsReplied is_sealing old came (record { held = taking taken held; number = request.number; text = text }) served new =
-    subst (λ (c : SecurityContext). IsReplied is_sealing old came (record { held = c; number = request.number; text = text }) served new) is
-    (subst (λ (n : ℕ). IsReplied is_sealing old came (record { held = context; number = n; text = text }) served new) same replied)
+    let it : IsReplied is_sealing old came (record { held = taking taken held; holder = holder_at request.kid old.desk.table; number = request.number; text = text }) served new =
+    subst (λ (c : SecurityContext). IsReplied is_sealing old came (record { held = c; holder = holder_at request.kid old.desk.table; number = request.number; text = text }) served new) is
+    (subst (λ (n : ℕ). IsReplied is_sealing old came (record { held = context; holder = holder_at request.kid old.desk.table; number = n; text = text }) served new) same replied)
     in
     record {
       held = held;
@@ -90,11 +90,11 @@ served_as is_sealing old came request held context taken number text served new 
 
 -- what is noted of the opening, with the memory beside it
 pub ready : (is_sealing : Sealings) (tag : Tags) (server : Met) (came : Arrival Message) (request : SealedRequest) (note : Note) (taken : Taken)
-    → taken.note ≡ note → IsTakenFor tag server.tree taken
+    → taken.note ≡ note → IsTakenFor tag server.tree taken → taken.holder ≡ holder_at request.kid server.table
     → (held : SecurityContext) × IsOpened is_sealing server came request held note.plaintext × (note ≡ opening_note held.name request.number note.plaintext)
     → IsReady is_sealing tag server came request taken
-ready is_sealing tag server came request note taken same room opened =
+ready is_sealing tag server came request note taken same room holder opened =
     let it : (held : SecurityContext) × IsOpened is_sealing server came request held taken.note.plaintext × (taken.note ≡ opening_note held.name request.number taken.note.plaintext) =
     subst (λ (n : Note). (held : SecurityContext) × IsOpened is_sealing server came request held n.plaintext × (n ≡ opening_note held.name request.number n.plaintext)) (sym same) opened
     in
-    record { held = it.0; opened = it.1; noted = it.2; room = room }
+    record { held = it.0; opened = it.1; noted = it.2; room = room; holder = holder }

@@ -15,7 +15,7 @@ use Rattle.osc_message.specs.declared.heard.Heard.TheVariants as heard
 use Rattle.osc_context.specs.{greatest_number}
 use Rattle.osc_window.specs.{IsFresh}
 use Rattle.osc_ccm.specs.{Sealings}
-use Rattle.osc_authz.specs.{of_tokens, DeskState, Posts, IsTable, accepted, meant}
+use Rattle.osc_authz.specs.{of_tokens, DeskState, Posts, IsTable, accepted, holder_at, meant}
 use Rattle.osc_authz.specs.SecurityContext.{SecurityContext}
 use Rattle.osc_authz.specs.Posting.{Posting}
 use Rattle.osc_authz.specs.declared.error.PostError.{PostError}
@@ -38,17 +38,17 @@ pub record Laws (is_sealing : Sealings) : Type 0 where
   pub agrees : (before after : DeskState) (posting : Posting) (post : Post) (answer : PostAnswer)
       → length posting.draw.0 ≡ 32 → Posts (is_sealing EightByteTag) before posting post after → post.answer ≡ Ok (New answer) → IsTable after.table
       → IsPosted (record { contexts = of_tokens before.table; tree = posting.on.tree; rules = before.rules }) posting.on.at
-      (record quiet { opens = post.opened; drawn = Some answer.nonce2 })
+      (record quiet { opens = post.opened; drawn = Some answer.nonce2; holder = post.holder })
       (record { contexts = of_tokens after.table; tree = posting.on.tree; rules = after.rules })
   pub refuses : (before after : DeskState) (posting : Posting) (post : Post) (error : PostError) (why : Option RefusedRequest)
       → Posts (is_sealing EightByteTag) before posting post after → post.answer ≡ Err error
       → IsServerIdle (record { contexts = of_tokens before.table; tree = posting.on.tree; rules = before.rules }) posting.on.at
-      (record quiet { opens = post.opened; refused = why })
+      (record quiet { opens = post.opened; refused = why; holder = post.holder })
       (record { contexts = of_tokens after.table; tree = posting.on.tree; rules = after.rules })
   pub knows : (before after : DeskState) (posting : Posting) (post : Post) (answer : PostAnswer)
       → Posts (is_sealing EightByteTag) before posting post after → post.answer ≡ Ok (Known answer)
       → IsServerIdle (record { contexts = of_tokens before.table; tree = posting.on.tree; rules = before.rules }) posting.on.at
-      (record quiet { opens = post.opened })
+      (record quiet { opens = post.opened; holder = post.holder })
       (record { contexts = of_tokens after.table; tree = posting.on.tree; rules = after.rules })
   pub opens : (now : Moment) (kid : List ℕ) (kid_context : Option (List ℕ)) (table : List TokenEntry) (held : SecurityContext) (number : ℕ) (text : List ℕ) (reply : Reply) (tree after : Tree) (rules : ContextRules)
       → IsTable table → meant (record { at = now; tree = tree }) kid kid_context table ≡ Some held
@@ -58,7 +58,8 @@ pub record Laws (is_sealing : Sealings) : Type 0 where
       (record quiet {
         seals = Some (reply_note held.name number reply);
         opens = Some (opening_note held.name number text);
-        served = Some (record { context = held.name; number = number; plaintext = text; moment = now; reply = reply });
+        served = Some (record { context = held.name; number = number; plaintext = text; request = read_request text; moment = now; reply = reply });
+        holder = holder_at kid table;
       })
       (record { contexts = of_tokens (accepted kid number table); tree = after; rules = rules })
 
@@ -96,7 +97,7 @@ sends_idly old came answer why step new it =
 module _ (is_sealing : Sealings) (laws : Laws is_sealing) (old : State) (step : Step) (new : State) (before : IsTable old.desk.table) (after : IsTable new.desk.table) where
   post_kind : (came : Arrival Message) (post : Post) (answer : Result PostReply PostError) → length came.draw.0 ≡ 32 → post.answer ≡ answer
       → Posts (is_sealing EightByteTag) old.desk (posting old.tree came) post new.desk
-      → ServerStep (core old) came.at (record quiet { opens = post.opened; drawn = nonce_of_post answer; refused = refusal_of_post answer }) (record { contexts = of_tokens new.desk.table; tree = old.tree; rules = new.desk.rules })
+      → ServerStep (core old) came.at (record quiet { opens = post.opened; drawn = nonce_of_post answer; refused = refusal_of_post answer; holder = post.holder }) (record { contexts = of_tokens new.desk.table; tree = old.tree; rules = new.desk.rules })
   post_kind came post (Ok (Known answer)) drawn e posts = ServerIdle (laws.knows old.desk new.desk (posting old.tree came) post answer posts e)
   post_kind came post (Ok (New answer)) drawn e posts = Posted (laws.agrees old.desk new.desk (posting old.tree came) post answer drawn posts e after)
   post_kind came post (Err error) drawn e posts = ServerIdle (laws.refuses old.desk new.desk (posting old.tree came) post error (refusal_of_post (Err error)) posts e)
@@ -110,7 +111,7 @@ module _ (is_sealing : Sealings) (laws : Laws is_sealing) (old : State) (step : 
   served_kind : (came : Arrival Message) → Serves is_sealing old came step new → ServerStep (core old) came.at step.notes (core new)
   served_kind came it =
       subst (λ notes. ServerStep (core old) came.at notes (core new)) (sym (ap (λ s. s.notes) it.sent.sent))
-      (subst (λ d. ServerStep (core old) came.at (notes_of_request came.at it.held it.request.number it.text it.reply) (record { contexts = of_tokens d.table; tree = new.tree; rules = d.rules })) (sym (ap (λ s. s.desk) it.sent.kept))
+      (subst (λ d. ServerStep (core old) came.at (notes_of_request came.at it.held (holder_at it.request.kid old.desk.table) it.request.number it.text it.reply) (record { contexts = of_tokens d.table; tree = new.tree; rules = d.rules })) (sym (ap (λ s. s.desk) it.sent.kept))
       (Served (laws.opens came.at it.request.kid it.request.kid_context old.desk.table it.held it.request.number it.text it.reply old.tree new.tree old.desk.rules
       before it.opened.meant.is_meant it.opened.meant.is_request.spelled.lawful.number it.opened.fresh it.within it.applied)))
 

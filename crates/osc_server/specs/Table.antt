@@ -1,7 +1,7 @@
 -- What a server sends for each thing that it hears, and what it keeps after it.
 use Rattle.std.specs.Prelude.{◌≡◌, ℕ, List, [], ◌∷◌, Option, Some, None, Result, Ok, Err, codes, unwrap_or}
 use Rattle.osc_model.specs.Refusals as refusal
-use Rattle.osc_model.specs.{apply, apply_read, MayReply, read_as, code, bare, sends, quiet}
+use Rattle.osc_model.specs.{ace_cbor, apply, apply_read, MayReply, read_as, code, bare, sends, quiet}
 use Rattle.osc_model.specs.Arrival.{Arrival}
 use Rattle.osc_model.specs.StepNotes.{StepNotes}
 use Rattle.osc_model.specs.Tree.{Tree}
@@ -25,7 +25,7 @@ use Rattle.osc_context.specs.{algorithm_of, key_of}
 use Rattle.osc_window.specs.{IsFresh}
 use Rattle.osc_protect.specs.{aad_of, SealedRequest, IsRequest, IsProtectedResponse, request_nonce}
 use Rattle.osc_ccm.specs.{Sealings}
-use Rattle.osc_authz.specs.{answer_of, post_number, answer_item, Posts, code_of, meant, accepted}
+use Rattle.osc_authz.specs.{answer_of, post_number, answer_item, Posts, code_of, holder_at, meant, accepted}
 use Rattle.osc_authz.specs.SecurityContext.{SecurityContext}
 use Rattle.osc_authz.specs.Posting.{Posting}
 use Rattle.osc_authz.specs.declared.error.PostError.{PostError}
@@ -86,10 +86,6 @@ pub record AnswersGet (old : State) (came : Arrival Message) (request : Request)
 abbrev pub posting : Tree → Arrival Message → Posting
 posting tree came = record { on = record { at = came.at; tree = tree }; body = unwrap_or came.what.payload []; draw = came.draw }
 
--- the Content-Format application/ace+cbor (RFC 9200 section 8.16)
-abbrev pub ace_cbor : ℕ
-ace_cbor = 19
-
 -- 2.01 with the nonce and the recipient ID of the server as application/ace+cbor (RFC 9203 section 4.2), or the code of the
 -- refusal (RFC 9200 section 5.10.1)
 abbrev pub post_reply : Result PostReply PostError → Reply
@@ -113,7 +109,7 @@ refusal_of_post (Ok reply) = None
 refusal_of_post (Err error) = Some (record { code = code_of error; reason = Some (post_number error) })
 
 abbrev pub notes_of_post : Post → StepNotes
-notes_of_post post = record quiet { opens = post.opened; drawn = nonce_of_post post.answer; refused = refusal_of_post post.answer }
+notes_of_post post = record quiet { opens = post.opened; drawn = nonce_of_post post.answer; refused = refusal_of_post post.answer; holder = post.holder }
 
 -- ---- protected requests
 
@@ -165,12 +161,13 @@ pub record IsMeant (server : Met) (came : Arrival Message) (request : SealedRequ
   pub is_request : IsRequest came.what request
   pub is_meant : context_for server came request ≡ Some held
 
--- what is noted of a request that is served
-abbrev pub notes_of_request : Moment → SecurityContext → ℕ → List ℕ → Reply → StepNotes
-notes_of_request now held number text reply = record quiet {
+-- what is noted of a request that is served under this context, which the token of this id made
+abbrev pub notes_of_request : Moment → SecurityContext → Option (List ℕ) → ℕ → List ℕ → Reply → StepNotes
+notes_of_request now held holder number text reply = record quiet {
   seals = Some (reply_note held.name number reply);
   opens = Some (opening_note held.name number text);
-  served = Some (record { context = held.name; number = number; plaintext = text; moment = now; reply = reply });
+  served = Some (record { context = held.name; number = number; plaintext = text; request = read_request text; moment = now; reply = reply });
+  holder = holder;
 }
 
 -- `is_sealing algorithm` is the relation of the algorithm's cipher
@@ -209,7 +206,7 @@ module _ (is_sealing : Sealings) where
     pub answer : Message
     pub protected : IsProtectedResponse is_sealing held.name request.number None (reply_to old.endpoint came reply) answer
     pub sent : Sends (record old { tree = new.tree; desk = record old.desk { table = accepted request.kid request.number old.desk.table } })
-        came answer (notes_of_request came.at held request.number text reply) step new
+        came answer (notes_of_request came.at held (holder_at request.kid old.desk.table) request.number text reply) step new
 
   pub data AnswersProtected (old : State) (came : Arrival Message) (step : Step) (new : State) : Type 0 where
     refused : (refusal : Refusal) → IsRefused (met old) came refusal

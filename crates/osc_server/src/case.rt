@@ -5,6 +5,7 @@ ghost use Rattle.osc_server.specs.Inner.Parts.{AsksGet};
 
 use osc_coap::{MessageRef, is_request_code};
 use osc_message::is_confirmable;
+use osc_model::limits::{AUTHZ_INFO, GET, POST};
 use osc_model::{Path, Request};
 use osc_options::{request_of_message, survey_of};
 use osc_scope::{Scope, Verdict};
@@ -30,14 +31,6 @@ pub enum Case {
     /// Another unprotected request.
     Unauthorised,
 }
-
-/// The code of a GET.
-pub(crate) const GET: u8 = 1;
-
-const POST: u8 = 2;
-
-/// The path at which tokens are posted (RFC 9200 section 5.10.1).
-const AUTHZ_INFO: &[u8] = b"/authz-info";
 
 /// Whether this is the path of authz-info.
 fn is_authz_info(path: Option<&Path>) -> bool

@@ -10,7 +10,8 @@ use osc_authz::{PostError, PostReply};
 use osc_coap::MessageBuilder;
 use osc_coap::laws::length_of_spelling;
 use osc_message::{Arrival, Buffer};
-use osc_model::{Code, Note, RefusedRequest, Reply, StepNotes};
+use osc_model::limits::ACE_CBOR;
+use osc_model::{Code, Note, RefusedRequest, Reply, SharedBytes, StepNotes};
 use std::alloc::Global;
 
 /// The bytes of the payload that answers a post which isn't refused.
@@ -18,9 +19,6 @@ pub const POST_PAYLOAD: usize = 16;
 
 /// The most bytes of the message that answers a post: header, token, Content-Format, payload marker and payload.
 pub const POST_ANSWER: usize = 31;
-
-/// The Content-Format application/ace+cbor.
-const ACE_CBOR: u16 = 19;
 
 /// The reply to a post, in room for its payload; takes no memory.
 fn post_reply(alloc: Global, payload: Buffer, answer: Result<PostReply, PostError>) -> Reply
@@ -58,13 +56,22 @@ pub fn post_answer(
     reply_to(endpoint, came, &reply)
 }
 
-/// What is noted of a post: its token's opening, the nonce that it drew, where it made a context, and why it was refused, where it was.
-pub fn notes_of(opened: Option<Note>, answer: Result<PostReply, PostError>) -> StepNotes
-    ensures { result ≡ record quiet { opens = opened; drawn = nonce_of_post answer; refused = refusal_of_post answer } }
+/// What is noted of a post: its token's opening, the nonce that it drew and the id of its token, where it made a context, and why it was refused,
+/// where it was.
+pub fn notes_of(
+    opened: Option<Note>,
+    answer: Result<PostReply, PostError>,
+    holder: Option<SharedBytes>,
+) -> StepNotes
+    ensures { result ≡ record quiet { opens = opened; drawn = nonce_of_post answer; refused = refusal_of_post answer; holder = holder } }
 {
     let notes = match opened {
         Some(note) => StepNotes::quiet().with_open(note),
         None => StepNotes::quiet(),
+    };
+    let notes = match holder {
+        Some(id) => notes.with_holder(id),
+        None => notes,
     };
     match answer {
         Ok(PostReply::New(answer)) => notes.with_drawn(answer.nonce2),

@@ -12,14 +12,14 @@ ghost use Rattle.osc_model.specs.declared.node.Moment.{Moment as AnyMoment};
 ghost use Rattle.osc_run.specs.{ServerStep};
 ghost use Rattle.osc_server.specs.Case.{IsAnswered, IsNewAnswered, case_of as case_in};
 ghost use Rattle.osc_server.specs.Hearing.{Hears, Ticks};
-ghost use Rattle.osc_server.specs.Inner.Parts.{AsksGet, DifferAt, FitsAResource, HeardSendsTo, IsMessage, SendsTo, may_change, noted_by};
+ghost use Rattle.osc_server.specs.Inner.Parts.{AsksGet, DifferAt, FitsAResource, HeardSendsTo, IsMessage, SendsTo, may_change_by, noted_by};
 ghost use Rattle.osc_server.specs.State.{core};
 ghost use Rattle.osc_server.specs.Steps.{again};
 ghost use Rattle.osc_server.specs.Table.{Answers, AnswersNew, AnswersGet, AnswersPost, AnswersProtected, AnswersWith, Refuses, Sends, answered, refusal_code, refusal_number, refusal_to as refusal_to_of, refused_for as refused_for_of};
 
 use crate::Endpoint;
 use crate::answer::{refusal_to, reply_to, sent_as};
-use crate::case::{Case, GET, case_of};
+use crate::case::{Case, case_of};
 use crate::in_hand::InHand;
 use crate::posting::{POST_ANSWER, POST_PAYLOAD, notes_of, post_answer};
 use crate::refusal::{Refusal, refused_for};
@@ -30,6 +30,7 @@ use osc_ccm::Ciphers;
 use osc_coap::MessageBuilder;
 use osc_message::laws::{what_is_heard, what_nodes_send};
 use osc_message::{Arrival, Buffer, Handling, Heard, ReplyRoom, Ticked, rejection};
+use osc_model::limits::GET;
 use osc_model::{
     Bytes, Code, Datagrams, Draw, Moment, Path, Peer, Reply, Request, Step, StepNotes,
 };
@@ -384,11 +385,15 @@ impl Server {
             at: came.at,
             tree: &self.tree,
         };
-        let Post { opened, answer } = self
+        let Post {
+            opened,
+            answer,
+            holder,
+        } = self
             .desk
             .post::<TokenCipher<A>>(alloc, &on, &mut self.marks, body, came.draw)?;
         let message = post_answer(alloc, payload, &self.endpoint, &came, answer);
-        Ok(self.send(room, came, &message, notes_of(opened, answer)))
+        Ok(self.send(room, came, &message, notes_of(opened, answer, holder)))
     }
 
     /// Answers a protected request. Its number is accepted once nothing can fail.
@@ -417,12 +422,7 @@ impl Server {
             &mut self.in_hand,
         ) {
             Ok(Ok(taken)) => {
-                let Served {
-                    out,
-                    reply,
-                    notes,
-                    asked,
-                } = serve_opened::<A>(
+                let Served { out, reply, notes } = serve_opened::<A>(
                     alloc,
                     &mut self.desk,
                     &mut self.tree,
@@ -430,7 +430,7 @@ impl Server {
                     &request,
                     taken,
                 );
-                mark_changed(&self.desk, &mut self.marks, &self.tree, asked);
+                mark_changed(&self.desk, &mut self.marks, &self.tree, &notes);
                 keep_in_hand(alloc, &self.desk, &mut self.in_hand);
                 self.note(came, reply);
                 Ok(Step { out, notes })
@@ -500,26 +500,21 @@ fn keep_in_hand(alloc: Global, desk: &ServerDesk, in_hand: &mut InHand) {
     }
 }
 
-/// Marks the contexts whose tokens are revoked by what such a request changed, and unmarks those that aren't any more.
-fn mark_changed(
-    desk: &ServerDesk,
-    marks: &mut RevokedMarks,
-    tree: &Tree,
-    asked: Result<Request, Code>,
-)
-    ensures { (before : AnyTree) → DifferAt (may_change asked) before tree.now → AreMarked before desk.now.table marks.old
+/// Marks the contexts whose tokens are revoked by what the request that was served changed, and unmarks those that aren't any more.
+fn mark_changed(desk: &ServerDesk, marks: &mut RevokedMarks, tree: &Tree, notes: &StepNotes)
+    ensures { (before : AnyTree) → DifferAt (may_change_by notes.now.served) before tree.now → AreMarked before desk.now.table marks.old
         → AreMarked tree.now desk.now.table marks.new }
 {
-    if let Some(path) = path_changed(&asked) {
+    if let Some(path) = path_changed(notes) {
         desk.mark(marks, tree, path);
     }
 }
 
-/// The path whose resource a request may change: none for a GET.
-fn path_changed(asked: &Result<Request, Code>) -> Option<&Path>
-    ensures { option_map (λ path. path.now) result ≡ may_change asked.now }
+/// The path whose resource the request that was served may change: none for a GET.
+fn path_changed(notes: &StepNotes) -> Option<&Path>
+    ensures { option_map (λ path. path.now) result ≡ may_change_by notes.now.served }
 {
-    match asked {
+    match &notes.served()?.request {
         Ok(request) => {
             if request.code.0 == GET {
                 None

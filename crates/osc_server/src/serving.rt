@@ -3,7 +3,7 @@
 ghost use Rattle.std.specs.Prelude.{◌≡◌, ◌<◌, ◌≤◌, ◌+◌, ℕ, List, length, Some, None, IfOk, IfErr, IfSome, IfNone, OnErr, OnOk, option_map};
 ghost use Rattle.osc_coap.specs.Message.{Message as AnyMessage};
 ghost use Rattle.osc_authz.specs.SecurityContext.{SecurityContext};
-ghost use Rattle.osc_authz.specs.{AreMarked, accepted};
+ghost use Rattle.osc_authz.specs.{AreMarked, accepted, holder_at};
 ghost use Rattle.osc_context.specs.{algorithm_of, accepted_of};
 ghost use Rattle.osc_model.specs.declared.context.Side.TheVariants.{Server};
 ghost use Rattle.osc_model.specs.{apply_read};
@@ -11,13 +11,12 @@ ghost use Rattle.osc_protect.specs.{aad_of, IsFor, IsRequest, IsProtectedRespons
 ghost use Rattle.osc_run.specs.{opening_note, reply_note, Replies as AppliesTo};
 ghost use Rattle.osc_options.specs.{read_request, IsWithinRanges};
 ghost use Rattle.osc_model.specs.Tree.{Tree as AnyTree};
-ghost use Rattle.osc_server.specs.Inner.Parts.{DifferAt, FitsAResource, IsReady, IsReplyOf, IsSentAs, IsServedAs, IsTakenFor, may_change, message_beside_sealed, reply_length, read_length as read_length_of, text_beside_payload};
+ghost use Rattle.osc_server.specs.Inner.Parts.{DifferAt, FitsAResource, IsReady, IsReplyOf, IsSentAs, IsServedAs, IsTakenFor, may_change_by, message_beside_sealed, reply_length, read_length as read_length_of, text_beside_payload};
 ghost use Rattle.osc_server.specs.Table.{context_for, IsMeant, IsOpened, IsRefused, IsSealed, notes_of_request, reply_to as reply_to_of};
 ghost use Rattle.osc_window.specs.{IsFresh};
 
 use crate::Endpoint;
 use crate::answer::header_to;
-use crate::case::GET;
 use crate::in_hand::InHand;
 use crate::refusal::Refusal;
 use osc_authz::laws::{meant_contexts, one_path_changed};
@@ -26,8 +25,10 @@ use osc_ccm::Ciphers;
 use osc_coap::laws::{length_of_plaintext, length_of_spelling};
 use osc_context::AcceptedNumber;
 use osc_message::{Arrival, ReplyRoom};
+use osc_model::limits::GET;
 use osc_model::{
-    Bytes, Code, Datagrams, Entry, Note, Path, Peer, Reply, Request, SharedName, StepNotes,
+    Bytes, Code, Datagrams, Entry, Note, Path, Peer, Reply, Request, SharedBytes, SharedName,
+    StepNotes,
 };
 use osc_options::request_in;
 use osc_protect::{Room, SealedReply, SealedRequestRef, open_request, seal_reply};
@@ -45,8 +46,6 @@ pub struct Served {
     pub reply: Bytes,
     /// What is noted of the step.
     pub notes: StepNotes,
-    /// What was asked, or the code that answered the text.
-    pub asked: Result<Request, Code>,
 }
 
 /// The most bytes of a reply's plaintext beside its payload: a code, an ETag, a Content-Format, and the payload marker.
@@ -165,11 +164,12 @@ struct AnswerRoom {
 pub struct Taken {
     /// The note of the opening.
     note: Note,
-    /// The request, or the code that answers the text.
+    /// The request, or the code that answers the text: for the entry, as the name and the text.
     read: Result<Request, Code>,
-    /// The name and the text, for the entry.
     context: SharedName,
     plaintext: Bytes,
+    /// The id of the token that made the context.
+    holder: Option<SharedBytes>,
     /// For the protected reply.
     room: AnswerRoom,
 }
@@ -219,8 +219,14 @@ pub type Prepared = Result<Result<Taken, Refusal>, AllocError>;
 impl Taken {
     /// Reads what was opened, and takes the memory of all that follows.
     #[inline(never)]
-    fn new<A: Ciphers>(alloc: Global, tree: &Tree, note: Note) -> Result<Taken, AllocError>
+    fn new<A: Ciphers>(
+        alloc: Global,
+        tree: &Tree,
+        note: Note,
+        holder: Option<SharedBytes>,
+    ) -> Result<Taken, AllocError>
         requires { note.aad ≡ aad_of note.context note.number }
+        ensures holder { IfOk result (λ taken. taken.holder ≡ holder) }
         ensures note { IfOk result (λ taken. taken.note ≡ note) }
         ensures taken { IfOk result (λ taken. IsTakenFor A.TAG tree.now taken) }
     {
@@ -238,6 +244,7 @@ impl Taken {
             read,
             context,
             plaintext,
+            holder,
             room,
         })
     }
@@ -257,14 +264,14 @@ impl Taken {
         ensures protected { (answer : AnyMessage) × IsProtectedResponse A.is_sealing context.now.name number.number None
             (reply_to_of endpoint.now came.now reply) answer
             × IsSentAs came.now.from answer result.out result.reply }
-        ensures noted { result.notes ≡ notes_of_request came.now.at context.now number.number self.note.plaintext reply }
-        ensures asked { result.asked ≡ self.read }
+        ensures noted { result.notes ≡ notes_of_request came.now.at context.now self.holder number.number self.note.plaintext reply }
     {
         let Taken {
             note,
             read,
             context: name,
             plaintext,
+            holder,
             room,
         } = self;
         let accepted = number.get();
@@ -273,14 +280,14 @@ impl Taken {
             context: name,
             number: accepted,
             plaintext,
+            request: read,
             moment: came.at,
             reply,
         };
         Served {
             out,
             reply: bytes,
-            notes: StepNotes::of_request(sealed, note, entry),
-            asked: read,
+            notes: StepNotes::of_request(sealed, note, entry, holder),
         }
     }
 }
@@ -298,7 +305,7 @@ pub fn serve_opened<A: Ciphers>(
     requires { IsReady A.is_sealing A.TAG (record { tree = tree.old; table = desk.old.table }) request.now.came.now request.now.says taken }
     ensures served { IsServedAs A.is_sealing (record { tree = tree.old; desk = desk.old; endpoint = endpoint.now }) request.now.came.now request.now.says result tree.new }
     ensures accepted { desk.new ≡ record desk.old { table = accepted request.now.says.kid request.now.says.number desk.old.table } }
-    ensures changed { DifferAt (may_change result.asked) tree.old tree.new }
+    ensures changed { DifferAt (may_change_by result.notes.served) tree.old tree.new }
 {
     one_path_changed();
     let says = &request.says;
@@ -350,6 +357,19 @@ fn opened<A: Ciphers>(
     }
 }
 
+/// The id of the token that made the context which the request names; takes no memory.
+fn holder_of(
+    desk: &ServerDesk,
+    says: &SealedRequestRef<'_>,
+) -> Result<Option<SharedBytes>, AllocError>
+    ensures { IfOk result (λ holder. holder ≡ holder_at says.now.kid desk.now.table) }
+{
+    match desk.holder(says.kid()) {
+        Some(id) => Ok(Some(id.clone()?)),
+        None => Ok(None),
+    }
+}
+
 /// Opens a protected request, and takes the memory of all that follows, or says why it isn't served.
 fn taken_for<A: Ciphers>(
     alloc: Global,
@@ -365,7 +385,8 @@ fn taken_for<A: Ciphers>(
 {
     match opened::<A>(alloc, desk, tree, marks, request)? {
         Ok(note) => {
-            let taken = Taken::new::<A>(alloc, tree, note)?;
+            let holder = holder_of(desk, &request.says)?;
+            let taken = Taken::new::<A>(alloc, tree, note, holder)?;
             Ok(Ok(taken))
         }
         Err(refusal) => Ok(Err(refusal)),

@@ -1,7 +1,7 @@
 -- Which settings a document stands for, program by program. A key that isn't named here is in none of them.
 use Rattle.std.specs.Prelude.{◌≡◌, ◌⊎◌, ◌≤◌, ℕ, Bool, true, pos, List, [], ◌∷◌, length, Option, Some, None, codes}
 use Rattle.toml.specs.Data.{Data, Members, string, integer, table, get_member}
-use Rattle.osc_model.specs.{IsPath, longest_payload, most_resources}
+use Rattle.osc_model.specs.{IsPath, default_port, longest_payload, most_resources}
 use Rattle.osc_model.specs.declared.algorithm.Algorithm.{Algorithm}
 use Rattle.osc_model.specs.declared.algorithm.Algorithm.TheVariants.{EightByteTag}
 use Rattle.osc_settings.specs.Document.{other_key, IsLeftOut, SpelledAt, MaySpellAt, IsAlgorithmAt, IsBooleanAt, IsPortAt, MayBeSecondsAt, ListedAt}
@@ -122,9 +122,9 @@ pub record AreProxySettings (document : Members) (settings : ProxySettings) : Ty
 abbrev pub client_keys : List SettingsKey
 client_keys = key.Alg ∷ key.Bind ∷ key.Context ∷ key.Host ∷ key.Peer ∷ key.Port ∷ key.Salt ∷ key.Secret ∷ key.Token ∷ []
 
--- a port that is left out is 5683, that of `coap` (RFC 7252 section 6.1)
+-- a port that is left out is that of `coap` (RFC 7252 section 6.1)
 abbrev pub IsOriginPort : Members → ℕ → Type 0
-IsOriginPort document port = IsPortAt (codes "port") document port ⊎ (IsLeftOut (codes "port") document × (port ≡ 5683))
+IsOriginPort document port = IsPortAt (codes "port") document port ⊎ (IsLeftOut (codes "port") document × (port ≡ default_port))
 
 -- The host and the port by which a proxy knows the server. Without a host there is no proxy, and then no port either.
 abbrev pub IsOrigin : Members → Option (List ℕ × ℕ) → Type 0

@@ -2,7 +2,7 @@
 use Rattle.std.specs.Prelude.{◌≡◌, ℕ, ◌≤◌, ℤ, pos, List, ◌++◌, length, codes, decimal, Ok, Some}
 use Rattle.std.specs.Net.Grammar.{IsDotted}
 use Rattle.hex.specs.Hex.{decode_of}
-use Rattle.osc_model.specs.{algorithm_number, revoked_path, segments_of, IsPath}
+use Rattle.osc_model.specs.{algorithm_number, revoked_path, segments_of, v4_peer, IsPath}
 use Rattle.osc_model.specs.declared.algorithm.Algorithm.{Algorithm}
 use Rattle.osc_model.specs.declared.node.Peer.{Peer}
 
@@ -13,7 +13,9 @@ IsPortNumber port = (1 ≤ port) × (port ≤ 65535)
 -- `A.B.C.D:PORT`: decimal numbers without leading zeros, A to D at most 255, PORT from `least` to 65535
 pub record IsAddressFrom (least : ℕ) (text : List ℕ) (peer : Peer) : Type 0 where
   pub dotted : List ℕ
-  pub address : IsDotted dotted peer.address
+  pub octets : List ℕ
+  pub is : peer ≡ v4_peer octets peer.port
+  pub address : IsDotted dotted octets
   pub at_least : least ≤ peer.port
   pub at_most : peer.port ≤ 65535
   pub spelled : text ≡ dotted ++ codes ":" ++ decimal peer.port

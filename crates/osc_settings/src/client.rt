@@ -13,6 +13,7 @@ use crate::document::{
 };
 use crate::error::{KeyFault, SettingsError};
 use crate::key::SettingsKey;
+use osc_model::limits::{DEFAULT_PORT, LONGEST_PART};
 use osc_model::{Algorithm, Bytes, Peer};
 use std::alloc::Global;
 use std::fmt;
@@ -30,12 +31,6 @@ const KEYS: [SettingsKey; 9] = [
     SettingsKey::Secret,
     SettingsKey::Token,
 ];
-
-/// The port of the scheme `coap` (RFC 7252 section 6.1).
-const DEFAULT_PORT: u16 = 5683;
-
-/// The most bytes that a part of the input material has.
-const LONGEST: usize = 64;
 
 /// What a client is told.
 #[derive(Drop)]
@@ -91,7 +86,7 @@ fn settings_in(alloc: Global, table: &Table) -> Result<ClientSettings, SettingsE
         peer: address_at(alloc, SettingsKey::Peer, table, 1)?,
         origin: origin(alloc, table)?,
         token: bytes_at(alloc, SettingsKey::Token, table)?,
-        secret: bytes_within_at(alloc, SettingsKey::Secret, table, 1, LONGEST)?,
+        secret: bytes_within_at(alloc, SettingsKey::Secret, table, 1, LONGEST_PART)?,
         salt: salt(alloc, table)?,
         context: context(alloc, table)?,
         alg: algorithm(table)?,
@@ -125,7 +120,7 @@ fn salt(alloc: Global, table: &Table) -> Result<Bytes, SettingsError>
     ensures { MatchResult result (IsSalt (table_view table.now)) (IsKeyFault (IsWrongAt AnyKey.Salt (λ name. SpelledAt name (SpellsBytes 0 64)) (table_view table.now))) }
 {
     if has(SettingsKey::Salt, table) {
-        bytes_within_at(alloc, SettingsKey::Salt, table, 0, LONGEST)
+        bytes_within_at(alloc, SettingsKey::Salt, table, 0, LONGEST_PART)
     } else {
         Ok(Bytes::new(alloc))
     }
@@ -137,7 +132,7 @@ fn context(alloc: Global, table: &Table) -> Result<Option<Bytes>, SettingsError>
         (IsKeyFault (IsWrongAt AnyKey.Context (λ name. SpelledAt name (SpellsBytes 0 64)) (table_view table.now))) }
 {
     if has(SettingsKey::Context, table) {
-        Ok(Some(bytes_within_at(alloc, SettingsKey::Context, table, 0, LONGEST)?))
+        Ok(Some(bytes_within_at(alloc, SettingsKey::Context, table, 0, LONGEST_PART)?))
     } else {
         Ok(None)
     }

@@ -12,6 +12,7 @@ use crate::document::{has, items_at, other_key, read_at, untyped_at, value_at};
 use crate::error::{SettingsError, ValueError};
 use crate::key::SettingsKey;
 use crate::values;
+use osc_model::limits::{LONGEST_PAYLOAD, MOST_RESOURCES};
 use osc_model::{Bytes, Path};
 use std::alloc::Global;
 use toml::{Table, Value};
@@ -23,12 +24,6 @@ const KEYS: [SettingsKey; 4] = [
     SettingsKey::Path,
     SettingsKey::Text,
 ];
-
-/// The most resources that a server holds.
-const MOST: usize = 1024;
-
-/// The most bytes of a payload of one.
-const LONGEST: usize = 512;
 
 /// A resource that a server has at first.
 #[derive(Debug, Drop)]
@@ -70,7 +65,7 @@ fn few(alloc: Global, values: &[Value]) -> Result<Vec<ResourceSetting>, ValueErr
         (λ resources. StandForFew most_resources IsResourceTable (items_view values.now) resources.items)
         (IsRefusal (StandForFew most_resources IsResourceTable (items_view values.now))) }
 {
-    if values.len() > MOST {
+    if values.len() > MOST_RESOURCES {
         return Err(ValueError::Bad);
     }
     all(alloc, values)
@@ -166,7 +161,10 @@ fn text_content(alloc: Global, value: &Value) -> Result<Bytes, ValueError>
         (IsRefusal (IsContentOf (Some (view value.now)) None)) }
 {
     match value.as_str() {
-        Some(text) if text.len() <= LONGEST => Ok(Bytes::from_slice(alloc, text.as_bytes())?),
+        Some(text) if text.len() <= LONGEST_PAYLOAD => Ok(Bytes::from_slice(
+            alloc,
+            text.as_bytes(),
+        )?),
         _ => Err(ValueError::Bad),
     }
 }
@@ -177,7 +175,7 @@ fn hex_content(alloc: Global, value: &Value) -> Result<Bytes, ValueError>
         (IsRefusal (IsContentOf None (Some (view value.now)))) }
 {
     match value.as_str() {
-        Some(text) => values::bytes_within(alloc, text, 0, LONGEST),
+        Some(text) => values::bytes_within(alloc, text, 0, LONGEST_PAYLOAD),
         None => Err(ValueError::Bad),
     }
 }

@@ -12,12 +12,10 @@ use crate::document::{has, items_at, read_at, untyped_at};
 use crate::error::{KeyFault, SettingsError, ValueError};
 use crate::key::SettingsKey;
 use crate::values;
+use osc_model::limits::MOST_TOKENS;
 use osc_model::{Bytes, Path};
 use std::alloc::Global;
 use toml::{Table, Value};
-
-/// The most ids: a server has as many places for token ids.
-const MOST: usize = 64;
 
 /// The ids of a server whose revocation path is `root`; there are none where they are left out.
 pub(crate) fn revoked_ids(
@@ -55,7 +53,7 @@ fn few(alloc: Global, root: &Path, values: &[Value]) -> Result<Vec<Bytes>, Value
         (λ ids. StandForFew 64 (IsRevokedId root.now) (items_view values.now) ids.items)
         (IsRefusal (StandForFew 64 (IsRevokedId root.now) (items_view values.now))) }
 {
-    if values.len() > MOST {
+    if values.len() > MOST_TOKENS {
         return Err(ValueError::Bad);
     }
     all(alloc, root, values)

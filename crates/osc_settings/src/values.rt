@@ -8,18 +8,10 @@ ghost use Rattle.osc_settings.specs.Values.{IsAddressFrom, IsAlgorithm, IsFileNa
 use crate::error::ValueError;
 use crate::store_file::StoreFile;
 use hex::{FromHex, FromHexError};
+use osc_model::limits::{LONGEST_HOST, LONGEST_ID, MOST_REVOCATION_SEGMENTS};
 use osc_model::{Algorithm, Bytes, Path, Peer, revoked_path};
 use std::alloc::{AllocError, Global};
 use std::net::SocketAddrV4;
-
-/// The most segments of a revocation path: with those of a token's id it isn't too long.
-const MOST_SEGMENTS: usize = 4;
-
-/// The most bytes of a token's id.
-pub(crate) const LONGEST_ID: usize = 64;
-
-/// The most bytes of a Uri-Host option (RFC 7252 section 5.10, table 4).
-const LONGEST_HOST: usize = 255;
 
 /// An address and a port from `least` on, `A.B.C.D:PORT`.
 pub(crate) fn address(alloc: Global, text: &str, least: u16) -> Result<Peer, ValueError>
@@ -45,10 +37,7 @@ fn plain_address(
         return Err(ValueError::Bad);
     }
     if is_printed(alloc, address, text)? {
-        Ok(Peer {
-            address: address.ip().octets(),
-            port: address.port(),
-        })
+        Ok(Peer::v4(address.ip().octets(), address.port()))
     } else {
         Err(ValueError::Bad)
     }
@@ -134,7 +123,7 @@ pub(crate) fn revocation_path(alloc: Global, text: &str) -> Result<Path, ValueEr
     ensures { MatchResult result (IsRevocationPath text.now) (IsRefusal (IsRevocationPath text.now)) }
 {
     let path = path(alloc, text)?;
-    if path.segments() > MOST_SEGMENTS {
+    if path.segments() > MOST_REVOCATION_SEGMENTS {
         return Err(ValueError::Bad);
     }
     Ok(path)

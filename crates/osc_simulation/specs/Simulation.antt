@@ -2,7 +2,7 @@
 use Rattle.std.specs.Prelude.{◌≡◌, ◌⊎◌, ◌↔◌, ℕ, ◌+◌, ◌==◌, if◌then◌else◌, Bool, true, false, IsTrue, List, [], ◌∷◌, ◌++◌, drop, length, Option, Some, None, codes}
 use Rattle.std.specs.FinMap as map
 use Rattle.std.specs.FinSet as set
-use Rattle.osc_model.specs.{Answer, alone, exactly}
+use Rattle.osc_model.specs.{Answer, alone, default_port, exactly}
 use Rattle.osc_model.specs.Tree.{Tree}
 use Rattle.osc_model.specs.Scope.{Scope}
 use Rattle.osc_model.specs.declared.code.Method.TheVariants.{Get}
@@ -74,7 +74,7 @@ tag_of = chosen_tag 8 16
 
 -- the server, as proxies know it: by the host `s` and its port
 abbrev pub server_origin : HostAndPort
-server_origin = record { host = codes "s"; port = 5683 }
+server_origin = record { host = codes "s"; port = default_port }
 
 -- the proxy by which a line says that the client sends, if one does
 abbrev pub proxy_of : ClientName → List Line → Option ProxyName
@@ -105,7 +105,7 @@ AllEnrolled all old (line ∷ lines) new = (next : Beginning) × Enrolled all ol
 
 -- what a proxy forwards to: the server alone
 abbrev pub targets : List Target
-targets = record { host = codes "s"; port = 5683; peer = address_of Server } ∷ []
+targets = record { host = codes "s"; port = default_port; peer = address_of Server } ∷ []
 
 -- a proxy is at its address, after the others
 abbrev pub with_new_proxy : Beginning → ProxyName → Beginning

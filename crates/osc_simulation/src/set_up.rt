@@ -2,6 +2,7 @@
 ghost use Rattle.std.specs.Prelude.{◌≡◌, ◌+◌, [], IfOk, None, OnOk, codes, length, true};
 ghost use Rattle.std.specs.FinMap as map;
 ghost use Rattle.std.specs.FinSet as set;
+ghost use Rattle.osc_model.specs.{default_port};
 ghost use Rattle.osc_script.specs.{iv_of, address_of};
 ghost use Rattle.osc_script.specs.declared.node.Node.TheVariants.{Client, Server};
 ghost use Rattle.osc_world.specs.{Beginning, Enrols};
@@ -13,6 +14,7 @@ use crate::names::Names;
 use osc_authz::ContextRules;
 use osc_ccm::Suite;
 use osc_client::{Origin, Route};
+use osc_model::limits::DEFAULT_PORT;
 use osc_model::{Bytes, Method, Path};
 use osc_proxy::{Target, Targets};
 use osc_scope::Scope;
@@ -23,10 +25,8 @@ use osc_tree::Tree;
 use osc_world::{EnrollError, Holder, Start, World};
 use std::alloc::{AllocError, Global};
 
-// The server's host, and its port, by which proxies know it.
+// The server's host, by which proxies know it.
 const SERVER_HOST: &[u8] = b"s";
-
-const SERVER_PORT: u16 = 5683;
 
 /// The world that the set-up lines make: the resources, the paths that are open, the revocation path, the clients with their tokens, and
 /// the proxies. The lines of a script fit (`laws::a_script_fits`), and the names are those of the same lines.
@@ -96,11 +96,11 @@ fn targets(alloc: Global) -> Result<Targets, AllocError>
 }
 
 fn server_target(alloc: Global) -> Result<Target, AllocError>
-    ensures { IfOk result (λ target. target ≡ record { host = codes "s"; port = 5683; peer = address_of Server }) }
+    ensures { IfOk result (λ target. target ≡ record { host = codes "s"; port = default_port; peer = address_of Server }) }
 {
     Ok(Target {
         host: Bytes::from_slice(alloc, SERVER_HOST)?,
-        port: SERVER_PORT,
+        port: DEFAULT_PORT,
         peer: Node::Server.address(),
     })
 }
@@ -277,7 +277,7 @@ fn server_origin(alloc: Global) -> Result<Origin, AllocError>
     ensures { IfOk result (λ origin. origin ≡ spec.server_origin) }
 {
     let host = Bytes::from_slice(alloc, SERVER_HOST)?;
-    match Origin::new(host, SERVER_PORT) {
+    match Origin::new(host, DEFAULT_PORT) {
         Some(origin) => Ok(origin),
         None => Err(AllocError),
     }

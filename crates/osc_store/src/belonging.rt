@@ -17,7 +17,7 @@ use std::io;
 pub(crate) const LOG_HEADER: usize = 32;
 
 /// How many bytes a log has at least that has a frame: its header, and what stands before the frame's page.
-const FRAMED_LOG: usize = 56;
+pub const FRAMED_LOG: usize = 56;
 
 /// Where the user version is in the header of a database file, which has four bytes.
 pub(crate) const VERSION_AT: usize = 60;

@@ -20,6 +20,7 @@ mod rows;
 mod starting;
 mod whole;
 
+pub use belonging::FRAMED_LOG;
 pub use error::{KeepError, OpenError};
 pub use files::open_files;
 pub use keeper::{FileKeeper, Forgetful, Keeper, Keeping};

@@ -6,6 +6,7 @@ use osc_model::{Draw, Moment};
 use osc_token::Audience;
 use osc_tree::Tree;
 use std::alloc::{AllocError, Global};
+use std::test::Fail;
 
 /// The key that the server shares with the issuer of tokens.
 const KEY: [u8; 16] = *b"@ABCDEFGHIJKLMNO";
@@ -74,6 +75,18 @@ fn is_found(desk: &ServerDesk, alloc: Global) -> bool {
 /// A post of the token of id 1, with a nonce that ends in 1 and the ID 00. The token was sealed by another implementation.
 const POST: &[u8] =
     b"\xa3\x01\x58\x46\x83\x43\xa1\x01\x0a\xa1\x05\x4d\0\0\0\0\0\0\0\0\0\0\0\0\x01\x58\x2f\x7a\x0e\xde\x21\x71\xa9\xef\x96\x11\xe8\xb2\x3a\xfd\x72\x3e\x78\x79\xca\xdf\xb8\x87\xe3\xcb\x88\x90\x1d\xd4\x04\x61\xe9\xf3\x01\x24\xce\xe0\x4d\x4a\x5e\x85\x93\x1d\x22\x4b\x7c\xe6\xb4\xe2\x18\x28\x48\0\0\0\0\0\0\0\x01\x18\x2b\x41\0";
+
+/// The id of the token goes with the post that is agreed to, and with the context that it made, but not with the post when it is known.
+#[test]
+fn whose_token_it_was(rt: HostRuntime) -> Result<(), Fail> {
+    let alloc = rt.alloc();
+    let mut desk = desk_of(alloc)?;
+    let post = post_at(&mut desk, alloc)?;
+    assert!(rt; post.holder.as_ref().map(|id| id.as_slice()) == Some(b"\x01".as_slice()));
+    assert!(rt; desk.holder(&[1]).map(|id| id.as_slice()) == Some(b"\x01".as_slice()));
+    assert!(rt; desk.holder(&[2]).is_none());
+    Ok(())
+}
 
 /// Run with each allocation refused in turn: the desk is as before, and the same post makes a context after it.
 #[test]

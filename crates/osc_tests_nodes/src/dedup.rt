@@ -1,22 +1,8 @@
 //! Tests of `osc_dedup`.
+use crate::peer::{OTHER_ADDRESS, OTHER_PORT, PEER};
 use osc_dedup::*;
 use osc_model::{Bytes, Moment, Peer};
 use std::alloc::{AllocError, Global};
-
-const PEER: Peer = Peer {
-    address: [192, 0, 2, 1],
-    port: 5683,
-};
-
-const OTHER_ADDRESS: Peer = Peer {
-    address: [192, 0, 2, 2],
-    port: 5683,
-};
-
-const OTHER_PORT: Peer = Peer {
-    address: [192, 0, 2, 1],
-    port: 5684,
-};
 
 fn answered(alloc: Global, until: u64) -> Result<Noted, AllocError> {
     Ok(Noted {

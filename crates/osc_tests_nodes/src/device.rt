@@ -3,7 +3,7 @@ ghost use Rattle.std.specs.Prelude.{◌<◌};
 
 use osc_ccm::Suite;
 use osc_client::Client;
-use osc_device::{Device, NewError, OwnDraws, OwnToken, Round, Ruling, ServerParts};
+use osc_device::{Device, DeviceCalls, NewError, OwnDraws, OwnToken, Round, Ruling, ServerParts};
 use osc_fixtures::{
     CLIENT, GET, GET_AND_POST, KEY, POST, PUT, SERVER, at, client, drawn, own, request, sent_in,
     straight,

@@ -1,17 +1,8 @@
 //! Rooms in which a node sends, datagrams in their order, and the first moment.
+use crate::peer::{OTHER_ADDRESS, PEER};
 use osc_message::{Buffer, Outbox, ReplyRoom};
-use osc_model::{Bytes, Datagram, Datagrams, Moment, Peer};
+use osc_model::{Bytes, Datagram, Datagrams, Moment};
 use std::alloc::{AllocError, Global};
-
-const PEER: Peer = Peer {
-    address: [192, 0, 2, 1],
-    port: 5683,
-};
-
-const OTHER: Peer = Peer {
-    address: [192, 0, 2, 2],
-    port: 5683,
-};
 
 #[test]
 fn what_is_sent_has_its_room(rt: HostRuntime) {
@@ -19,7 +10,7 @@ fn what_is_sent_has_its_room(rt: HostRuntime) {
     let room = Buffer::new(rt.alloc(), 8).expect(&rt, "memory");
     outbox.send(PEER, room.fill(b"first"));
     outbox.send(
-        OTHER,
+        OTHER_ADDRESS,
         Bytes::from_slice(rt.alloc(), b"second").expect(&rt, "memory"),
     );
     assert!(rt; outbox.into_datagrams().as_slice().len() == 2);

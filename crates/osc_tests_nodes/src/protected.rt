@@ -402,6 +402,24 @@ fn refuses_beginnings(rt: &impl Abort, alloc: Global, server: &mut Server) -> Re
     check_served(rt, alloc, server, 0, &whole, b"\x41")
 }
 
+/// Each step notes the id of the token, where a post made a context and where a request is served, and no other does.
+#[test]
+fn whose_token_it_is(rt: HostRuntime) -> Result<(), Fail> {
+    let alloc = rt.alloc();
+    let mut server = empty_server(alloc)?;
+    let posted = hears(alloc, &mut server, POST, 2)?;
+    assert!(rt; posted.notes.holder() == Some(b"\x01".as_slice()));
+    let asked = request(alloc, 2, 0x0300, 0, b"a")?;
+    let served = hears(alloc, &mut server, &asked, 3)?;
+    assert!(rt; served.notes.served().is_some());
+    assert!(rt; served.notes.holder() == Some(b"\x01".as_slice()));
+    let again = numbered(alloc, &asked, 0x0301)?;
+    let replayed = hears(alloc, &mut server, &again, 4)?;
+    assert!(rt; replayed.notes.refused().is_some());
+    assert!(rt; replayed.notes.holder().is_none());
+    Ok(())
+}
+
 #[test]
 fn beginnings(rt: HostRuntime) -> Result<(), Fail> {
     let mut server = empty_server(rt.alloc())?;

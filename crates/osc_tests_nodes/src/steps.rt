@@ -3,6 +3,7 @@ use osc_model::{
     Algorithm, AssociatedData, Bytes, ClientResult, Code, ContextName, Entry, Moment, Note, Reply,
     SharedName, Side, StepNotes,
 };
+use osc_options::request_in;
 use osc_run::{Grant, Minted, Noted, Notes};
 use osc_scope::Scope;
 use osc_token::InputMaterial;
@@ -118,6 +119,7 @@ fn entry(rt: &impl Abort, alloc: Global, asked: Use) -> Entry {
         context: name(rt, alloc, asked.secret, false),
         number: asked.number,
         plaintext: Bytes::from_slice(alloc, &[asked.text]).expect(rt, "memory"),
+        request: request_in(alloc, &[asked.text]).expect(rt, "memory"),
         moment: Moment::START,
         reply: Reply::bare(alloc, Code(68)),
     }

@@ -2,7 +2,9 @@
 use crate::disks::{pair, start};
 use osc_ccm::Suite;
 use osc_client::Client;
-use osc_device::{CallError, KeptDevice, NewError, OwnDraws, OwnToken, Round, ServerParts};
+use osc_device::{
+    CallError, DeviceCalls, KeptDevice, NewError, OwnDraws, OwnToken, Round, ServerParts,
+};
 use osc_fixtures::{
     CLIENT, GET_AND_POST, KEY, POST, SERVER, at, client, drawn, own, request, sent_in, straight,
 };

@@ -4,9 +4,10 @@ ghost use Rattle.osc_log.specs.declared.held.Held.TheVariants as AnyHeld;
 use crate::broken::{BrokenWriter, FullPipe};
 use osc_log::{AtOnce, Form, Held, Holds, Lines, Log, Silent, Turn};
 use osc_model::{
-    Algorithm, AssociatedData, Bytes, Code, ContextName, Datagram, Datagrams, Entry, Moment, Note,
-    Peer, RefusedRequest, Reply, SharedName, Side, Step, StepNotes,
+    Algorithm, Bytes, Code, ContextName, Datagram, Datagrams, Entry, Moment, Peer, RefusedRequest,
+    Reply, SharedBytes, SharedName, Step, StepNotes,
 };
+use osc_options::request_in;
 use std::alloc::{AllocError, Global};
 use std::io::{ErrorKind, Write};
 use std::test::Fail;
@@ -18,10 +19,7 @@ fn answers(alloc: Global, bytes: &[&[u8]]) -> Result<Datagrams, AllocError> {
     let mut out = Datagrams::new(alloc);
     for datagram in bytes {
         out.push(Datagram {
-            to: Peer {
-                address: [192, 0, 2, 7],
-                port: 40000,
-            },
+            to: Peer::v4([192, 0, 2, 7], 40000),
             bytes: Bytes::from_slice(alloc, datagram)?,
         })?;
     }
@@ -45,6 +43,7 @@ fn serving(alloc: Global, plaintext: &[u8]) -> Result<Step, AllocError> {
         context: SharedName::new(alloc, name(alloc)?)?,
         number: 5,
         plaintext: Bytes::from_slice(alloc, plaintext)?,
+        request: request_in(alloc, plaintext)?,
         moment: moment(),
         reply: Reply {
             payload: Bytes::from_slice(alloc, b"secret")?,
@@ -59,14 +58,9 @@ fn serving(alloc: Global, plaintext: &[u8]) -> Result<Step, AllocError> {
 }
 
 fn name(alloc: Global) -> Result<ContextName, AllocError> {
-    name_by(alloc, b"")
-}
-
-/// The name of a context with this salt.
-fn name_by(alloc: Global, salt: &[u8]) -> Result<ContextName, AllocError> {
     Ok(ContextName {
         secret: Bytes::from_slice(alloc, b"master")?,
-        salt: Bytes::from_slice(alloc, salt)?,
+        salt: Bytes::new(alloc),
         id_context: None,
         client_id: Bytes::new(alloc),
         server_id: Bytes::new(alloc),
@@ -104,7 +98,7 @@ fn tell<W: Write + Drop>(alloc: Global, lines: &mut Lines<W>, now: Moment, step:
 
 /// Whether this is told of the step alone.
 fn is_told(alloc: Global, form: Form, step: Step, text: &[u8]) -> bool {
-    let mut lines = Lines::new(alloc, form, Vec::new(alloc));
+    let mut lines = Lines::new(form, Vec::new(alloc));
     tell(alloc, &mut lines, moment(), &step);
     lines.into_writer().as_slice() == text
 }
@@ -254,7 +248,7 @@ fn what_is_sent(rt: HostRuntime) -> Result<(), Fail> {
 fn lines_are_written(rt: HostRuntime) -> Result<(), Fail> {
     let alloc = rt.alloc();
     let step = serving(alloc, b"\x01\xb3log")?;
-    let mut lines = Lines::new(alloc, Form::Text, Vec::from_slice(alloc, b"> ")?);
+    let mut lines = Lines::new(Form::Text, Vec::from_slice(alloc, b"> ")?);
     tell(alloc, &mut lines, moment(), &step);
     lines.lost(moment());
     assert_eq!(rt;
@@ -275,7 +269,7 @@ fn many_refusals_are_counted(rt: HostRuntime) -> Result<(), Fail> {
     let alloc = rt.alloc();
     let refused = refusing(alloc, Code::UNAUTHORIZED, None)?;
     let served = serving(alloc, b"\x01\xb3log")?;
-    let mut lines = Lines::new(alloc, Form::Text, Vec::new(alloc));
+    let mut lines = Lines::new(Form::Text, Vec::new(alloc));
     for ms in 0..23 {
         tell(alloc, &mut lines, later(ms), &refused);
     }
@@ -300,7 +294,7 @@ fn a_new_second_tells_what_was_left_out(rt: HostRuntime) -> Result<(), Fail> {
     let alloc = rt.alloc();
     let refused = refusing(alloc, Code::UNAUTHORIZED, None)?;
     let none = Step::sending(Datagrams::new(alloc));
-    let mut lines = Lines::new(alloc, Form::Text, Vec::new(alloc));
+    let mut lines = Lines::new(Form::Text, Vec::new(alloc));
     for ms in 0..23 {
         tell(alloc, &mut lines, later(ms), &refused);
     }
@@ -333,7 +327,7 @@ fn a_new_second_tells_what_was_left_out(rt: HostRuntime) -> Result<(), Fail> {
 fn a_broken_output_ends_nothing(rt: HostRuntime) -> Result<(), Fail> {
     let alloc = rt.alloc();
     let step = serving(alloc, b"\x01\xb3log")?;
-    let mut lines = Lines::new(alloc, Form::Text, BrokenWriter { writes: 1 });
+    let mut lines = Lines::new(Form::Text, BrokenWriter { writes: 1 });
     for _ in 0..3 {
         tell(alloc, &mut lines, moment(), &step);
     }
@@ -360,7 +354,7 @@ fn dropped_lines_are_told_of(rt: HostRuntime) -> Result<(), Fail> {
         taken: Vec::new(alloc),
         fd: 2,
     };
-    let mut lines = Lines::new(alloc, Form::Text, pipe);
+    let mut lines = Lines::new(Form::Text, pipe);
     // The third write that is refused is that of the notice.
     tell(alloc, &mut lines, moment(), &step);
     lines.lost(moment());
@@ -443,7 +437,7 @@ fn faults_are_objects(rt: HostRuntime) -> Result<(), Fail> {
         taken: Vec::new(alloc),
         fd: 2,
     };
-    let mut lines = Lines::new(alloc, Form::Json, pipe);
+    let mut lines = Lines::new(Form::Json, pipe);
     lines.no_settings(alloc, Some("dropped"));
     tell(
         alloc,
@@ -466,61 +460,59 @@ fn faults_are_objects(rt: HostRuntime) -> Result<(), Fail> {
     Ok(())
 }
 
-/// A step in which a post made a context: its token opened to a text with the id 0xab, and this nonce was drawn.
-fn posting(alloc: Global, nonce: [u8; 8]) -> Result<Step, AllocError> {
-    let note = Note {
-        context: SharedName::new(alloc, name(alloc)?)?,
-        side: Side::Client,
-        number: 0,
-        nonce: [0; 13],
-        aad: AssociatedData::from_slice(&[]),
-        plaintext: Bytes::from_slice(
-            alloc,
-            b"\xa2\x03\x61s\x08\xa1\x04\xa2\x00\x41\xab\x02\x41\xff",
-        )?,
-    };
+/// A step in which a post was agreed to, with the token of this id.
+fn posting(alloc: Global, id: &[u8]) -> Result<Step, AllocError> {
     let out = answers(alloc, &[&[0x60, 0x41, 0, 1]])?;
     Ok(Step {
         out,
-        notes: StepNotes::quiet().with_open(note).with_drawn(nonce),
+        notes: StepNotes::quiet()
+            .with_drawn(*b"12345678")
+            .with_holder(shared(alloc, id)?),
     })
 }
 
-/// A step that serves under the context of this salt.
-fn serving_by(alloc: Global, salt: &[u8]) -> Result<Step, AllocError> {
-    let entry = Entry {
-        context: SharedName::new(alloc, name_by(alloc, salt)?)?,
-        number: 5,
-        plaintext: Bytes::from_slice(alloc, b"\x01\xb1e")?,
-        moment: moment(),
-        reply: Reply::bare(alloc, Code::CONTENT),
-    };
-    let out = answers(alloc, &[&[0x60, 0x44, 0, 1]])?;
+/// A step that serves under a context of the token of this id.
+fn serving_by(alloc: Global, id: &[u8]) -> Result<Step, AllocError> {
+    let Step { out, notes } = serving(alloc, b"\x01\xb1e")?;
     Ok(Step {
         out,
-        notes: StepNotes::quiet().with_entry(entry),
+        notes: notes.with_holder(shared(alloc, id)?),
     })
 }
 
-// Whoever posted is known by the id of the token, under the context whose salt ends in the nonce of the post.
+fn shared(alloc: Global, id: &[u8]) -> Result<SharedBytes, AllocError> {
+    SharedBytes::new(alloc, Bytes::from_slice(alloc, id)?)
+}
+
+/// What is told in this form of a post and of what is served, by the token of this id.
+fn told_by(alloc: Global, form: Form, id: &[u8]) -> Result<Vec<u8>, AllocError> {
+    let mut lines = Lines::new(form, Vec::new(alloc));
+    let post = posting(alloc, id)?;
+    let served = serving_by(alloc, id)?;
+    for &step in &[&post, &served] {
+        tell(alloc, &mut lines, moment(), step);
+    }
+    Ok(lines.into_writer())
+}
+
+// Whose token it was is told of what is served, and by text of the answer to the post as well.
 #[test]
 fn who_is_served_is_told(rt: HostRuntime) -> Result<(), Fail> {
     let alloc = rt.alloc();
-    let mut lines = Lines::new(alloc, Form::Json, Vec::new(alloc));
-    let post = posting(alloc, *b"12345678")?;
-    let known = serving_by(alloc, b"\x41s\x48abcdefgh\x4812345678")?;
-    let other = serving_by(alloc, b"\x41s\x48abcdefgh\x4812345679")?;
-    for &step in &[&known, &post, &known, &other] {
-        tell(alloc, &mut lines, moment(), step);
-    }
     assert_eq!(rt;
-        lines.into_writer().as_slice(),
-        br#"{"code":"2.05","level":"served","method":"GET","path":"/e","peer":"192.0.2.7:40000","time":"2023-11-14T22:13:20.123Z"}
-{"code":"2.01","level":"sent","peer":"192.0.2.7:40000","time":"2023-11-14T22:13:20.123Z"}
+        told_by(alloc, Form::Json, b"\xab")?.as_slice(),
+        br#"{"code":"2.01","level":"sent","peer":"192.0.2.7:40000","time":"2023-11-14T22:13:20.123Z"}
 {"code":"2.05","level":"served","method":"GET","path":"/e","peer":"192.0.2.7:40000","time":"2023-11-14T22:13:20.123Z","token":"ab"}
-{"code":"2.05","level":"served","method":"GET","path":"/e","peer":"192.0.2.7:40000","time":"2023-11-14T22:13:20.123Z"}
 "#
             .as_slice()
+    );
+    assert_eq!(rt;
+        told_by(alloc, Form::Text, b"\xab\x01")?.as_slice(),
+        b"1700000000123 192.0.2.7:40000 sent 2.01 by ab01\n1700000000123 192.0.2.7:40000 served GET /e: 2.05 by ab01\n".as_slice()
+    );
+    assert_eq!(rt;
+        told_by(alloc, Form::Text, b"")?.as_slice(),
+        b"1700000000123 192.0.2.7:40000 sent 2.01 by -\n1700000000123 192.0.2.7:40000 served GET /e: 2.05 by -\n".as_slice()
     );
     Ok(())
 }
@@ -535,7 +527,7 @@ fn two_hours(alloc: Global, form: Form) -> Result<Vec<u8>, AllocError> {
     let replayed = refusing(alloc, Code::UNAUTHORIZED, Some(23))?;
     let served = serving(alloc, b"\x01\xb3log")?;
     let none = Step::sending(Datagrams::new(alloc));
-    let mut lines = Lines::new(alloc, form, Vec::new(alloc));
+    let mut lines = Lines::new(form, Vec::new(alloc));
     for &(ms, step) in &[
         (0, &refused),
         (1, &replayed),

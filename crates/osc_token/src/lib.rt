@@ -21,6 +21,6 @@ pub use audience::Audience;
 pub use claims::{Claims, InputMaterial};
 pub use error::{MintError, TokenError};
 pub use judging::judge;
-pub use minting::{claims_text, mint};
+pub use minting::{CLAIMS_LIMIT, claims_text, mint};
 pub use opening::open_token;
 pub use reading::read;

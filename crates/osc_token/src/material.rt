@@ -8,6 +8,7 @@ use crate::claims::InputMaterial;
 use crate::found::FieldsRef;
 use crate::labels::MATERIAL;
 use osc_cbor::ItemRef;
+use osc_model::limits::LONGEST_PART;
 use osc_model::{Algorithm, Bytes};
 use std::alloc::{AllocError, Global};
 use std::marker::Model;
@@ -20,9 +21,6 @@ const HMAC_256: u64 = 5;
 
 /// HKDF with SHA-256 by direct+HKDF-SHA-256 (RFC 9053 section 6.1.2): the argument of -10.
 const HKDF_SHA_256: u64 = 9;
-
-/// The most bytes of a field.
-const LONGEST: usize = 64;
 
 /// Input material, lent by the claims.
 #[derive(Drop)]
@@ -130,12 +128,12 @@ fn numbered(item: &ItemRef<'_>) -> Option<Algorithm>
     Algorithm::from_number(item.as_unsigned()?)
 }
 
-/// The bytes of a field, if it is a byte string of at least so many and at most [`LONGEST`].
+/// The bytes of a field, if it is a byte string of at least so many and at most [`LONGEST_PART`].
 fn sized<'a>(value: &ItemRef<'a>, least: usize) -> Option<&'a [u8]>
     ensures { option_copied result ≡ spec.sized least value.now }
 {
     let bytes = value.as_bytes()?;
-    if bytes.len() < least || bytes.len() > LONGEST {
+    if bytes.len() < least || bytes.len() > LONGEST_PART {
         None
     } else {
         Some(bytes)

@@ -23,7 +23,7 @@ use std::alloc::{AllocError, Global};
 const ALGORITHM_HEADER: [u8; 3] = *b"\xa1\x01\x0a";
 
 /// The most bytes that claims may have, so that the cipher takes them.
-const CLAIMS_LIMIT: usize = 65535;
+pub const CLAIMS_LIMIT: usize = 65535;
 
 /// Appends the token of these claims, sealed under the key that its issuer and the server share: a COSE_Encrypt0 object
 /// without tags and without a kid. Claims and fields that aren't there, an empty salt, and the algorithm that is meant where none is

@@ -5,7 +5,8 @@ ghost use Rattle.std.specs.List.{list_any};
 ghost use Rattle.osc_model.specs.{code, method_of, longest_payload, payload_length as length_of, AllowsWrite, refusal as refuses, method_checks, first_failing, is_matched as matches, is_acceptable as accepts};
 
 use crate::tagged::Tagged;
-use crate::tree::{LONGEST_PAYLOAD, Tree};
+use crate::tree::Tree;
+use osc_model::limits::LONGEST_PAYLOAD;
 use osc_model::{Code, ETag, Method, Path, Request};
 use osc_scope::{Scope, Verdict};
 

@@ -8,6 +8,7 @@ mod tagged;
 mod tags;
 mod tree;
 
+pub use osc_model::limits::{LONGEST_PAYLOAD, MOST_ELSEWHERE, MOST_RESOURCES};
 pub use resources::Resources;
 pub use tags::etag;
-pub use tree::{LONGEST_PAYLOAD, MOST_ELSEWHERE, MOST_RESOURCES, Tree};
+pub use tree::Tree;

@@ -6,20 +6,11 @@ ghost use Rattle.osc_model.specs.{path_cmp, etag_of, IsWithinLimits, most_resour
 
 use crate::resources::Resources;
 use crate::tagged::Tagged;
+use osc_model::limits::{MOST_ELSEWHERE, MOST_RESOURCES};
 use osc_model::{Path, Resource, laws};
 use std::alloc::{AllocError, Global};
 use std::collections::BTreeMap;
 use std::marker::Model;
-
-/// How many resources a tree has at most.
-pub const MOST_RESOURCES: usize = 1024;
-
-/// How many there may be where one more is made that revokes no token, at a server with a revocation path: what is left is for those
-/// that revoke.
-pub const MOST_ELSEWHERE: usize = 960;
-
-/// How many bytes each of them has at most.
-pub const LONGEST_PAYLOAD: usize = 512;
 
 /// A finite map from paths to resources: at most 1024, each of at most 512 bytes. To look a path up takes logarithmic
 /// time and no memory. An ETag that was answered is kept beside its resource until that is written.

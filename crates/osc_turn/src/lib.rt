@@ -1,5 +1,6 @@
 //! Turns of a running node: a port takes what came, the node makes one step of it, and the port sends what the step sends. No socket is known
 //! here: its contract says what a port is. The moment and the draw of each turn are handed in, and `ClockAndRandom` has both, by a clock and a generator.
+//! Of a node whose resources outlive a power cut, what a step changed is kept before anything of the step is sent.
 #![tactic(auto)]
 
 mod clock_and_random;

@@ -19,14 +19,12 @@ use crate::token_option::TokenOption;
 use crate::words::WordsError;
 use crate::{given, times};
 use clap::ArgMatches;
+use osc_model::limits::LONGEST_PART;
 use osc_model::{Algorithm, Bytes};
 use osc_script::values;
 use osc_token::{Audience, Claims, InputMaterial};
 use std::alloc::Global;
 use std::fmt;
-
-// The most bytes that a part of the input material has.
-const LONGEST: usize = 64;
 
 /// What `osc token` is asked for, before the files are read that the key and the secret may be in.
 #[derive(PartialEq, Eq, Drop)]
@@ -244,7 +242,7 @@ fn required_bytes(
 {
     let option = NamedOption::Token(option);
     let text = given::required_text(options, option)?;
-    let Some(bytes) = values::bytes_within(alloc, text, least, LONGEST)? else {
+    let Some(bytes) = values::bytes_within(alloc, text, least, LONGEST_PART)? else {
         return Err(WordsError::Value(option));
     };
     Ok(bytes)
@@ -265,7 +263,7 @@ fn bytes(
     let Some(text) = given::text(options, option) else {
         return Ok(None);
     };
-    let Some(bytes) = values::bytes_within(alloc, text, least, LONGEST)? else {
+    let Some(bytes) = values::bytes_within(alloc, text, least, LONGEST_PART)? else {
         return Err(WordsError::Value(option));
     };
     Ok(Some(bytes))
@@ -279,7 +277,7 @@ fn salt(alloc: Global, options: &ArgMatches<'_>) -> Result<Bytes, WordsError>
 {
     let option = NamedOption::Token(TokenOption::Salt);
     let text = given::text(options, option).unwrap_or("");
-    values::bytes_within(alloc, text, 0, LONGEST)?.ok_or(WordsError::Value(option))
+    values::bytes_within(alloc, text, 0, LONGEST_PART)?.ok_or(WordsError::Value(option))
 }
 
 // The algorithm; an absent one is that of number 10.

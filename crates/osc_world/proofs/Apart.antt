@@ -6,7 +6,7 @@ use Rattle.std.proofs.lemmas.Bool.{le-ltb, lt-ltb}
 use Rattle.std.proofs.lemmas.List.Folds.{list_any-append}
 use Rattle.std.proofs.lemmas.Option.{same_Some, slice_get_within}
 use Rattle.osc_model.specs.declared.node.Peer.{Peer}
-use Rattle.osc_message.specs.{same_peer}
+use Rattle.osc_model.specs.{same_peer}
 use Rattle.osc_ccm.specs.{Sealings, Tags}
 use Rattle.osc_model.specs.declared.step.Step.{Step}
 use Rattle.osc_client.specs.{skipped_to}

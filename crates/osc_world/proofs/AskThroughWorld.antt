@@ -2,7 +2,7 @@
 use Rattle.std.proofs.Common.{◌≡◌, ◌∙◌, sym, ap, subst, refl, ℕ, suc, ◌-◌, ◌≤◌, Bool, true, false, List, [], ◌∷◌, ◌++◌, length, map, Option, Some, None, arith, append-nil}
 use Rattle.std.specs.Prelude.{◌≢◌, slice_get, slice_set, option_to_list}
 use Rattle.std.proofs.lemmas.Option.{same_Some}
-use Rattle.osc_model.specs.{apply_read, quiet}
+use Rattle.osc_model.specs.{apply_read, quiet, same_peer}
 use Rattle.osc_model.specs.StepNotes.{StepNotes}
 use Rattle.osc_model.specs.declared.node.Draw.{Draw}
 use Rattle.osc_model.specs.declared.node.Moment.{Moment}
@@ -14,9 +14,9 @@ use Rattle.osc_model.specs.declared.step.Entry.{Entry}
 use Rattle.osc_model.specs.declared.step.Step.{Step}
 use Rattle.osc_coap.specs.{spelling}
 use Rattle.osc_coap.specs.Message.{Message}
-use Rattle.osc_message.specs.{same_peer, datagram, empty_acknowledgement}
+use Rattle.osc_message.specs.{datagram, empty_acknowledgement}
 use Rattle.osc_ccm.specs.{Sealings, Tags}
-use Rattle.osc_authz.specs.{ClientContextState, taking}
+use Rattle.osc_authz.specs.{ClientContextState, holder_at, taking}
 use Rattle.osc_authz.specs.SecurityContext.{SecurityContext}
 use Rattle.osc_run.specs.{request_note, history, Noted, by_client, by_proxy, by_server, Replies as AppliesTo}
 use Rattle.osc_options.specs.{read_request}
@@ -286,7 +286,7 @@ module _ (is_sealing : Sealings) (tag : Tags) where
     quiet_6 = ap (λ (s : Step). s.notes) ended.told
 
     abbrev entry : Entry
-    entry = record { context = held.name; number = context.next; plaintext = text; moment = now; reply = served.reply }
+    entry = record { context = held.name; number = context.next; plaintext = text; request = read_request text; moment = now; reply = served.reply }
 
     abbrev all : List Noted
     all =
@@ -330,6 +330,7 @@ module _ (is_sealing : Sealings) (tag : Tags) where
     notes_are : AreNotesOfRequest now request served.reply asks.step.notes round.step_3.notes round.step_5.notes
     notes_are = record {
       asked_is = asks_notes is_sealing tag placed.node asks.client begins.what asks.step (request_note held.name context.next text) asks.asks is.sealed;
+      holder = holder_at held.name.client_id old.nodes.server.desk.table;
       served_is = served.entry;
       answered_is = ap (λ (s : Step). s.notes) answered.is_answered.told;
     }

@@ -2,7 +2,7 @@
 use Rattle.std.proofs.Common.{◌≡◌, ◌∙◌, sym, ap, subst, refl, ℕ, suc, ◌+◌, ◌%◌, Bool, true, false, List, [], ◌∷◌, ◌++◌, map, Option, Some, None, append-nil}
 use Rattle.std.specs.Prelude.{◌≢◌, slice_get, slice_set, option_to_list}
 use Rattle.std.proofs.lemmas.Option.{same_Some}
-use Rattle.osc_model.specs.{apply_read}
+use Rattle.osc_model.specs.{apply_read, same_peer}
 use Rattle.osc_model.specs.declared.node.Draw.{Draw}
 use Rattle.osc_model.specs.declared.node.Moment.{Moment}
 use Rattle.osc_model.specs.declared.node.Peer.{Peer}
@@ -13,9 +13,9 @@ use Rattle.osc_model.specs.declared.step.Entry.{Entry}
 use Rattle.osc_model.specs.declared.step.Step.{Step}
 use Rattle.osc_coap.specs.{spelling}
 use Rattle.osc_dedup.specs.{looked}
-use Rattle.osc_message.specs.{same_peer, own_id, datagram}
+use Rattle.osc_message.specs.{own_id, datagram}
 use Rattle.osc_ccm.specs.{Sealings, Tags}
-use Rattle.osc_authz.specs.{ClientContextState, In, IsTable, contexts, taking}
+use Rattle.osc_authz.specs.{ClientContextState, In, IsTable, contexts, holder_at, taking}
 use Rattle.osc_authz.specs.SecurityContext.{SecurityContext}
 use Rattle.osc_authz.specs.declared.token_entry.TokenEntry.{TokenEntry}
 use Rattle.osc_run.specs.{request_note, history, Noted, by_client, by_server, Replies as AppliesTo, Minted}
@@ -179,7 +179,7 @@ module _ (is_sealing : Sealings) (tag : Tags) where
         (record { at = refl; next_hop = answered.next_hop ∙ sent.0; origin = answered.origin ∙ sent.1 })
 
     abbrev entry : Entry
-    entry = record { context = held.name; number = context.next; plaintext = text; moment = now; reply = served.reply }
+    entry = record { context = held.name; number = context.next; plaintext = text; request = read_request text; moment = now; reply = served.reply }
 
     abbrev all : List Noted
     all = by_client number false round.taking.notes ∷ by_server round.serving.notes ∷ by_client number false asks.step.notes ∷ []
@@ -202,6 +202,7 @@ module _ (is_sealing : Sealings) (tag : Tags) where
     notes_are : AreNotesOfRequest now request served.reply asks.step.notes round.serving.notes round.taking.notes
     notes_are = record {
       asked_is = asks_notes is_sealing tag placed.node asks.client it.what asks.step (request_note held.name context.next text) asks.asks is.sealed;
+      holder = holder_at held.name.client_id old.nodes.server.desk.table;
       served_is = served.entry;
       answered_is = ap (λ (s : Step). s.notes) answered.told;
     }

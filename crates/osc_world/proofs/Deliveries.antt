@@ -6,7 +6,7 @@ use Rattle.std.proofs.lemmas.List.Elements.{filter-append}
 use Rattle.osc_model.specs.StepNotes.{StepNotes}
 use Rattle.osc_model.specs.declared.node.Peer.{Peer}
 use Rattle.osc_model.specs.declared.step.Step.{Step}
-use Rattle.osc_message.specs.{same_peer}
+use Rattle.osc_model.specs.{same_peer}
 use Rattle.osc_ccm.specs.{Sealings, Tags}
 use Rattle.osc_run.specs.{Came, Noted, by_client, by_proxy, by_server}
 use Rattle.osc_server.specs.Steps as of_server

@@ -2,7 +2,7 @@
 use Rattle.std.proofs.Common.{◌≡◌, ◌∙◌, sym, ap, subst, refl, ℕ, suc, ◌-◌, ◌≤◌, Bool, true, false, List, [], ◌∷◌, ◌++◌, length, map, Some, arith}
 use Rattle.std.specs.Prelude.{◌≢◌, slice_get, slice_set}
 use Rattle.std.proofs.lemmas.Option.{same_Some}
-use Rattle.osc_model.specs.{quiet}
+use Rattle.osc_model.specs.{quiet, same_peer}
 use Rattle.osc_model.specs.declared.node.Draw.{Draw}
 use Rattle.osc_model.specs.declared.node.Moment.{Moment}
 use Rattle.osc_model.specs.declared.node.Peer.{Peer}
@@ -11,7 +11,7 @@ use Rattle.osc_model.specs.declared.step.Datagram.{Datagram}
 use Rattle.osc_model.specs.declared.step.Step.{Step}
 use Rattle.osc_coap.specs.{spelling}
 use Rattle.osc_coap.specs.Message.{Message}
-use Rattle.osc_message.specs.{same_peer, empty_acknowledgement}
+use Rattle.osc_message.specs.{empty_acknowledgement}
 use Rattle.osc_run.specs.{Noted, by_client, by_proxy, by_server, HasFreshDraws}
 use Rattle.osc_server.specs.State.{State as Server}
 use Rattle.osc_client.specs.{IsLawfulClient, Exchanges, post_by}

@@ -2,7 +2,7 @@
 use Rattle.std.proofs.Common.{◌≡◌, ◌∙◌, sym, ap, subst, refl, ℕ, suc, ◌+◌, ◌%◌, Bool, true, false, List, [], ◌∷◌, ◌++◌, map, Some, None}
 use Rattle.std.specs.Prelude.{◌≢◌, slice_get, slice_set}
 use Rattle.std.proofs.lemmas.Option.{same_Some}
-use Rattle.osc_model.specs.{quiet}
+use Rattle.osc_model.specs.{quiet, same_peer}
 use Rattle.osc_model.specs.StepNotes.{StepNotes}
 use Rattle.osc_model.specs.declared.node.Draw.{Draw}
 use Rattle.osc_model.specs.declared.node.Moment.{Moment}
@@ -13,7 +13,7 @@ use Rattle.osc_model.specs.declared.step.Step.{Step}
 use Rattle.osc_coap.specs.{spelling}
 use Rattle.osc_coap.specs.Message.{Message}
 use Rattle.osc_dedup.specs.{looked}
-use Rattle.osc_message.specs.{same_peer, own_id, datagram}
+use Rattle.osc_message.specs.{own_id, datagram}
 use Rattle.osc_authz.specs.SecurityContext.{SecurityContext}
 use Rattle.osc_run.specs.{Noted, by_client, by_server, HasFreshDraws, IsMinted, Minted}
 use Rattle.osc_run.specs.Premise.{Premise}

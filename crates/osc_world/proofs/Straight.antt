@@ -7,7 +7,7 @@ use Rattle.osc_model.specs.declared.node.Moment.{Moment}
 use Rattle.osc_model.specs.declared.node.Peer.{Peer}
 use Rattle.osc_model.specs.declared.step.Datagram.{Datagram}
 use Rattle.osc_model.specs.declared.step.Step.{Step}
-use Rattle.osc_message.specs.{same_peer}
+use Rattle.osc_model.specs.{same_peer}
 use Rattle.osc_ccm.specs.{Sealings, Tags}
 use Rattle.osc_run.specs.{Noted, by_client, by_server}
 use Rattle.osc_server.specs.{Hears as ServerHears}

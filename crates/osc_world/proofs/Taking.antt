@@ -48,7 +48,7 @@ pub proxy_kind : (event : Event) (job : Job) (old : Proxy) (step : Step) (new : 
     → Does of_proxy.IsStep proxy_again (task_of event job) old step new → ProxyStep step.notes
 proxy_kind event (Hear from bytes) old step new it = it.kind
 proxy_kind event Tick old step new it = it.kind
-proxy_kind event StartAgain old step new it = record { refused = None; noted = ap (λ (s : Step). s.notes) it.told }
+proxy_kind event StartAgain old step new it = record { refused = None; lost = false; noted = ap (λ (s : Step). s.notes) it.told }
 
 -- ---- one node of all
 

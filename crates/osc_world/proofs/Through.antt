@@ -2,13 +2,12 @@
 -- six deliveries.
 use Rattle.std.proofs.Common.{◌≡◌, ◌∙◌, ap, sym, subst, ℕ, suc, ◌+◌, ◌≤◌, Bool, true, false, List, [], ◌∷◌, ◌++◌, length, map, Some, None, refl, inl, inr, arith}
 use Rattle.std.specs.Prelude.{slice_get, slice_set}
-use Rattle.osc_model.specs.{quiet}
+use Rattle.osc_model.specs.{quiet, same_peer}
 use Rattle.osc_model.specs.declared.node.Draw.{Draw}
 use Rattle.osc_model.specs.declared.node.Moment.{Moment}
 use Rattle.osc_model.specs.declared.node.Peer.{Peer}
 use Rattle.osc_model.specs.declared.step.Datagram.{Datagram}
 use Rattle.osc_model.specs.declared.step.Step.{Step}
-use Rattle.osc_message.specs.{same_peer}
 use Rattle.osc_ccm.specs.{Sealings, Tags}
 use Rattle.osc_run.specs.{Noted, by_client, by_proxy, by_server}
 use Rattle.osc_server.specs.{Hears as ServerHears}

@@ -147,7 +147,7 @@ pub record HasAnswered (old : State) (client : ℕ) (now : Moment) (request : Op
   pub applied : AppliesTo old.nodes.server.tree (apply_read old.nodes.server.desk.rules.revoked old.nodes.server.tree request.held.scope (read_request request.text)) reply new.nodes.server.tree
   pub entry : history new.steps
       ≡ history old.steps
-      ++ (record { context = request.held.name; number = request.number; plaintext = request.text; moment = now; reply = reply })
+      ++ (record { context = request.held.name; number = request.number; plaintext = request.text; request = read_request request.text; moment = now; reply = reply })
       ∷ []
   pub asked : StepNotes
   pub served : StepNotes

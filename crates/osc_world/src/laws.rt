@@ -41,7 +41,7 @@ ghost use Rattle.osc_world.specs.declared.start.Holder.{Holder as AnyHolder};
 
 use osc_authz::laws::numbers_taken;
 use osc_ccm::Ciphers;
-use osc_message::laws::one_peer;
+use osc_model::laws::one_peer;
 use osc_rounds::laws::{
     a_request_goes_through_a_proxy, a_request_is_answered, a_request_keeps_the_premise,
     an_exchange_goes_through_a_proxy, an_exchange_is_made, an_exchange_keeps_the_premise,

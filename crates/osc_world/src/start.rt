@@ -4,7 +4,7 @@ ghost use Rattle.std.specs.List.{list_any};
 ghost use Rattle.std.specs.Option.{ForSome};
 ghost use Rattle.osc_cbor.specs.{spelling};
 ghost use Rattle.osc_cose.specs.{enc_structure, object_item};
-ghost use Rattle.osc_message.specs.{same_peer};
+ghost use Rattle.osc_model.specs.{same_peer};
 ghost use Rattle.osc_model.specs.declared.algorithm.Algorithm.TheVariants.{EightByteTag};
 ghost use Rattle.osc_run.specs.{IsReached, IsTextOf};
 ghost use Rattle.osc_scope.specs.{Entry, IsScope, scope_of};
@@ -21,7 +21,7 @@ use crate::world::World;
 use osc_authz::{ClientDesk, ContextRules, DeskParts, ServerDesk};
 use osc_ccm::Ciphers;
 use osc_client::{Client, Route};
-use osc_message::laws::one_peer;
+use osc_model::laws::one_peer;
 use osc_model::{Bytes, Peer};
 use osc_protect::TokenCipher;
 use osc_proxy::{Proxy, Targets};
@@ -78,9 +78,8 @@ pub struct Parts {
 impl Model for Start {
     ghost use Rattle.std.specs.Coded.{codes};
     ghost use Rattle.std.specs.List.{IsDistinct};
-    ghost use Rattle.osc_message.specs.{same_peer};
     ghost use Rattle.osc_model.specs.declared.algorithm.Algorithm.TheVariants.{EightByteTag};
-    ghost use Rattle.osc_model.specs.{coded_scope, coded_tree};
+    ghost use Rattle.osc_model.specs.{coded_scope, coded_tree, same_peer};
     ghost use Rattle.osc_run.specs.{IsTextOf};
     ghost use Rattle.osc_token.specs.{FitTheirTypes};
     ghost use Rattle.osc_world.specs.Nodes.{places};

@@ -7,15 +7,10 @@ ghost use Rattle.osc_model.specs.{IsPath};
 ghost use Rattle.osc_client.specs.{IsHost};
 
 use crate::calls::outcome::Outcome;
+use osc_model::limits::LONGEST_HOST;
 use osc_model::{Bytes, Moment, Path};
 use std::alloc::{AllocError, Global};
 use std::str;
-
-/// The most bytes of a host that Uri-Host can hold (RFC 7252 section 5.10).
-const LONGEST_HOST: usize = 255;
-
-/// The most bytes of a token's id, a secret, a salt and an id context (RFC 9203 section 3.2.1 leaves them open).
-pub(crate) const LONGEST_PART: usize = 64;
 
 /// Refuses a struct whose first member isn't its size.
 pub(crate) fn sized(size: usize, wanted: usize) -> Result<(), Outcome>

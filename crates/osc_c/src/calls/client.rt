@@ -188,25 +188,24 @@ impl ClientNode {
         }
     }
 
-    /// What is due by now is done, whatever memory there is.
+    /// What is due by now is done, whatever memory there is; where what should have gone out was lost, it says so.
     pub fn on_tick(&mut self, alloc: Global, now: u64) -> Outcome
         ensures { TickedBy self.old now result self.new }
     {
         match moment(now) {
-            Ok(now) => {
-                self.tick(alloc, now);
-                Outcome::Done
-            }
+            Ok(now) => Outcome::of_tick(self.tick(alloc, now)),
             Err(outcome) => outcome,
         }
     }
 
-    /// The same at a moment.
-    fn tick(&mut self, alloc: Global, now: Moment)
-        ensures { TickedAt self.old now self.new }
+    /// The same at a moment: whether what should have gone out was lost.
+    fn tick(&mut self, alloc: Global, now: Moment) -> bool
+        ensures { TickedAt self.old now result self.new }
     {
         let step = self.client.on_tick(alloc, now);
+        let lost = step.notes.lost();
         self.last = Last::of(step);
+        lost
     }
 
     /// The first moment at which a tick does anything.

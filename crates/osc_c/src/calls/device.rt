@@ -12,7 +12,7 @@ use crate::calls::last::Last;
 use crate::calls::outcome::Outcome;
 use crate::calls::plain::{PlainDraw, PlainPeer};
 use osc_ccm::Ciphers;
-use osc_device::Device;
+use osc_device::{Device, DeviceCalls};
 use osc_model::Moment;
 use std::alloc::Global;
 
@@ -84,26 +84,24 @@ impl DeviceNode {
         }
     }
 
-    /// What is due by now is done, whatever memory there is.
+    /// What is due by now is done, whatever memory there is; where what should have gone out was lost, it says so.
     pub fn on_tick<A: Ciphers>(&mut self, alloc: Global, now: u64, draw: &PlainDraw) -> Outcome
         ensures { TickedBy A.is_sealing self.old now (draw_of draw.now) result self.new }
     {
         match moment(now) {
-            Ok(now) => {
-                self.tick::<A>(alloc, now, draw);
-                Outcome::Done
-            }
+            Ok(now) => Outcome::of_tick(self.tick::<A>(alloc, now, draw)),
             Err(outcome) => outcome,
         }
     }
 
-    /// The same at a moment. Nothing of it goes to others, and what the device learns by it is kept to be told.
-    fn tick<A: Ciphers>(&mut self, alloc: Global, now: Moment, draw: &PlainDraw)
-        ensures { TickedAt A.is_sealing self.old now (draw_of draw.now) self.new }
+    /// The same at a moment: whether what should have gone out was lost. Nothing of it goes to others, and what the device learns by it is kept to be
+    /// told.
+    fn tick<A: Ciphers>(&mut self, alloc: Global, now: Moment, draw: &PlainDraw) -> bool
+        ensures { TickedAt A.is_sealing self.old now (draw_of draw.now) result self.new }
     {
         let round = self.device.on_tick::<A>(alloc, now, &draw.draw());
         self.last = Last::ticked(&round);
-        drop(round);
+        round.begun.notes.lost()
     }
 
     /// The first moment at which a tick does anything for the device itself.

@@ -6,11 +6,12 @@ ghost use Rattle.osc_c.specs.Granted.{IsAlgorithm, IsDesk, IsLawfulGrant, IsWay,
 ghost use Rattle.osc_c.specs.declared.calls.outcome.Outcome.TheVariants.{BadArgument};
 ghost use Rattle.osc_model.specs.{algorithm_number};
 
-use crate::calls::arguments::{LONGEST_PART, is_host, optional};
+use crate::calls::arguments::{is_host, optional};
 use crate::calls::outcome::Outcome;
 use crate::calls::plain::PlainPeer;
 use osc_authz::ClientDesk;
 use osc_client::{Origin, Route};
+use osc_model::limits::LONGEST_PART;
 use osc_model::{Algorithm, Bytes};
 use std::alloc::{AllocError, Global};
 

@@ -18,6 +18,7 @@ use crate::calls::plain::{PlainDeviceSettings, PlainDraw};
 use crate::calls::tokens::scope_bytes;
 use osc_ccm::Ciphers;
 use osc_device::{Device, NewError, OwnToken, ServerParts};
+use osc_model::limits::MOST_REVOCATION_SEGMENTS;
 use osc_model::{Bytes, Path};
 use osc_scope::{Scope, ScopeError};
 use osc_token::Audience;
@@ -30,9 +31,6 @@ const OWN_ID: &[u8] = b"device";
 
 /// How many bytes of a draw its secret has.
 const SECRET: usize = 16;
-
-/// The most segments of a revocation path: with those of a token's id it isn't too long.
-const MOST_SEGMENTS: usize = 4;
 
 /// The bytes of the settings' first version, which ended before `no_subtrees`.
 const FIRST_SIZE: usize = 112;
@@ -115,7 +113,7 @@ fn has_few_segments(text: &[u8]) -> bool
     ensures { IsTrue result ↔ (length (segments_of text.now) ≤ 4) }
 {
     match text.split_first() {
-        Some((_, rest)) => slashes(rest) < MOST_SEGMENTS,
+        Some((_, rest)) => slashes(rest) < MOST_REVOCATION_SEGMENTS,
         None => true,
     }
 }

@@ -1,5 +1,6 @@
 //! What calls answer.
 ghost use Rattle.std.specs.Prelude.{◌≡◌, pos};
+ghost use Rattle.osc_c.specs.Ends.{done_or_lost};
 ghost use Rattle.osc_c.specs.Outcome.{number_of};
 ghost use Rattle.osc_c.specs.declared.calls.outcome.Outcome.TheVariants.{NoMemory};
 
@@ -32,7 +33,7 @@ pub enum Outcome {
     Nothing,
     /// An argument is out of its range.
     BadArgument,
-    /// Memory was wanting on the way: what was begun is open, and a tick goes on with it.
+    /// There was no memory on the way: what was begun is open, and a tick goes on with it; or what was due at a tick didn't go out.
     Lost,
     /// What was begun ended by an unprotected answer.
     Unverified,
@@ -43,6 +44,13 @@ pub enum Outcome {
 }
 
 impl Outcome {
+    /// Of a tick at which all that was due went out, or was lost for lack of memory.
+    pub fn of_tick(lost: bool) -> Outcome
+        ensures { result ≡ done_or_lost lost }
+    {
+        if lost { Outcome::Lost } else { Outcome::Done }
+    }
+
     /// Its number.
     pub fn number(self) -> i32
         ensures { result ≡ pos (number_of self) }

@@ -1,7 +1,6 @@
 //! What a device does at its own server.
-ghost use Rattle.std.specs.Prelude.{◌≡◌, ◌≢◌, ◌<◌, IfErr, IfOk, None};
+ghost use Rattle.std.specs.Prelude.{◌≡◌, ◌≢◌, ◌<◌, IfErr, IfOk};
 ghost use Rattle.osc_c.specs.Arguments.{IsUnfit};
-ghost use Rattle.osc_device.specs.{own_request};
 ghost use Rattle.osc_c.specs.Given.{value_given};
 ghost use Rattle.osc_c.specs.Own.{Asks, AsksBy, ComesAs, ComesTo, FitsValue, IsBegun, IsSoWhereDone, Opens, OpensBy, RemovesBy, RulesBy, are_revoked, asked_for, is_refused_by, is_so as is_so_as, last_after, revoked_by};
 ghost use Rattle.osc_c.specs.Inner.Writes.{Reads};
@@ -16,8 +15,8 @@ use crate::calls::outcome::Outcome;
 use crate::calls::plain::{PlainDraws, PlainResource};
 use crate::calls::round::{Told, bare, settled, what_is_told};
 use osc_ccm::Ciphers;
-use osc_device::{OwnDraws, Round, Ruled, Ruling};
-use osc_model::{Bytes, ClientResult, Draw, ETags, Method, Moment, Path, Request};
+use osc_device::{DeviceCalls, OwnDraws, Round, Ruled, Ruling, own_request};
+use osc_model::{Bytes, ClientResult, Draw, Method, Moment, Request, Resource};
 use std::alloc::Global;
 
 /// What the device asks of its server, and when.
@@ -25,28 +24,6 @@ use std::alloc::Global;
 struct OwnRequest {
     now: Moment,
     request: Request,
-}
-
-/// A request of the device's own.
-fn own_request(
-    alloc: Global,
-    method: Method,
-    path: Path,
-    format: Option<u16>,
-    payload: Bytes,
-) -> Request
-    ensures request { result ≡ own_request method path format payload }
-    ensures code { 0 < result.code.0 }
-{
-    Request {
-        code: method.code(),
-        path: Some(path),
-        format,
-        accept: None,
-        if_match: ETags::new(alloc),
-        if_none_match: false,
-        payload,
-    }
 }
 
 /// The request for this value, which is judged before memory is taken.
@@ -65,7 +42,7 @@ fn read(
     let format = arguments::format(given.format)?;
     let path = arguments::path(alloc, given.path.bytes)?;
     let payload = Bytes::from_slice(alloc, given.payload.bytes)?;
-    let request = own_request(alloc, method, path, format, payload);
+    let request = own_request(alloc, method, path, Resource { format, payload });
     Ok(OwnRequest { now, request })
 }
 
@@ -145,8 +122,11 @@ impl DeviceNode {
         };
         match arguments::path(alloc, path) {
             Ok(path) => {
-                let nothing = Bytes::new(alloc);
-                let request = own_request(alloc, Method::Delete, path, None, nothing);
+                let nothing = Resource {
+                    format: None,
+                    payload: Bytes::new(alloc),
+                };
+                let request = own_request(alloc, Method::Delete, path, nothing);
                 self.ask_at::<A>(alloc, now, &request, draws)
             }
             Err(outcome) => bare(outcome),

@@ -243,20 +243,16 @@ impl PlainPeer {
     pub fn peer(&self) -> Peer
         ensures { result ≡ peer_of self.now }
     {
-        let address = self.address;
-        Peer {
-            address,
-            port: self.port,
-        }
+        Peer::v4(self.address, self.port)
     }
 
     /// This peer.
     pub fn of(peer: Peer) -> PlainPeer
         ensures { result ≡ plain_peer peer }
     {
-        let address = peer.address;
+        let [_, _, _, _, _, _, _, _, _, _, _, _, a, b, c, d] = peer.address;
         PlainPeer {
-            address,
+            address: [a, b, c, d],
             port: peer.port,
         }
     }

@@ -3,7 +3,7 @@ ghost use Rattle.std.specs.Prelude.{◌≡◌, [], IfOk, OnOk, OnErr};
 ghost use Rattle.osc_c.specs.Ends.{Ends};
 ghost use Rattle.osc_c.specs.Last.{HandsOut, nothing};
 ghost use Rattle.osc_c.specs.Plain.{draw_of, peer_of};
-ghost use Rattle.osc_c.specs.Proxy.{AddsTarget, AddsTargetTo, HeardAt, HeardBy, HearsInMemory, IsRunning, TellsDeadline, TickedAt, TickedBy, TicksInMemory, proxy_of, restarted_from};
+ghost use Rattle.osc_c.specs.Proxy.{AddsTarget, AddsTargetTo, HeardAt, HeardBy, HearsInMemory, IsRunning, TellsDeadline, TickedBy, TicksInMemory, TicksOr, proxy_of, restarted_from};
 ghost use Rattle.osc_proxy.specs.{Hears};
 ghost use Rattle.osc_proxy.specs.Ticks.{Ticks};
 ghost use Rattle.osc_c.specs.declared.calls.proxy.Forwarding.TheVariants.{Setting};
@@ -172,7 +172,7 @@ impl ProxyNode {
         }
     }
 
-    /// What is due by now is done.
+    /// What is due by now is done; where what should have gone out was lost, it says so.
     pub fn on_tick(&mut self, alloc: Global, now: u64, draw: &PlainDraw) -> Outcome
         ensures { TickedBy self.old now (draw_of draw.now) result self.new }
     {
@@ -184,12 +184,13 @@ impl ProxyNode {
 
     /// The same at a moment.
     fn tick(&mut self, alloc: Global, now: Moment, draw: &PlainDraw) -> Outcome
-        ensures { Ends self.old result self.new (TicksInMemory self.old.forwarding) (TickedAt self.old now (draw_of draw.now) self.new) }
+        ensures { TicksOr self.old now (draw_of draw.now) result self.new }
     {
         match self.forwarding.tick(alloc, now, draw) {
             Ok(step) => {
+                let lost = step.notes.lost();
                 self.last = Last::of(step);
-                Outcome::Done
+                Outcome::of_tick(lost)
             }
             Err(_) => Outcome::NoMemory,
         }

@@ -139,20 +139,12 @@ fn tell_served(from: &Served<'_>, served: &mut PlainServed, room: &mut [u8]) -> 
 }
 
 /// What a step served.
-fn tell_step(alloc: Global, step: &Step, served: &mut PlainServed, room: &mut [u8]) -> Outcome
+fn tell_step(step: &Step, served: &mut PlainServed, room: &mut [u8]) -> Outcome
     ensures { TellsServed (served_in step.now.notes) served.old room.old result served.new room.new }
 {
-    if step.notes.served().is_none() {
-        return Outcome::Nothing;
-    }
-    match Served::in_step(alloc, step) {
-        Ok(Some(from)) => {
-            let outcome = tell_served(&from, served, room);
-            drop(from);
-            outcome
-        }
-        Ok(None) => Outcome::Nothing,
-        Err(_) => Outcome::NoMemory,
+    match Served::in_step(step) {
+        Some(from) => tell_served(&from, served, room),
+        None => Outcome::Nothing,
     }
 }
 
@@ -205,11 +197,11 @@ impl DeviceNode {
     }
 
     /// The protected request that the last step served.
-    pub fn served(&self, alloc: Global, served: &mut PlainServed, room: &mut [u8]) -> Outcome
+    pub fn served(&self, served: &mut PlainServed, room: &mut [u8]) -> Outcome
         ensures { TellsServed (served_by_last self.now.last) served.old room.old result served.new room.new }
     {
         match self.last.step() {
-            Some(step) => tell_step(alloc, step, served, room),
+            Some(step) => tell_step(step, served, room),
             None => Outcome::Nothing,
         }
     }

@@ -5,12 +5,13 @@ ghost use Rattle.osc_c.specs.Inner.Reading.{IsUnread};
 ghost use Rattle.osc_c.specs.Tokens.{AreClaims, FitsClaims, HaveLengths, IsMinted, IsNoClaims, IsNoScopeText, IsScopeOf, IsUnminted, Mints, date_of};
 ghost use Rattle.osc_c.specs.declared.calls.outcome.Outcome.TheVariants.{BadArgument};
 
-use crate::calls::arguments::{LONGEST_PART, flag, sized, text};
+use crate::calls::arguments::{flag, sized, text};
 use crate::calls::filling::fill;
 use crate::calls::granted;
 use crate::calls::outcome::Outcome;
 use crate::calls::plain::{PlainClaims, PlainIv, PlainKey};
 use osc_ccm::Aead;
+use osc_model::limits::{LONGEST_ID, LONGEST_PART};
 use osc_model::{Algorithm, Bytes};
 use osc_scope::{ScopeError, text_to_cbor};
 use osc_token::{Audience, Claims, InputMaterial, MintError};
@@ -61,7 +62,7 @@ fn lengths(id: &[u8], secret: &[u8], context: &[u8]) -> Result<(), Outcome>
     ensures ok { OnOk result (HaveLengths id.now secret.now context.now) }
     ensures err { IfErr result (λ outcome. (outcome ≡ BadArgument) × ¬ (HaveLengths id.now secret.now context.now)) }
 {
-    if id.len() > LONGEST_PART
+    if id.len() > LONGEST_ID
         || secret.is_empty()
         || secret.len() > LONGEST_PART
         || context.len() > LONGEST_PART

@@ -1,5 +1,6 @@
 -- A capture of the network: the classic file of libpcap (draft-ietf-opsawg-pcap), with IPv4 packets (RFC 791) of UDP datagrams (RFC 768).
-use Rattle.std.specs.Prelude.{ℕ, ◌+◌, ◌-◌, ◌*◌, ◌/◌, ◌%◌, Bool, true, false, not, List, [], ◌∷◌, ◌++◌, flat_map, length, take}
+use Rattle.std.specs.Prelude.{ℕ, ◌+◌, ◌-◌, ◌*◌, ◌/◌, ◌%◌, Bool, true, false, not, List, [], ◌∷◌, ◌++◌, drop, flat_map, length, take}
+use Rattle.osc_model.specs.declared.node.Peer.{Peer}
 use Rattle.osc_diagram.specs.declared.chart.chart.Arrow.{Arrow}
 use Rattle.osc_diagram.specs.declared.chart.chart.Mark.{Mark}
 use Rattle.osc_diagram.specs.declared.chart.chart.Mark.TheVariants as mark
@@ -37,10 +38,14 @@ udp_length arrow = 8 + length (carried arrow)
 abbrev pub ip_length : Arrow → ℕ
 ip_length arrow = 20 + udp_length arrow
 
+-- the four bytes of an address of IPv4
+unfoldable pub v4_of : Peer → List ℕ
+v4_of peer = drop 12 peer.address
+
 -- the header of IPv4 with this checksum: no option, no fragment, 64 hops, UDP
 unfoldable pub ip_header : Arrow → ℕ → List ℕ
 ip_header arrow checksum =
-    69 ∷ 0 ∷ [] ++ two (ip_length arrow) ++ 0 ∷ 0 ∷ 0 ∷ 0 ∷ 64 ∷ 17 ∷ [] ++ two checksum ++ arrow.from.address ++ arrow.to.address
+    69 ∷ 0 ∷ [] ++ two (ip_length arrow) ++ 0 ∷ 0 ∷ 0 ∷ 0 ∷ 64 ∷ 17 ∷ [] ++ two checksum ++ v4_of arrow.from ++ v4_of arrow.to
 
 -- the header of UDP with this checksum
 unfoldable pub udp_header : Arrow → ℕ → List ℕ
@@ -48,7 +53,7 @@ udp_header arrow checksum = two arrow.from.port ++ two arrow.to.port ++ two (udp
 
 -- what the checksum of UDP is over: a header of addresses, protocol and length, and then the datagram with a checksum of 0
 unfoldable pub pseudo_header : Arrow → List ℕ
-pseudo_header arrow = arrow.from.address ++ arrow.to.address ++ 0 ∷ 17 ∷ [] ++ two (udp_length arrow)
+pseudo_header arrow = v4_of arrow.from ++ v4_of arrow.to ++ 0 ∷ 17 ∷ [] ++ two (udp_length arrow)
 
 unfoldable pub ip_checksum : Arrow → ℕ
 ip_checksum arrow = complement (ip_header arrow 0) % 65535

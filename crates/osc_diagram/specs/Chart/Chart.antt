@@ -1,7 +1,7 @@
 -- Who has a column in a chart.
-use Rattle.std.specs.Prelude.{ℕ, ◌&&◌, ◌||◌, Bool, false, nat_eq, List, length, unwrap_or, position}
+use Rattle.std.specs.Prelude.{ℕ, ◌||◌, Bool, false, List, length, unwrap_or, position}
 use Rattle.std.specs.List.{list_any}
-use Rattle.std.specs.Str.{bytes_eq}
+use Rattle.osc_model.specs.{same_peer}
 use Rattle.osc_model.specs.declared.node.Peer.{Peer}
 use Rattle.osc_diagram.specs.declared.chart.chart.Column.{Column}
 use Rattle.osc_diagram.specs.declared.chart.chart.Mark.{Mark}
@@ -9,7 +9,7 @@ use Rattle.osc_diagram.specs.declared.chart.chart.Mark.TheVariants as mark
 
 -- where a column is
 abbrev pub stands_at : Peer → Column → Bool
-stands_at peer column = bytes_eq column.at.address peer.address && nat_eq column.at.port peer.port
+stands_at peer column = same_peer column.at peer
 
 -- the column of a peer, from 0; one after the last, where nobody is there
 abbrev pub column_of : List Column → Peer → ℕ

@@ -4,6 +4,7 @@ ghost use Rattle.osc_diagram.specs.Chart.Capture as spec;
 
 use crate::chart::bytes::{add_four, add_two};
 use crate::chart::chart::{Arrow, Mark};
+use osc_model::Peer;
 use std::alloc::{AllocError, Global};
 
 /// The datagrams of a chart as a file of libpcap: a header, and then a record for each arrow, in order, with its moment, as UDP over
@@ -92,6 +93,15 @@ fn add_record_header(file: &mut Vec<u8>, arrow: &Arrow) -> Result<(), AllocError
     add_four(file, length)
 }
 
+// The four bytes of an address of IPv4.
+#[tactic(auto, unfolding(crate::specs::Chart::Capture::v4_of))]
+fn v4_of(peer: Peer) -> [u8; 4]
+    ensures { result ≡ spec.v4_of peer }
+{
+    let [_, _, _, _, _, _, _, _, _, _, _, _, a, b, c, d] = peer.address;
+    [a, b, c, d]
+}
+
 #[tactic(auto, unfolding(crate::specs::Chart::Capture::ip_header))]
 fn add_ip_header(file: &mut Vec<u8>, arrow: &Arrow, checksum: u64) -> Result<(), AllocError>
     ensures { OnOk result (file.new.items ≡ file.old.items ++ spec.ip_header arrow.now checksum) }
@@ -100,8 +110,8 @@ fn add_ip_header(file: &mut Vec<u8>, arrow: &Arrow, checksum: u64) -> Result<(),
     add_two(file, 20 + udp_length(arrow))?;
     file.extend_from_slice(&[0, 0, 0, 0, 64, 17])?;
     add_two(file, checksum)?;
-    file.extend_from_slice(&arrow.from.address)?;
-    file.extend_from_slice(&arrow.to.address)
+    file.extend_from_slice(&v4_of(arrow.from))?;
+    file.extend_from_slice(&v4_of(arrow.to))
 }
 
 #[tactic(auto, unfolding(crate::specs::Chart::Capture::udp_header))]
@@ -152,8 +162,8 @@ fn udp_summed(alloc: Global, arrow: &Arrow) -> Result<Vec<u8>, AllocError>
 fn pseudo_header(alloc: Global, arrow: &Arrow) -> Result<Vec<u8>, AllocError>
     ensures { IfOk result (λ header. header.items ≡ spec.pseudo_header arrow.now) }
 {
-    let mut header = Vec::from_slice(alloc, &arrow.from.address)?;
-    header.extend_from_slice(&arrow.to.address)?;
+    let mut header = Vec::from_slice(alloc, &v4_of(arrow.from))?;
+    header.extend_from_slice(&v4_of(arrow.to))?;
     header.extend_from_slice(&[0, 17])?;
     add_two(&mut header, udp_length(arrow))?;
     Ok(header)

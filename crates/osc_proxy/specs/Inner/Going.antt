@@ -7,7 +7,8 @@ use Rattle.osc_model.specs.declared.node.Peer.{Peer}
 use Rattle.osc_model.specs.declared.step.Datagram.{Datagram}
 use Rattle.osc_coap.specs.{is_request_code, HasSpelling, spelling}
 use Rattle.osc_coap.specs.Message.{Message}
-use Rattle.osc_message.specs.{same_peer, EndpointState, FitsDatagram, IsSendableReply, acknowledgement, sent_to}
+use Rattle.osc_model.specs.{same_peer}
+use Rattle.osc_message.specs.{EndpointState, FitsDatagram, IsSendableReply, acknowledgement, sent_to}
 use Rattle.osc_proxy.specs.Exchanges.{get}
 use Rattle.osc_proxy.specs.Own.{goes_now, has_room, sends_own, with_own}
 use Rattle.osc_proxy.specs.State.{State}

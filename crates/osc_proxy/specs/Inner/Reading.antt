@@ -1,7 +1,8 @@
 -- A Proxy-Uri read from left to right: the way from the code to its form.
 use Rattle.std.specs.Prelude.{ℕ, Bool, true, false, ◌||◌, ◌==◌, nat_le, nat_lt, bytes_eq, if◌then◌else◌, List, [], ◌∷◌, length, take, drop, Option, Some, None, codes}
 use Rattle.std.specs.List.{prefix_len}
-use Rattle.osc_proxy.specs.ProxyUri.{HostAndPort, decimal, default_port, is_digit, is_host_byte}
+use Rattle.osc_model.specs.{default_port}
+use Rattle.osc_proxy.specs.ProxyUri.{HostAndPort, decimal, is_digit, is_host_byte}
 
 -- nothing is left but a '/'
 abbrev pub is_end : List ℕ → Bool

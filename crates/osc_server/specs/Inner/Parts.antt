@@ -5,7 +5,7 @@ use Rattle.std.specs.List.{All}
 use Rattle.std.specs.Option.{ForSome}
 use Rattle.osc_coap.specs.{Spells, spelling}
 use Rattle.osc_coap.specs.Message.{Message}
-use Rattle.osc_dedup.specs.{Entry}
+use Rattle.osc_dedup.specs.{Entry as Noted}
 use Rattle.osc_model.specs.{apply_read, method_number, longest_payload, payload_length}
 use Rattle.osc_model.specs.Arrival.{Arrival}
 use Rattle.osc_model.specs.Tree.{Tree}
@@ -16,8 +16,9 @@ use Rattle.osc_model.specs.declared.node.Peer.{Peer}
 use Rattle.osc_model.specs.declared.reply.Reply.{Reply}
 use Rattle.osc_model.specs.declared.request.Request.{Request}
 use Rattle.osc_model.specs.declared.step.Datagram.{Datagram}
+use Rattle.osc_model.specs.declared.step.Entry.{Entry}
 use Rattle.osc_context.specs.{algorithm_of}
-use Rattle.osc_authz.specs.{DeskState, IsSameBut}
+use Rattle.osc_authz.specs.{DeskState, IsSameBut, holder_at}
 use Rattle.osc_authz.specs.SecurityContext.{SecurityContext}
 use Rattle.osc_message.specs.{EndpointState, settled, AreSendable, FitsDatagram, datagram, replied}
 use Rattle.osc_message.specs.declared.handling.Handling.TheVariants.{Answered}
@@ -84,11 +85,17 @@ pub record IsReady (is_sealing : Sealings) (tag : Tags) (server : Met) (came : A
   pub opened : IsOpened is_sealing server came request held taken.note.plaintext
   pub noted : taken.note ≡ opening_note held.name request.number taken.note.plaintext
   pub room : IsTakenFor tag server.tree taken
+  pub holder : taken.holder ≡ holder_at request.kid server.table
 
 -- the path whose resource a request may change
 abbrev pub may_change : Result Request Code → Option (List ℕ)
 may_change (Err code) = None
 may_change (Ok request) = if request.code.0 == method_number Get then None else request.path
+
+-- the path whose resource the entry's request may change, where one was served
+abbrev pub may_change_by : Option Entry → Option (List ℕ)
+may_change_by None = None
+may_change_by (Some entry) = may_change entry.request
 
 -- two trees differ at this path at most, where there is one
 abbrev pub DifferAt : Option (List ℕ) → Tree → Tree → Type 0
@@ -100,7 +107,7 @@ abbrev pub IsMessage : Bytes → Type 0
 IsMessage bytes = (message : Message) × Spells bytes message
 
 -- what answered each message that is noted was a message
-pub record KeepsMessages (seen : List Entry) : Type 0 where
+pub record KeepsMessages (seen : List Noted) : Type 0 where
   pub noted : All (λ entry. ForSome entry.noted.reply IsMessage) seen
 
 -- nothing that the server sends waits for an acknowledgement
@@ -144,9 +151,10 @@ pub record Standing : Type 0 where
   pub desk : DeskState
   pub endpoint : EndpointState
 
--- a request that was opened: under this context, with this number, to this text
+-- a request that was opened: under this context, which the token of this id made, with this number, to this text
 pub record Opened : Type 0 where
   pub held : SecurityContext
+  pub holder : Option (List ℕ)
   pub number : ℕ
   pub text : List ℕ
 
@@ -158,11 +166,11 @@ pub record IsReplied (is_sealing : Sealings) (old : Standing) (came : Arrival Me
   pub answer : Message
   pub protected : IsProtectedResponse is_sealing opened.held.name opened.number None (reply_to old.endpoint came reply) answer
   pub sends : IsSentAs came.from answer served.out served.reply
-  pub noted : served.notes ≡ notes_of_request came.at opened.held opened.number opened.text reply
+  pub noted : served.notes ≡ notes_of_request came.at opened.held opened.holder opened.number opened.text reply
 
 -- the same of a request that came protected
 pub record IsServedAs (is_sealing : Sealings) (old : Standing) (came : Arrival Message) (request : SealedRequest) (served : Served) (new : Tree) : Type 0 where
   pub held : SecurityContext
   pub text : List ℕ
   pub opened : IsOpened is_sealing (record { tree = old.tree; table = old.desk.table }) came request held text
-  pub replied : IsReplied is_sealing old came (record { held = held; number = request.number; text = text }) served new
+  pub replied : IsReplied is_sealing old came (record { held = held; holder = holder_at request.kid old.desk.table; number = request.number; text = text }) served new

@@ -6,21 +6,25 @@ use Rattle.osc_model.specs.Tree.{Tree}
 use Rattle.osc_model.specs.declared.code.Code.{Code}
 use Rattle.osc_model.specs.declared.request.Request.{Request}
 use Rattle.osc_model.specs.declared.step.Entry.{Entry}
-use Rattle.osc_options.specs.{read_request}
 use Rattle.osc_store.specs.{changed}
 
 -- the codes that tell of a change: 2.01 Created, 2.02 Deleted and 2.04 Changed (RFC 7252 section 5.9.1)
 abbrev pub tells_change : Code → Bool
 tells_change c = list_any (λ n. n == c.0) (65 ∷ 66 ∷ 68 ∷ [])
 
--- the path that a plaintext asks for
+-- the path that is asked for
 abbrev pub path_asked : Result Request Code → Option (List ℕ)
 path_asked (Ok request) = request.path
 path_asked (Err why) = None
 
 -- the path that an entry changed, if it changed any
 abbrev pub path_changed : Entry → Option (List ℕ)
-path_changed entry = if tells_change entry.reply.code then path_asked (read_request entry.plaintext) else None
+path_changed entry = if tells_change entry.reply.code then path_asked entry.request else None
+
+-- the same of the request that a step served, if it served one
+abbrev pub path_changed_by : Option Entry → Option (List ℕ)
+path_changed_by None = None
+path_changed_by (Some entry) = path_changed entry
 
 -- two trees differ at this path alone, or not at all
 abbrev pub DifferAt : Option (List ℕ) → Tree → Tree → Type 0
@@ -29,5 +33,4 @@ DifferAt (Some path) before after = after ≡ changed before path (map.get after
 
 -- the tree before a step, and after it: they differ where the request that it served says, if it served one
 abbrev pub IsChangeOf : Option Entry → Tree → Tree → Type 0
-IsChangeOf None before after = after ≡ before
-IsChangeOf (Some entry) before after = DifferAt (path_changed entry) before after
+IsChangeOf served before after = DifferAt (path_changed_by served) before after

@@ -1,5 +1,5 @@
 //! What keeps the steps of a node.
-ghost use Rattle.std.specs.Prelude.{◌≡◌, OnOk, ⊤};
+ghost use Rattle.std.specs.Prelude.{◌≡◌, OnErr, OnOk, ⊤};
 ghost use Rattle.osc_model.specs.declared.step.Step.{Step as AnyStep};
 ghost use Rattle.osc_run.specs.{Cause};
 ghost use Rattle.sqlite_trees.specs.View.{IsClean};
@@ -13,7 +13,6 @@ use osc_run::Node;
 use osc_server::Server;
 use osc_store::{Forgetful, KeepError, Keeper};
 use sqlite_trees::store::Store;
-use std::alloc::Global;
 
 /// What keeps the steps of a node, each before anything of it is sent: a store, or nothing.
 pub trait KeepsSteps<A: Ciphers, N: Node<A>> {
@@ -23,12 +22,16 @@ pub trait KeepsSteps<A: Ciphers, N: Node<A>> {
     /// Whatever a crash leaves from now on, the next start finds those of one of these two.
     ghost may_hold: { Self → N → N → Type 0 };
 
-    /// Keeps what the node's last step changed, of which these are the notes.
-    fn keep_step(&mut self, alloc: Global, node: &N, notes: &StepNotes) -> Result<(), KeepError>
+    /// Keeping a step may fail from here; of what never fails to keep one, never.
+    ghost may_fail: { Self → Type 0 };
+
+    /// Keeps what the node's last step changed, of which these are the notes. It is handed no memory: what keeps the steps alone may fail.
+    fn keep_step(&mut self, node: &N, notes: &StepNotes) -> Result<(), KeepError>
         ensures kept { (old : N) (cause : Cause) (step : AnyStep) → N.is_step old cause step node.now → step.notes ≡ notes.now
             → keeps self.old old → OnOk result (keeps self.new node.now) }
         ensures crash { (old : N) (cause : Cause) (step : AnyStep) → N.is_step old cause step node.now → step.notes ≡ notes.now
-            → keeps self.old old → may_hold self.new old node.now };
+            → keeps self.old old → may_hold self.new old node.now }
+        ensures fails { OnErr result (may_fail self.old) };
 }
 
 impl<A: Ciphers, N: Node<A>> KeepsSteps<A, N> for Forgetful {
@@ -36,12 +39,9 @@ impl<A: Ciphers, N: Node<A>> KeepsSteps<A, N> for Forgetful {
 
     ghost may_hold = { λ _ _ _. ⊤ };
 
-    fn keep_step(
-        &mut self,
-        _alloc: Global,
-        _node: &N,
-        _notes: &StepNotes,
-    ) -> Result<(), KeepError> {
+    ghost may_fail = { λ _. ⊥ };
+
+    fn keep_step(&mut self, _node: &N, _notes: &StepNotes) -> Result<(), KeepError> {
         Ok(())
     }
 }
@@ -51,13 +51,10 @@ impl<A: Ciphers, S: Store> KeepsSteps<A, Server> for Keeper<S> {
 
     ghost may_hold = { λ it before after. IsClean (S.Store.view it.store) → MayHold S.Store.view S.Store.recovers it.store before.tree after.tree };
 
-    fn keep_step(
-        &mut self,
-        alloc: Global,
-        node: &Server,
-        notes: &StepNotes,
-    ) -> Result<(), KeepError> {
+    ghost may_fail = { λ _. ⊤ };
+
+    fn keep_step(&mut self, node: &Server, notes: &StepNotes) -> Result<(), KeepError> {
         one_path_changes();
-        keep_change(alloc, self, node.tree(), notes.served())
+        keep_change(self, node.tree(), notes.served())
     }
 }

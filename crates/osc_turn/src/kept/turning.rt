@@ -1,4 +1,4 @@
-//! One turn of a node whose steps are kept.
+//! One turn of a node, and of what keeps its steps.
 ghost use Rattle.std.specs.Prelude.{◌≡◌, Option, List, Ok, Err, IfErr, IfOk, OnErr, is_some};
 ghost use Rattle.osc_model.specs.declared.step.Datagram.{Datagram as AnyDatagram};
 ghost use Rattle.osc_model.specs.declared.step.Step.{Step as AnyStep};
@@ -13,7 +13,7 @@ use osc_model::{Draw, Moment};
 use osc_run::Node;
 use std::alloc::Global;
 
-/// A node, and what keeps its steps.
+/// A node, and what keeps its steps: nothing does where that is `osc_store::Forgetful`.
 #[derive(Drop)]
 pub struct KeptNode<N, K> {
     /// The node.
@@ -29,7 +29,7 @@ pub struct KeptNode<N, K> {
 /// # Errors
 ///
 /// `NoStep` as of a paced turn. `NotKept` where the step's change isn't kept, with the cause: nothing of the step was sent, and the node has
-/// moved on, so it may take no other turn.
+/// moved on, so it may take no other turn. It never comes where what keeps the steps never fails, as where nothing is kept.
 pub fn kept_turn<A: Ciphers, P: Port, N: Node<A>, K: KeepsSteps<A, N>>(
     alloc: Global,
     port: &mut P,
@@ -52,6 +52,7 @@ pub fn kept_turn<A: Ciphers, P: Port, N: Node<A>, K: KeepsSteps<A, N>>(
     ensures not_kept { (error : _) → result ≡ Err (Unsent.NotKept error) → (came : Option Received) × (step : AnyStep)
         × CameIn (must_tick (N.acts kept.old.node now) pace.old.busy_since now) came (P.received port.old) (P.received port.new)
         × N.is_step kept.old.node (cause_of now draw.now came) step kept.new.node }
+    ensures fails { (error : _) → result ≡ Err (Unsent.NotKept error) → K.may_fail kept.old.keeper }
     ensures not_sent { OnErr result (P.sent port.new ≡ P.sent port.old) }
     ensures stands { K.keeps kept.old.keeper kept.old.node → (sent : List AnyDatagram) × (P.sent port.new ≡ grown (P.sent port.old) sent)
         × Stands K.keeps K.may_hold kept.old.node kept.new.node kept.new.keeper sent }
@@ -60,10 +61,7 @@ pub fn kept_turn<A: Ciphers, P: Port, N: Node<A>, K: KeepsSteps<A, N>>(
         Ok(stepped) => stepped,
         Err(error) => return Err(Unsent::NoStep(error)),
     };
-    match kept
-        .keeper
-        .keep_step(alloc, &kept.node, &stepped.step.notes)
-    {
+    match kept.keeper.keep_step(&kept.node, &stepped.step.notes) {
         Ok(()) => Ok(send_step(port, stepped)),
         Err(error) => Err(Unsent::NotKept(error)),
     }

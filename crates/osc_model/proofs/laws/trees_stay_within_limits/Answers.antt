@@ -1,4 +1,4 @@
-use Rattle.osc_model.proofs.Limits.{limits_empty, limits_insert, limits_remove}
+use Rattle.osc_model.proofs.WithinLimits.{limits_empty, limits_insert, limits_remove}
 use Rattle.osc_model.proofs.laws.trees_stay_within_limits.Goals as goal
 
 pub returns : goal.returns

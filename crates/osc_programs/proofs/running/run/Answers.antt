@@ -1,4 +1,5 @@
-use Rattle.osc_programs.proofs.Taken.{no_end, fault_turns}
+use Rattle.osc_programs.proofs.Stored.{fault_kept, fault_keeps, held_alone}
+use Rattle.osc_programs.proofs.Taken.{no_end}
 use Rattle.osc_programs.proofs.running.run.Goals as goal
 
 pub returns-in-Ok-clause-done : goal.returns-in-Ok-clause-done
@@ -9,5 +10,7 @@ returns-in-Ok-clause-done g c = λ done.
 pub returns-in-Err : goal.returns-in-Err
 returns-in-Err g c = record {
   done = λ done. absurd (no_end c.in-Err.ended c.in-Err.ensures.fault done);
-  ends = fault_turns c.in-Err.ended c.in-Err.ensures.fault;
+  kept = λ keeps. (_, held_alone g.K.KeepsSteps.keeps g.K.KeepsSteps.may_hold c.in-Err.ended _ _ c.in-Err.ensures.fault keeps);
+  fails = λ error is. absurd (fault_keeps c.in-Err.ended error c.in-Err.ensures.fault is);
+  ends = fault_kept c.in-Err.ended c.in-Err.ensures.fault;
 }

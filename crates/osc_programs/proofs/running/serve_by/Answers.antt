@@ -28,3 +28,6 @@ returns-in-Ok-open_store-clause-done g c = λ done.
       told.4,
       told.5,
     )
+
+pub returns-in-Ok-open_store-clause-ends : goal.returns-in-Ok-open_store-clause-ends
+returns-in-Ok-open_store-clause-ends g c = kept_serving c.serve_revoking-ended.result c.serve_revoking-ended.ensures.ends

@@ -1,5 +1,5 @@
 use Rattle.osc_programs.proofs.Placed.{of_same, revoked_in}
-use Rattle.osc_programs.proofs.Stored.{kept_serving, unkept_kept, unkept_no_end}
+use Rattle.osc_programs.proofs.Stored.{unkept_kept, unkept_no_end}
 use Rattle.osc_programs.proofs.running.serve_revoking.Goals as goal
 
 pub returns-in-Ok : goal.returns-in-Ok
@@ -23,5 +23,5 @@ returns-in-Ok g c =
 pub returns-in-Err : goal.returns-in-Err
 returns-in-Err g c = record {
   done = λ done. absurd (unkept_no_end c.in-Err.ended c.in-Err.ensures.ends done);
-  ends = kept_serving c.in-Err.ended (unkept_kept c.in-Err.ended c.in-Err.ensures.ends);
+  ends = unkept_kept c.in-Err.ended c.in-Err.ensures.ends;
 }

@@ -1,7 +1,8 @@
-use Rattle.std.proofs.Common.{◌∙◌, ◌∷◌, [], ap, refl}
+use Rattle.std.proofs.Common.{◌∙◌, ◌∷◌, [], ap, refl, Err}
+use Rattle.osc_turn.specs.declared.kept.error.Unsent.{Unsent}
 use Rattle.osc_turn.specs.{busy_after, must_tick}
 use Rattle.osc_log.specs.Log as log
-use Rattle.osc_programs.specs.Turning as spec
+use Rattle.osc_programs.specs.Turning as turning
 use Rattle.osc_programs.proofs.Taken.{came_in, grown_none, not_due, tells_received}
 use Rattle.osc_programs.proofs.turns.one_turn.Goals as goal
 
@@ -13,13 +14,13 @@ returns-in-Ok-clause-ok g c =
     let told = tells_received _ _ _ _ _ _ _ done.2 c.tell_turn.ensures in (
       _,
       c.in-Ok.turned.step.out,
-      spec.taken c.in-Ok.turned.step _
+      turning.taken c.in-Ok.turned.step _
           (record {
             now = now;
             draw = c.in_ok-now.draw;
             came = done.0;
             gives = c.in_ok-now.ensures.gives;
-            ticks = came_in (must_tick (g.N.Node.acts c.args.node.now now) busy now) done.0 _ _ done.1;
+            ticks = came_in (must_tick (g.N.Node.acts c.args.kept.now.node now) busy now) done.0 _ _ done.1;
             steps = done.3;
             pace = c.in-Ok.ensures.pace ∙ ap (busy_after busy now) done.2;
           }),
@@ -27,20 +28,51 @@ returns-in-Ok-clause-ok g c =
       told,
     )
 
-pub returns-in-Err-Memory-clause-ok : goal.returns-in-Err-Memory-clause-ok
-returns-in-Err-Memory-clause-ok g c =
+pub returns-in-Err-NoStep-Memory-clause-ok : goal.returns-in-Err-NoStep-Memory-clause-ok
+returns-in-Err-NoStep-Memory-clause-ok g c =
+    let turn = c.in-Err-NoStep-Memory in
+    let none = turn.ensures.no_step turn.field-0-0 (ap (λ (error : Unsent). Err error) turn.field-0-is) in
     let now = c.in_ok-now.now in (
       log.lost now ∷ [],
       [],
-      spec.lost _
+      turning.lost _
           (record {
             now = now;
             draw = c.in_ok-now.draw;
             gives = c.in_ok-now.ensures.gives;
-            awake = not_due (must_tick (g.N.Node.acts c.args.node.now now) c.args.pace.now.busy_since now) _ _ _ _ _ c.in-Err-Memory.ensures.refused;
-            node = c.in-Err-Memory.ensures.err;
+            awake = not_due (must_tick (g.N.Node.acts c.args.kept.now.node now) c.args.pace.now.busy_since now) _ _ _ _ _ none.2;
+            node = rw none.0 refl;
             rested = refl;
           }),
-      c.in-Err-Memory.ensures.not_sent ∙ grown_none _,
+      turn.ensures.not_sent ∙ grown_none _,
       c.lost.ensures,
     )
+
+pub returns-in-Err-NoStep-Memory-clause-kept : goal.returns-in-Err-NoStep-Memory-clause-kept
+returns-in-Err-NoStep-Memory-clause-kept g c =
+    let turn = c.in-Err-NoStep-Memory in
+    let none = turn.ensures.no_step turn.field-0-0 (ap (λ (error : Unsent). Err error) turn.field-0-is) in
+    rw none.0 (λ keeps. keeps)
+
+pub returns-in-Err-NoStep-Port-clause-left : goal.returns-in-Err-NoStep-Port-clause-left
+returns-in-Err-NoStep-Port-clause-left g c =
+    let turn = c.in-Err-NoStep-Port in
+    let none = turn.ensures.no_step turn.field-0-0 (ap (λ (error : Unsent). Err error) turn.field-0-is) in
+    rw none.0 refl
+
+pub returns-in-Err-NoStep-Port-clause-held : goal.returns-in-Err-NoStep-Port-clause-held
+returns-in-Err-NoStep-Port-clause-held g c =
+    let turn = c.in-Err-NoStep-Port in
+    let none = turn.ensures.no_step turn.field-0-0 (ap (λ (error : Unsent). Err error) turn.field-0-is) in
+    rw none.0 (λ keeps. keeps)
+
+pub returns-in-Err-NotKept-clause-left : goal.returns-in-Err-NotKept-clause-left
+returns-in-Err-NotKept-clause-left g c =
+    let turn = c.in-Err-NotKept in
+    let made = turn.ensures.not_kept turn.error (ap (λ (error : Unsent). Err error) turn.field-0-is) in
+    (_, made.1, made.3)
+
+pub returns-in-Err-NotKept-clause-fails : goal.returns-in-Err-NotKept-clause-fails
+returns-in-Err-NotKept-clause-fails g c = λ error is.
+    let turn = c.in-Err-NotKept in
+    turn.ensures.fails turn.error (ap (λ (unsent : Unsent). Err unsent) turn.field-0-is)

@@ -1,18 +1,19 @@
-use Rattle.std.proofs.Common.{◌≡◌, ◌++◌, inl, inr, List, refl, sym, ap, ◌∙◌, subst}
+use Rattle.std.proofs.Common.{◌≡◌, ◌++◌, Bool, true, false, ◌||◌, List, refl, sym, ap, ◌∙◌, subst}
 use Rattle.std.proofs.lemmas.List.Elements.{All-nil}
-use Rattle.osc_model.specs.{sends}
+use Rattle.osc_model.specs.{quiet_or_lost}
 use Rattle.osc_model.specs.declared.step.Datagram.{Datagram}
 use Rattle.osc_model.specs.declared.step.Step.{Step}
 use Rattle.osc_message.specs.{EndpointState, after_tick, AreSendable, FitsDatagram, GoesOut, tick_gives_up, tick_sends}
 use Rattle.osc_message.specs.declared.name.MessageName.{MessageName}
 use Rattle.osc_proxy.specs.{without_over, AllEnd, without_over_in}
 use Rattle.osc_proxy.specs.State.{State}
-use Rattle.osc_proxy.proofs.Fits.{sendable_both, sendable_step}
+use Rattle.osc_proxy.proofs.Fits.{sendable_both}
+use Rattle.osc_proxy.proofs.ticking.tick.Goals.{then-lost_repeats, else-lost_repeats}
 use Rattle.osc_proxy.proofs.ticking.tick.Goals as goal
 
-sendable_told : (answers told : List Datagram) → GoesOut answers told → AreSendable answers → AreSendable told
-sendable_told answers told (inl same) fits = subst AreSendable (sym same) fits
-sendable_told answers told (inr none) fits = rw none (All-nil (λ sent. FitsDatagram sent.bytes))
+sendable_told : (lost : Bool) (answers told : List Datagram) → GoesOut lost answers told → AreSendable answers → AreSendable told
+sendable_told false answers told same fits = subst AreSendable (sym same) fits
+sendable_told true answers told none fits = rw none (All-nil (λ sent. FitsDatagram sent.bytes))
 
 pub returns : goal.returns
 returns c =
@@ -32,17 +33,24 @@ returns c =
     let given_up : c.as_slice.result.now ≡ tick_gives_up now left =
     c.as_slice.ensures.value ∙ did.given_up ∙ ap (λ (e : EndpointState). tick_gives_up now e.sending) c.withdraw_over.ensures in
     let ticked : c.on_tick-out.new.self ≡ after_tick now (without_over_in now old) = did.ticked ∙ ap (after_tick now) c.withdraw_over.ensures in
-    let told : c.sending.result ≡ sends (repeats ++ told_answers) = c.sending.ensures ∙ ap sends done.2 in
+    let told : c.of_tick.result.out ≡ repeats ++ told_answers = ap (λ (s : Step). s.out) c.of_tick.ensures ∙ done.2 in
+    let joined : c.if-lost_repeats.of_tick ≡ (c.on_tick-out.result.lost || c.answer_all-out.result.lost) =
+    elim c.if-lost_repeats.branch [
+      | then-lost_repeats w ↦ rw w.if-lost_repeats.true (w.of_tick-is ∙ w.if-lost_repeats.true)
+      | else-lost_repeats w ↦ rw w.if-lost_repeats.false w.of_tick-is
+    ] in
     record {
+      lost_repeats = c.on_tick-out.result.lost;
       repeats = repeats;
-      repeated = subst (λ (e : EndpointState). GoesOut (tick_sends now e.sending) repeats) c.withdraw_over.ensures did.sent;
+      repeated = subst (λ (e : EndpointState). GoesOut c.on_tick-out.result.lost (tick_sends now e.sending) repeats) c.withdraw_over.ensures did.sent;
       answers = answers;
       ends = subst (λ (e : EndpointState). AllEnd now draw (tick_gives_up now left) (record { targets = targets; exchanges = table; endpoint = e }) answers new) ticked
           (subst (λ (names : List MessageName). AllEnd now draw names (record { targets = targets; exchanges = table; endpoint = c.on_tick-out.new.self }) answers new) given_up (done.4 targets));
+      lost_answers = c.answer_all-out.result.lost;
       told_answers = told_answers;
       answered = done.3;
       told = told;
       targets = refl;
-      silent = ap (λ (s : Step). s.notes) told;
-      fits = sendable_step c.sending.result (repeats ++ told_answers) told (sendable_both repeats told_answers did.fits (sendable_told answers told_answers done.3 done.5));
+      noted = ap (λ (s : Step). s.notes) c.of_tick.ensures ∙ ap quiet_or_lost joined;
+      fits = subst AreSendable (sym told) (sendable_both repeats told_answers did.fits (sendable_told c.answer_all-out.result.lost answers told_answers done.3 done.5));
     }

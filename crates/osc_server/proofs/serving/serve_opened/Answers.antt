@@ -1,18 +1,18 @@
-use Rattle.std.proofs.Common.{◌≡◌, ℕ, List, Option, Some, Result, ap, subst, sym, ◌∙◌}
+use Rattle.std.proofs.Common.{◌≡◌, ℕ, List, Option, Some, ap, subst, sym, ◌∙◌}
 use Rattle.std.specs.Option.{option_map}
 use Rattle.std.proofs.lemmas.Option.{same_Some}
 use Rattle.osc_authz.specs.SecurityContext.{SecurityContext}
-use Rattle.osc_authz.specs.{DeskState, confirmed_at, taking, with_id}
+use Rattle.osc_authz.specs.{DeskState, confirmed_at, holder_at, taking, with_id}
 use Rattle.osc_context.specs.{Accepted}
 use Rattle.osc_model.specs.{apply_read}
-use Rattle.osc_model.specs.declared.code.Code.{Code}
-use Rattle.osc_model.specs.declared.request.Request.{Request}
+use Rattle.osc_model.specs.StepNotes.{StepNotes}
 use Rattle.osc_options.specs.{read_request}
 use Rattle.osc_run.specs.{Replies as AppliesTo}
 use Rattle.osc_server.proofs.Changes.{OnePath, replied_changes}
 use Rattle.osc_server.proofs.Requests.{is_found}
 use Rattle.osc_server.proofs.Served.{served_as}
-use Rattle.osc_server.specs.Inner.Parts.{DifferAt, IsReplied, Standing, may_change}
+use Rattle.osc_server.specs.{notes_of_request}
+use Rattle.osc_server.specs.Inner.Parts.{DifferAt, IsReplied, Standing, may_change, may_change_by}
 use Rattle.osc_server.proofs.serving.serve_opened.Goals as goal
 
 pub accept-number-requires-clause-fresh : goal.accept-number-requires-clause-fresh
@@ -43,7 +43,7 @@ returns-clause-served g c =
     let text = c.args.taken.note.plaintext in
     let root : option_map (λ path. path.now) c.revoked.result ≡ c.args.desk.now.rules.revoked = c.revoked.ensures ∙ ap (λ (desk : DeskState). desk.rules.revoked) c.accept-number.ensures.accepted in
     let replied : IsReplied g.A.Ciphers.is_sealing old came
-    (record { held = c.unwrap-context.result.now; number = c.accept-number.result.0.number; text = text }) c.answered.result c.applied-reply.new.tree = record {
+    (record { held = c.unwrap-context.result.now; holder = holder_at c.args.request.now.says.kid c.args.desk.now.table; number = c.accept-number.result.0.number; text = text }) c.answered.result c.applied-reply.new.tree = record {
       reply = c.applied-reply.result;
       within = c.applied-reply.ensures.within;
       applied = subst (λ (root : Option (List ℕ)). AppliesTo c.args.tree.now (apply_read root c.args.tree.now c.unwrap-context.result.now.scope (read_request text)) c.applied-reply.result c.applied-reply.new.tree) root
@@ -51,7 +51,8 @@ returns-clause-served g c =
       answer = c.answered.ensures.protected.0;
       protected = c.answered.ensures.protected.1;
       sends = c.answered.ensures.protected.2;
-      noted = c.answered.ensures.noted;
+      noted = c.answered.ensures.noted
+          ∙ ap (λ (h : Option (List ℕ)). notes_of_request came.at c.unwrap-context.result.now h c.accept-number.result.0.number text c.applied-reply.result) c.requires.holder;
     } in
     served_as g.A.Ciphers.is_sealing old came c.args.request.now.says
     held c.unwrap-context.result.now c.number.result c.accept-number.result.0.number text c.answered.result c.applied-reply.new.tree
@@ -61,7 +62,10 @@ pub returns-clause-changed : goal.returns-clause-changed
 returns-clause-changed g c =
     let laws = c.one_path_changed.ensures in
     let law : OnePath = record { put = laws.put; removed = laws.removed; unchanged = laws.unchanged } in
-    subst (λ (asked : Result Request Code). DifferAt (may_change asked) c.args.tree.now c.applied-reply.new.tree) (sym c.answered.ensures.asked)
+    let asked : may_change_by c.answered.result.notes.served ≡ may_change c.args.taken.read =
+    ap (λ (notes : StepNotes). may_change_by notes.served) c.answered.ensures.noted ∙ ap may_change (sym c.requires.room.read)
+    in
+    subst (λ (path : Option (List ℕ)). DifferAt path c.args.tree.now c.applied-reply.new.tree) (sym asked)
     (replied_changes law _ c.args.tree.now c.applied-reply.new.tree _ c.args.taken.read c.applied-reply.result c.applied-reply.ensures.applied)
 
 pub answered-requires-clause-taken : goal.answered-requires-clause-taken

@@ -12,4 +12,4 @@ returns-in-Ok-clause-memory c = λ err. (c.in-Ok.claims, c.in-Ok.scope, c.in-Ok.
 
 pub returns-in-Err-clause-answers : goal.returns-in-Err-clause-answers
 returns-in-Err-clause-answers c = λ text comes.
-    Answers.refused c.in-Err.error (subst (ComesTo text c.args.self.now.audience c.args.offer.now.on.at) c.in-Err.is comes) refl refl
+    (Answers.refused c.in-Err.error (subst (ComesTo text c.args.self.now.audience c.args.offer.now.on.at) c.in-Err.is comes) refl refl, refl)

@@ -16,7 +16,7 @@ returns-in_ok-answer-in-Some-2-clause-posted g c = λ body item.
     let found = c.in_ok-note.ensures.opened c.in-Some-2.note c.in-Some-2.is in
     opened_post g.A.Aead.is_sealing c.args.self.now c.answer.new.self (record { on = c.args.on.now; body = body; draw = c.args.draw.now })
     fields.token.now fields.nonce1.now fields.client_id.now is_post
-    found.0 found.1 c.in-Some-2.note c.in_ok-answer-in-Some-2.answer found.2 found.3 found.4
+    found.0 found.1 c.in-Some-2.note c.in_ok-answer-in-Some-2.field-0.answer c.in_ok-answer-in-Some-2.field-0.holder found.2 found.3 found.4
     (rw (← c.as_slice.ensures) c.in_ok-answer-in-Some-2.ensures.answers)
 
 pub returns-in-None-clause-posted : goal.returns-in-None-clause-posted

@@ -1,6 +1,6 @@
 use Rattle.std.proofs.Common.{rules, ◌≡◌, true, false, Some, ap, sym, subst}
 use Rattle.osc_message.specs.{AreSendable, GoesOut, tick_sends}
-use Rattle.osc_model.specs.{sends, quiet}
+use Rattle.osc_model.specs.{quiet, quiet_or_lost}
 use Rattle.osc_model.specs.declared.step.ClientResult.TheVariants.{TimedOut}
 use Rattle.osc_model.specs.declared.step.Step.{Step}
 use Rattle.osc_client.specs.{SealsNothing, is_over}
@@ -21,13 +21,14 @@ pub returns-then-is_over-clause-ticked : goal.returns-then-is_over-clause-ticked
 returns-then-is_over-clause-ticked c =
     let old = c.args.self.now in
     let out = c.on_tick-out.result.out in
-    let step : Step = record { out = out; notes = record quiet { result = Some TimedOut } } in
-    let told : record { out = out; notes = c.with_result.result } ≡ step = search rules in
-    let goes : GoesOut (tick_sends c.args.now old.endpoint.sending) out = search rules in
+    let lost = c.on_tick-out.result.lost in
+    let step : Step = record { out = out; notes = record quiet { result = Some TimedOut; lost = lost } } in
+    let told : record { out = out; notes = c.with_lost.result } ≡ step = search rules in
+    let goes : GoesOut lost (tick_sends c.args.now old.endpoint.sending) out = search rules in
     let over : is_over c.args.now old.endpoint.sending old.waiting ≡ true = search rules in
     record {
-      ticks = timed_out old c.args.now out _ _ goes over told (search rules);
-      told = subst (SealsNothing old c.args.now) (sym told) (times_out_silently old c.args.now out goes);
+      ticks = timed_out old c.args.now lost out _ _ goes over told (search rules);
+      told = subst (SealsNothing old c.args.now) (sym told) (times_out_silently old c.args.now lost out goes);
       fits = c.on_tick-out.ensures.fits;
     }
 
@@ -35,11 +36,13 @@ pub returns-clause-ticked : goal.returns-clause-ticked
 returns-clause-ticked c =
     let old = c.args.self.now in
     let out = c.on_tick-out.result.out in
-    let told : c.sending.result ≡ sends out = search rules in
-    let goes : GoesOut (tick_sends c.args.now old.endpoint.sending) out = search rules in
+    let lost = c.on_tick-out.result.lost in
+    let step : Step = record { out = out; notes = quiet_or_lost lost } in
+    let told : c.of_tick.result ≡ step = c.of_tick.ensures in
+    let goes : GoesOut lost (tick_sends c.args.now old.endpoint.sending) out = search rules in
     let over : is_over c.args.now old.endpoint.sending old.waiting ≡ false = search rules in
     record {
-      ticks = went_on old c.args.now out _ _ goes over told (search rules);
-      told = subst (SealsNothing old c.args.now) (sym told) (ticks_silently old c.args.now out goes);
-      fits = subst (λ (s : Step). AreSendable s.out) (sym c.sending.ensures) c.on_tick-out.ensures.fits;
+      ticks = went_on old c.args.now lost out _ _ goes over told (search rules);
+      told = subst (SealsNothing old c.args.now) (sym told) (ticks_silently old c.args.now lost out goes);
+      fits = subst (λ (s : Step). AreSendable s.out) (sym told) c.on_tick-out.ensures.fits;
     }

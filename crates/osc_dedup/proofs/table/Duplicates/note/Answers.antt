@@ -1,7 +1,7 @@
 use Rattle.std.proofs.Common.{◌≡◌, ◌≤◌, ◌+◌, ◌++◌, ◌∷◌, [], drop, length, ap, ◌∙◌, arith, length-append}
 use Rattle.std.proofs.lemmas.List.{drop-append-le}
 use Rattle.osc_dedup.specs.declared.table.Noted.{Noted}
-use Rattle.osc_dedup.specs.{with_note, Key, entries_of, key_of, others}
+use Rattle.osc_dedup.specs.{with_note, Key, entries_of}
 use Rattle.osc_dedup.proofs.Keys.{noted_keys}
 use Rattle.osc_dedup.proofs.Places.{live_longer, live_with, gone_with}
 use Rattle.osc_dedup.proofs.table.Duplicates.note.Goals as goal
@@ -10,7 +10,7 @@ pub invariant_of-self : goal.invariant_of-self
 invariant_of-self c =
     let ready = c.make_ready-gone.ensures.ready in
     let es = c.make_ready-gone.new.kept.entries in
-    let e : Key × Noted = (c.key_of-key.result, c.args.noted) in
+    let e : Key × Noted = ((c.args.peer, c.args.id), c.args.noted) in
     let gone = c.make_ready-gone.result.0 in
     let live = c.min-self-inside.result in
     let long : length c.append.new.table.entries ≡ length es + 1 = ap length c.append.ensures.appended ∙ length-append es (e ∷ []) in
@@ -32,14 +32,12 @@ invariant_of-self c =
 pub returns : goal.returns
 returns c =
     let ready = c.make_ready-gone.ensures.ready in
-    let key = c.key_of-key.result in
+    let key : Key = (c.args.peer, c.args.id) in
     let es = c.make_ready-gone.new.kept.entries in
     let left = drop c.self.inside.gone c.self.inside.kept.entries in
     let gone = c.make_ready-gone.result.0 in
-    let named : key ≡ key_of c.args.peer c.args.id = c.key_of-key.ensures in
-    let kept : drop gone c.append.new.table.entries ≡ drop gone es ++ (key_of c.args.peer c.args.id, c.args.noted) ∷ [] =
-    ap (drop gone) c.append.ensures.appended ∙ drop-append-le gone es ((key, c.args.noted) ∷ []) ready.within
-    ∙ ap (λ k. drop gone es ++ (k, c.args.noted) ∷ []) named in
+    let kept : drop gone c.append.new.table.entries ≡ drop gone es ++ (key, c.args.noted) ∷ [] =
+    ap (drop gone) c.append.ensures.appended ∙ drop-append-le gone es ((key, c.args.noted) ∷ []) ready.within in
     ap entries_of kept
-    ∙ noted_keys c.args.now c.args.peer c.args.id c.args.noted left (drop gone es) (ready.is_left ∙ ap (λ k. others c.args.now k left) named)
+    ∙ noted_keys c.args.now c.args.peer c.args.id c.args.noted left (drop gone es) ready.is_left
     ∙ ap (with_note c.args.now c.args.peer c.args.id c.args.noted) c.self.view_is

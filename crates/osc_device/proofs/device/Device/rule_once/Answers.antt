@@ -6,22 +6,16 @@ use Rattle.osc_device.specs.State.{State}
 use Rattle.osc_device.proofs.Going.{same_rules}
 use Rattle.osc_device.proofs.device.Device.rule_once.Goals as goal
 
-pub returns-in_ok-round-in-Some-clause-asked : goal.returns-in_ok-round-in-Some-clause-asked
-returns-in_ok-round-in-Some-clause-asked g c =
+pub returns-in_ok-round-in-Some : goal.returns-in_ok-round-in-Some
+returns-in_ok-round-in-Some g c =
     let desk = c.desk.ensures.desk ∙ ap (λ (device : State). device.server.desk) c.self.view_is in
     let path = sym (c.in_ok-path.ensures.path ∙ ap (λ desk. revocation_of desk.rules.revoked c.args.id.now) desk) ∙ c.in-Some.is in
-    let asked = rw c.own_request-request.ensures.request at c.in_ok-round-in-Some.ensures.asked in
-    let answered = rw c.own_request-request.ensures.request at c.in_ok-round-in-Some.ensures.answered in
-    (c.in-Some.path, path, rw (c.nothing.ensures, c.method.ensures) at asked, rw (c.nothing.ensures, c.method.ensures) at answered)
-
-pub returns-in_ok-round-in-Some-clause-told : goal.returns-in_ok-round-in-Some-clause-told
-returns-in_ok-round-in-Some-clause-told g c =
-    let desk = c.desk.ensures.desk ∙ ap (λ (device : State). device.server.desk) c.self.view_is in
-    let path = sym (c.in_ok-path.ensures.path ∙ ap (λ desk. revocation_of desk.rules.revoked c.args.id.now) desk) ∙ c.in-Some.is in
+    let asked = rw c.own_request-request.ensures.request at c.in_ok-round-in-Some.ensures.0 in
     let its : c.own_request-request.result.path ≡ Some c.in-Some.path = ap (λ (request : Request). request.path) c.own_request-request.ensures.request in
     let kept = same_rules g.A.Ciphers.is_sealing c.args.self.now.server c.ask.new.self.server _ c.in_ok-round-in-Some.round.served
-    c.in_ok-round-in-Some.ensures.asked.carries.reaches in
+    c.in_ok-round-in-Some.ensures.0.asks.carries.reaches in
     let tree : c.tree.result.now ≡ c.ask.new.self.server.tree = search rules in
-    c.is_there-is_revoked.ensures ∙ ap (λ (tree : Tree). stands tree c.own_request-request.result.path) tree
+    let told = c.is_there-is_revoked.ensures ∙ ap (λ (tree : Tree). stands tree c.own_request-request.result.path) tree
     ∙ ap (λ (path : Option (List ℕ)). stands c.ask.new.self.server.tree path)
-    (its ∙ sym path ∙ ap (λ its. revocation_of its.revoked c.args.id.now) (sym kept))
+    (its ∙ sym path ∙ ap (λ its. revocation_of its.revoked c.args.id.now) (sym kept)) in
+    ((c.in-Some.path, path, rw (c.nothing.ensures, c.method.ensures) at asked, told), tt)

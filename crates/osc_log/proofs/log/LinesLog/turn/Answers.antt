@@ -1,5 +1,5 @@
 use Rattle.std.proofs.Common.{◌∙◌, ap, refl, subst, sym}
-use Rattle.osc_log.specs.{IsTime, Learns, after_turn, turn_text, untold_text}
+use Rattle.osc_log.specs.{IsTime, after_turn, turn_text, untold_text}
 use Rattle.osc_log.specs.Sent.{after_lines}
 use Rattle.osc_log.specs.declared.form.Form.{Form}
 use Rattle.osc_log.specs.declared.seen.Seen.{Seen}
@@ -14,11 +14,11 @@ returns-in-Ok g c =
     let kept = c.tell_dropped.ensures in
     let write = c.write_counting.ensures in
     let told = c.in-Ok.ensures.ok in
-    let text = told.4 ∙ ap (λ (form : Form). turn_text form told.0 c.tell_dropped.new.self.seen turn held) kept.form ∙ ap (λ (seen : Seen). turn_text old.form told.0 seen turn held) kept.seen in
-    let seen = told.5 ∙ ap (λ (seen : Seen). record { limits = after_lines turn seen.limits turn.step.out; counters = seen.counters; holders = told.1 }) kept.seen in
+    let text = told.2 ∙ ap (λ (form : Form). turn_text form told.0 c.tell_dropped.new.self.seen turn held) kept.form ∙ ap (λ (seen : Seen). turn_text old.form told.0 seen turn held) kept.seen in
+    let seen = told.3 ∙ ap (λ (seen : Seen). record { limits = after_lines turn seen.limits turn.step.out; counters = seen.counters }) kept.seen in
     let counted = c.after_turn-counters.ensures ∙ ap (λ (seen : Seen). after_turn turn seen.counters) kept.seen in
-    tells_turn _ _ turn held old.seen c.write_counting.new.self.seen _ told.0 c.deref.result.now told.1 (write.form ∙ kept.form) refl refl
-    (write.seen ∙ recounted _ _ _ _ seen counted) told.2 (subst (λ (seen : Seen). Learns turn.step.notes seen.holders told.1) kept.seen told.3) (c.deref.ensures.value ∙ text) kept.none
+    tells_turn _ _ turn held old.seen c.write_counting.new.self.seen _ told.0 c.deref.result.now (write.form ∙ kept.form) refl refl
+    (write.seen ∙ recounted _ _ _ _ seen counted) told.1 (c.deref.ensures.value ∙ text) kept.none
     (λ none. let done = write.written none in (sym kept.dropped ∙ done.0, done.1))
 
 pub returns-in-Err : goal.returns-in-Err

@@ -16,9 +16,9 @@ invariant_of-self g c =
     )
 
 pub returns-clause-fits : goal.returns-clause-fits
-returns-clause-fits g c = going_out_fits c.args.now (messages c.self.inside.sending.items) _ c.self.invariant.3.sound c.tick.ensures.out
+returns-clause-fits g c = going_out_fits c.args.now (messages c.self.inside.sending.items) _ _ c.self.invariant.3.sound c.tick.ensures.out
 
 pub returns-clause-few : goal.returns-clause-few
 returns-clause-few g c =
     let P : EndpointState → Type 0 = λ e. length c.tick.result.out ≤ length e.sending in
-    subst P c.self.view_is (going_few c.args.now (messages c.self.inside.sending.items) c.tick.result.out c.tick.ensures.out)
+    subst P c.self.view_is (going_few c.args.now (messages c.self.inside.sending.items) c.tick.result.lost c.tick.result.out c.tick.ensures.out)

@@ -4,7 +4,7 @@ use Rattle.std.proofs.lemmas.Bool.{and_parts}
 use Rattle.std.proofs.lemmas.Option.{same_Some}
 use Rattle.osc_coap.specs.{HasSpelling, spelling}
 use Rattle.osc_coap.specs.Message.{Message}
-use Rattle.osc_message.specs.{same_peer}
+use Rattle.osc_model.specs.{same_peer}
 use Rattle.osc_model.specs.Arrival.{Arrival}
 use Rattle.osc_proxy.specs.{get, is_in_place, answer_to, next_own}
 use Rattle.osc_proxy.specs.Inner.Bounds.{CanCount}

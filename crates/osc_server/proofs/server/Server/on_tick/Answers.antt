@@ -23,6 +23,6 @@ pub returns-clause-ticked : goal.returns-clause-ticked
 returns-clause-ticked c =
     let none = (quiet_tick c.args.now c.self.inside.endpoint c.self.invariant.0).sends in
     record {
-      sent = c.sending.ensures ∙ ap sends (nothing_goes _ c.on_tick-out.result.out none c.on_tick-out.ensures.sent);
+      sent = c.sending.ensures ∙ ap sends (nothing_goes c.on_tick-out.result.lost _ c.on_tick-out.result.out none c.on_tick-out.ensures.sent);
       kept = search rules;
     }

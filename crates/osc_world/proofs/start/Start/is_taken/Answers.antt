@@ -1,6 +1,6 @@
 use Rattle.std.proofs.Common.{◌≡◌, ◌∙◌, false, List, ap, sym, rules}
 use Rattle.std.specs.List.{list_any}
-use Rattle.osc_message.specs.{same_peer}
+use Rattle.osc_model.specs.{same_peer}
 use Rattle.osc_proxy.specs.State.{State as Proxy}
 use Rattle.osc_client.specs.State.{State as Client}
 use Rattle.osc_world.specs.{is_among, Beginning, places_of}

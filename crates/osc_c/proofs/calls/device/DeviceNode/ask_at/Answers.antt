@@ -9,13 +9,13 @@ returns-in-Ok g c =
     let old = c.args.self.now in
     let new = c.ask.new.self in
     let round = c.in-Ok.round in
-    let asked = c.in-Ok.ensures.asked in
+    let e = c.in-Ok.ensures.0 in
     inl (
       round,
-      (asked, c.in-Ok.ensures.answered, c.in-Ok.ensures.run, c.in-Ok.ensures.entry),
+      (e.asks, e.answered, e.run, e.entry),
       c.keep.ensures.told,
       c.keep.ensures.kept,
       kept old new c.keep.new.last round c.keep.result c.keep.ensures.told c.keep.ensures.kept
           (λ number told. asked_kept g.A.Ciphers.is_sealing g.A.Ciphers.TAG old.device
-          (asked_for c.args.draws.now c.args.now c.args.request.now) round new number told asked),
+          (asked_for c.args.draws.now c.args.now c.args.request.now) round new number told e.asks),
     )
