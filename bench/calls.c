@@ -265,7 +265,7 @@ static int oscore(void) {
         fprintf(stderr, "bench: a request was not protected or not opened\n");
         return 1;
     }
-    timed("protect_request, 64 bytes", protect, 20000);
+    timed("draft_request and seal_request, 64 bytes", protect, 20000);
     timed("open_request, 64 bytes", unprotect, 20000);
     return 0;
 }

@@ -9,6 +9,7 @@ use osc_client::Client;
 use osc_fixtures::{SERVER, STRANGER, drawn, sent};
 use osc_model::{Bytes, Moment, Step};
 use osc_server::Server;
+use osc_world::adversary::lie;
 use std::alloc::{AllocError, Global};
 
 /// A server of one resource, `/r000`, hears so many times a request in which this text is sealed, at number 0 under a client's context; before each it starts
@@ -70,7 +71,7 @@ fn exchanged(alloc: Global, client: &mut Client) -> Result<Bytes, AllocError> {
 }
 
 fn sealed(alloc: Global, client: &Client, text: &[u8]) -> Result<Bytes, AllocError> {
-    let step = client.lie::<Suite>(alloc, 0, text, &drawn(3))?;
+    let step = lie::<Suite>(alloc, client, 0, text, &drawn(3))?;
     copied(alloc, step)
 }
 

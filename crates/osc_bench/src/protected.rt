@@ -5,12 +5,14 @@ ghost use Rattle.osc_model.specs.declared.context.Side.TheVariants.{Client};
 ghost use Rattle.osc_context.specs.{sender_of};
 
 use crate::messages::answer;
-use crate::protection::protect_next;
+use crate::protection::seal_next;
 use crate::tokens::post_of;
 use osc_coap::MessageRef;
 use osc_context::{SenderContext, derive, joined_salt};
 use osc_fixtures::{empty_server, sent, shared_name};
 use osc_model::{Bytes, Method, Moment, Path, SharedName, Side, Step};
+use osc_options::request_of_message;
+use osc_protect::Draft;
 use osc_server::Server;
 use osc_tree::Tree;
 use std::alloc::{AllocError, Global};
@@ -187,13 +189,12 @@ fn protected_bytes(
     requires sender { sender.old ≡ sender_of name.now Client sender.old.next }
     ensures { sender.new ≡ sender_of name.now Client sender.new.next }
 {
-    match protect_next(alloc, name, sender, message)? {
-        Some(protected) => {
-            let bytes = Bytes::from_slice(alloc, protected.message.bytes());
-            drop(protected);
-            bytes
-        }
-        None => Ok(Bytes::new(alloc)),
+    let request = request_of_message(alloc, message)?;
+    let mut draft = Draft::new();
+    if seal_next(alloc, name, sender, message, &request, &mut draft)? {
+        Bytes::from_slice(alloc, draft.message.bytes())
+    } else {
+        Ok(Bytes::new(alloc))
     }
 }
 

@@ -6,13 +6,13 @@ ghost use Rattle.osc_context.specs.{sender_of, recipient_of};
 ghost use Rattle.osc_protect.specs.{IsFor};
 
 use osc_ccm::Suite;
-use osc_coap::{DATAGRAM_LIMIT, MessageRef};
+use osc_coap::MessageRef;
 use osc_context::{NUMBER_LIMIT, RecipientContext, SenderContext, derive};
 use osc_fixtures::shared_name;
-use osc_model::{SharedName, Side};
+use osc_model::{Request, SharedName, Side};
+use osc_options::{request_of_message, survey_of};
 use osc_protect::{
-    MessageTooLong, ProtectedRequest, Room, SealedRequestRef, open_request, protect_request,
-    read_request,
+    Draft, Room, SealedRequestRef, draft_request, open_request, read_request, seal_request,
 };
 use std::alloc::{AllocError, Global};
 
@@ -43,13 +43,16 @@ fn name_of(alloc: Global) -> Result<SharedName, AllocError>
     shared_name(alloc, &[1; 16], &[2; 8], &[0], &[1])
 }
 
-// The request under the next number, if there is one and it fits.
-pub(crate) fn protect_next(
+// Seals the request under the next number as a client does, if there is one and it fits: the draft's message is then what it sends. What stays
+// outside is that of `outside`.
+pub(crate) fn seal_next(
     alloc: Global,
     name: &SharedName,
     sender: &mut SenderContext,
-    request: &MessageRef<'_>,
-) -> Result<Option<ProtectedRequest>, AllocError>
+    outside: &MessageRef<'_>,
+    request: &Request,
+    draft: &mut Draft,
+) -> Result<bool, AllocError>
     requires short { name.now.id_context ≡ None }
     requires sender { sender.old ≡ sender_of name.now Client sender.old.next }
     ensures { sender.new ≡ sender_of name.now Client sender.new.next }
@@ -58,18 +61,16 @@ pub(crate) fn protect_next(
     let _id = sender.id();
     let next = sender.next_number();
     if next > NUMBER_LIMIT {
-        return Ok(None);
+        return Ok(false);
     }
-    let room = Room::new(alloc, name, next, DATAGRAM_LIMIT)?;
+    let Some(size) = draft_request::<Suite>(name, next, outside, request, draft) else {
+        return Ok(false);
+    };
+    let room = Room::new(alloc, name, next, size.plaintext)?;
     let number = sender.take_number().unwrap();
-    match protect_request::<Suite>(room, number, request) {
-        Ok(made) => Ok(Some(made)),
-        Err(MessageTooLong { room, number }) => {
-            drop(room);
-            number.spend();
-            Ok(None)
-        }
-    }
+    let note = seal_request::<Suite>(room, number, draft);
+    drop(note);
+    Ok(true)
 }
 
 fn bytes_protected(
@@ -100,15 +101,18 @@ fn protect_again(
     alloc: Global,
     name: &SharedName,
     sender: &mut SenderContext,
-    request: &MessageRef<'_>,
+    message: &MessageRef<'_>,
     rounds: u64,
 ) -> Result<u64, AllocError>
     requires short { name.now.id_context ≡ None }
     requires sender { sender.old ≡ sender_of name.now Client sender.old.next }
 {
+    let request = request_of_message(alloc, message)?;
+    let mut draft = Draft::new();
     let mut made = 0u64;
     for _ in 0..rounds {
-        made = made.wrapping_add(protected_length(alloc, name, sender, request)?);
+        let length = protected_length(alloc, name, sender, message, &request, &mut draft)?;
+        made = made.wrapping_add(length);
     }
     Ok(made)
 }
@@ -118,19 +122,18 @@ fn protected_length(
     alloc: Global,
     name: &SharedName,
     sender: &mut SenderContext,
-    request: &MessageRef<'_>,
+    outside: &MessageRef<'_>,
+    request: &Request,
+    draft: &mut Draft,
 ) -> Result<u64, AllocError>
     requires short { name.now.id_context ≡ None }
     requires sender { sender.old ≡ sender_of name.now Client sender.old.next }
     ensures { sender.new ≡ sender_of name.now Client sender.new.next }
 {
-    match protect_next(alloc, name, sender, request)? {
-        Some(protected) => {
-            let length = protected.message.bytes().len() as u64;
-            drop(protected);
-            Ok(length)
-        }
-        None => Ok(0),
+    if seal_next(alloc, name, sender, outside, request, draft)? {
+        Ok(draft.message.bytes().len() as u64)
+    } else {
+        Ok(0)
     }
 }
 
@@ -142,32 +145,33 @@ fn bytes_opened(alloc: Global, request: &MessageRef<'_>, rounds: u64) -> Result<
 fn bytes_opened_under(
     alloc: Global,
     name: &SharedName,
-    request: &MessageRef<'_>,
+    message: &MessageRef<'_>,
     rounds: u64,
 ) -> Result<u64, AllocError>
     requires { name.now.id_context ≡ None }
 {
-    match protect_once(alloc, name, request)? {
-        Some(protected) => {
-            let opened = open_protected(alloc, name, &protected.message.message(), rounds);
-            drop(protected);
-            opened
-        }
-        None => Ok(0),
+    let request = request_of_message(alloc, message)?;
+    let mut draft = Draft::new();
+    if seal_once(alloc, name, message, &request, &mut draft)? {
+        open_protected(alloc, name, &draft.message.message(), rounds)
+    } else {
+        Ok(0)
     }
 }
 
-// The request under the first number, if it fits.
-fn protect_once(
+// Seals the request under the first number, if it fits.
+fn seal_once(
     alloc: Global,
     name: &SharedName,
-    request: &MessageRef<'_>,
-) -> Result<Option<ProtectedRequest>, AllocError>
+    outside: &MessageRef<'_>,
+    request: &Request,
+    draft: &mut Draft,
+) -> Result<bool, AllocError>
     requires { name.now.id_context ≡ None }
 {
     match derive(alloc, name, Side::Client) {
-        Ok((mut sender, _)) => protect_next(alloc, name, &mut sender, request),
-        Err(_) => Ok(None),
+        Ok((mut sender, _)) => seal_next(alloc, name, &mut sender, outside, request, draft),
+        Err(_) => Ok(false),
     }
 }
 
@@ -178,7 +182,10 @@ fn open_protected(
     protected: &MessageRef<'_>,
     rounds: u64,
 ) -> Result<u64, AllocError> {
-    match read_request(protected) {
+    let Some(value) = survey_of(protected).oscore else {
+        return Ok(0);
+    };
+    match read_request(&value, protected) {
         Ok(sealed) if sealed.is_for(name) => open_derived(alloc, name, &sealed, rounds),
         _ => Ok(0),
     }

@@ -26,5 +26,5 @@ pub use item::Item;
 pub use lent::{ItemRef, first_value};
 pub use lent_lists::{ItemRefs, PairRefs};
 pub use reader::read;
-pub use whole::{is_whole, is_whole_map, read_whole};
+pub use whole::{is_whole, is_whole_map};
 pub use writer::write;

@@ -1,3 +1,5 @@
+pub mod AnyDraw
+pub mod Around
 pub mod Outcomes
 pub mod Fitting
 pub mod Opened

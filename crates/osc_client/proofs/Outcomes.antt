@@ -37,7 +37,7 @@ pub record OfEach (desk : ClientDesk) (context : Option ClientContextState) (wha
 -- what waits is something
 pub something : (k : Option ClientContextState) (what : Awaited) → NeedsContext k what → outstanding_of k what ≡ Nothing → ⊥
 something k (Exchange begun) has e = let wrong : OpenExchange begun ≡ Nothing = e in cc
-something (Some held) (Ask ask) has e = let wrong : AskOf (record { context = held.name; number = ask.number; plaintext = ask.plaintext }) ≡ Nothing = e in cc
+something (Some held) (Ask ask) has e = let wrong : AskOf (record { context = held.name; number = ask.number }) ≡ Nothing = e in cc
 something None (Ask ask) has e = has refl
 
 module _ (is_sealing : Sealings) (desk : ClientDesk) (message : Message) where
@@ -101,7 +101,7 @@ module _ (is_sealing : Sealings) (desk : ClientDesk) (message : Message) where
         makes = λ begun code payload made is finishes. Made refl
             (makes begun code payload made (record { desk = desk; context = context; outstanding = outstanding_of context waiting.what }) (ap (outstanding_of context) is) finishes);
         answers = λ held ask own text reply has is reads. Answered refl (record {
-          ask = record { context = held.name; number = ask.number; plaintext = ask.plaintext };
+          ask = record { context = held.name; number = ask.number };
           own = own;
           text = text;
           reply = reply;

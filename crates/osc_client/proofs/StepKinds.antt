@@ -18,7 +18,7 @@ use Rattle.osc_authz.specs.{ClientContextState, Finishes}
 use Rattle.osc_authz.specs.Begun.{Begun}
 use Rattle.osc_run.specs.{Asked, ClientStep, ClientIdle, Ended, IsMade, Lied, ClientState, Nothing, Exchange as OpenExchange, request_note}
 use Rattle.osc_client.specs.Inner.Bounds.{HasContext}
-use Rattle.osc_client.specs.{case_of, is_ended, is_reset, Lie, Lies, lies, core, opened, outstanding, Answers, AnswersNew, Settles}
+use Rattle.osc_client.specs.{case_of, is_ended, is_reset, core, opened, outstanding, Answers, AnswersNew, Settles}
 use Rattle.osc_context.specs.{greatest_number}
 use Rattle.osc_ccm.specs.{Sealings, Tags}
 use Rattle.osc_client.specs.State.{State}
@@ -37,7 +37,7 @@ refusals lied state number = ClientIdle (record { opened = None; refusal = Some 
 pub asked : (old : State) (context : ClientContextState) (plaintext : List ℕ) (notes : StepNotes) (new : State) (at : Moment) (draw : Draw) (message : Message)
     → (old.waiting ≡ None) × (old.context ≡ Some context) × (context.next ≤ greatest_number)
     → notes ≡ record quiet { seals = Some (request_note context.name context.next plaintext) }
-    → new ≡ opened (record old { context = Some (record context { next = context.next + 1 }) }) at draw message (Ask (record { number = context.next; plaintext = plaintext }))
+    → new ≡ opened (record old { context = Some (record context { next = context.next + 1 }) }) at draw message (Ask (record { number = context.next }))
     → ClientStep false (core old) notes (core new)
 asked old context plaintext notes new at draw message free noted is =
     Asked refl (record {
@@ -100,19 +100,3 @@ kind_of is_sealing old came (heard.Empty kind id) step new has makes answers =
     open_one (Some waiting) has ends e = something old.context waiting.what has.0 e
 kind_of is_sealing old came (heard.Message message) step new has makes answers =
     new_kind is_sealing old (read_as came message) (case_of old.next_hop came.from old.waiting message) step new has makes answers
-
--- a lie, under the context that the client has
-pub lied : (is_sealing : Sealings) (tag : Tags) (old : State) (lie : Lie) (draw : Draw) (step : Step) → lie.number ≤ greatest_number
-    → Lies is_sealing tag old lie draw step → ClientStep true (core old) step.notes (core old)
-lied is_sealing tag old lie draw step lawful (Lies.no_context none told) = rw told (refusals true (core old) 22)
-lied is_sealing tag old lie draw step lawful (Lies.too_long context held long told) = rw told (refusals true (core old) 14)
-lied is_sealing tag old lie draw step lawful (lies context protected held fits sealed spelled told) =
-    Lied refl (record {
-      context = context;
-      number = lie.number;
-      lawful = lawful;
-      plaintext = lie.text;
-      noted = ap (λ (s : Step). s.notes) told;
-      held = held;
-      is = refl;
-    })

@@ -35,9 +35,8 @@ use Rattle.osc_message.specs.declared.heard.Heard.TheVariants as heard
 use Rattle.osc_message.specs.declared.due.Due.{Due}
 use Rattle.osc_message.specs.declared.due.Due.TheVariants.{Keep, Send, GiveUp}
 use Rattle.osc_run.specs.{IsEnding, request_note, response_note, IsOpenOf, IsSealOf}
-use Rattle.osc_client.specs.{AskComes, Comes, ExchangeComes, code_of, ended_by, notes_of, case_of, is_ended, Lie, Lies, lies, outside_of, Asks, asks, hindered, plain_of, refusing, Answers, AnswersNew, Counts, Settles, refusal, AreTold, IsToldOf, NeedsNoSeal, SealsNothing, needs_none, noted_before, open_before, sealed_now, unprotected}
+use Rattle.osc_client.specs.{AskComes, Comes, ExchangeComes, code_of, ended_by, notes_of, case_of, is_ended, Asks, asks, hindered, plain_of, refusing, Answers, AnswersNew, Counts, Settles, refusal, AreTold, IsToldOf, NeedsNoSeal, SealsNothing, needs_none, noted_before, open_before, sealed_now, unprotected}
 use Rattle.osc_client.specs.Answering as comes
-use Rattle.osc_client.specs.Lying as lying
 use Rattle.osc_client.specs.State.{State}
 use Rattle.osc_client.specs.declared.answering.Outcome.{Outcome}
 use Rattle.osc_client.specs.declared.answering.Outcome.TheVariants as outcome
@@ -127,7 +126,7 @@ module _ (old : State) (now : Moment) where
   acknowledged_out from id true = one_plain (datagram from (empty_acknowledgement id)) (unprotected (empty_acknowledgement id) refl refl)
   acknowledged_out from id false = none_plain
 
--- ---- requests and lies
+-- ---- requests
 
 module _ (is_sealing : Sealings) (old : State) (now : Moment) where
   as_sent : (came : Option (List ℕ)) (step it : Step) → step ≡ it → AreTold is_sealing old now came it → AreTold is_sealing old now came step
@@ -164,12 +163,6 @@ module _ (is_sealing : Sealings) (old : State) (now : Moment) where
   ask_told tag request draw step new (hindered number why refused) = told_refusal step number refused.told
   ask_told tag request draw step new (asks context protected free sealed spelled told kept) =
       as_sent None step _ told (told_seal old.next_hop (plain_bytes (plain_of old draw request)) context.name context.next (plain_of old draw request) protected sealed)
-
-  pub lie_told : (tag : Tags) (lie : Lie) (draw : Draw) (step : Step) → Lies is_sealing tag old lie draw step → AreTold is_sealing old now None step
-  lie_told tag lie draw step (lying.Lies.no_context none told) = told_refusal step 22 told
-  lie_told tag lie draw step (lying.Lies.too_long context held long told) = told_refusal step 14 told
-  lie_told tag lie draw step (lies context protected held fits sealed spelled told) =
-      as_sent None step _ told (told_seal old.next_hop lie.text context.name lie.number (outside_of old.origin draw) protected sealed)
 
   -- ---- a datagram
 

@@ -1,4 +1,4 @@
--- Messages to a server behind a proxy: what is encrypted of them, and how long they are.
+-- Messages to a server behind a proxy: what is encrypted of them.
 use Rattle.std.proofs.Common.{◌≡◌, ℕ, ◌+◌, ◌-◌, ◌<◌, ◌≤◌, Bool, true, false, ◌==◌, nat_lt, if◌then◌else◌, List, [], ◌∷◌, ◌++◌, length, Option, Some, None, Result, Ok, Err, codes, refl, sym, ap, ap₂, subst, ◌∙◌, append_assoc, arith, inl, inr}
 use Rattle.std.specs.Prelude.{filter}
 use Rattle.std.specs.Result.{IsErr, IsOk}
@@ -112,77 +112,6 @@ module _ (order : OrderLaw) (each_of : EachLaw) (only : OnlyLaw) where
       let inside : List NumberAndValue → Plaintext = λ options. record { code = m.code; options = options; payload = m.payload } in
       ap inside (inner_merged order each_of only (proxy_options (Some origin)) m.options (found_order (origin.port == 5683) origin) p (found_inside (origin.port == 5683) origin))
 
--- ---- options of which some are left out are no longer
-
-some : (n : ℕ) → 13 ≤ n → 1 ≤ extension_length n
-some n le =
-    elim (cases_lt n 269) [
-      | inl lt ↦ rw (le-ltb n 13 le, lt-ltb n 269 lt) (omega arith)
-      | inr wide ↦ rw (le-ltb n 13 le, le-ltb n 269 wide) (omega arith)
-    ]
-
-one : (n : ℕ) → n < 269 → extension_length n ≤ 1
-one n lt =
-    elim (cases_lt n 13) [
-      | inl few ↦ rw (lt-ltb n 13 few) (omega arith)
-      | inr le ↦ rw (le-ltb n 13 le, lt-ltb n 269 lt) (omega arith)
-    ]
-
-two : (n : ℕ) → extension_length n ≤ 2
-two n =
-    elim (cases_lt n 13) [
-      | inl few ↦ rw (lt-ltb n 13 few) (omega arith)
-      | inr le ↦ elim (cases_lt n 269) [
-        | inl lt ↦ rw (le-ltb n 13 le, lt-ltb n 269 lt) (omega arith)
-        | inr wide ↦ rw (le-ltb n 13 le, le-ltb n 269 wide) (omega arith)
-      ]
-    ]
-
--- one step takes at most a byte more than two
-steps : (m n : ℕ) → extension_length (m + n) ≤ 1 + extension_length m + extension_length n
-steps m n =
-    elim (cases_lt (m + n) 269) [
-      | inl lt ↦ omega (arith, one (m + n) lt)
-      | inr wide ↦ elim (cases_lt m 13) [
-        | inl few ↦ omega (arith, two (m + n), some n (omega (arith, wide, few)))
-        | inr le ↦ omega (arith, two (m + n), some m le)
-      ]
-    ]
-
--- without the one before them
-behind_more : (before : ℕ) (option : NumberAndValue) (options : List NumberAndValue) → before ≤ option.0 → AreInOrder option.0 options
-    → options_length before options ≤ option_length before option + options_length option.0 options
-behind_more before option [] le p = omega arith
-behind_more before option (next ∷ options) le p =
-    let apart : next.0 - before ≡ (option.0 - before) + (next.0 - option.0) = omega (arith, le, p.0) in
-    let step : extension_length (next.0 - before) ≤ 1 + extension_length (option.0 - before) + extension_length (next.0 - option.0) =
-    subst (λ n. extension_length n ≤ 1 + extension_length (option.0 - before) + extension_length (next.0 - option.0)) (sym apart) (steps (option.0 - before) (next.0 - option.0)) in
-    omega (arith, step)
-
-filtered_shorter : (keeps : NumberAndValue → Bool) (before : ℕ) (options : List NumberAndValue) → AreInOrder before options
-    → options_length before (filter keeps options) ≤ options_length before options
-filtered_shorter keeps before [] p = omega arith
-filtered_shorter keeps before (option ∷ options) p =
-    let rest = filtered_shorter keeps option.0 options p.1 in
-    elim (cases_Bool (keeps option)) [
-      | inl kept ↦ rw kept (omega (arith, rest))
-      | inr out ↦ rw out (omega (arith, rest, behind_more before option (filter keeps options) p.0 (in_order_filtered keeps option.0 options p.1)))
-    ]
-
-module _ (exact : LengthLaw) (order : OrderLaw) (each_of : EachLaw) (only : OnlyLaw) where
-  -- a message whose options are all encrypted is no longer than it is through a proxy
-  pub no_shorter : (origin : Option HostAndPort) (m : Message) → AreInOrder 0 m.options → inner_options m.options ≡ m.options
-      → length (spelling m) ≤ length (spelling (through origin m))
-  no_shorter None m p inner = omega arith
-  no_shorter (Some origin) m p inner =
-      let outer = proxy_options (Some origin) in
-      let outer_order : AreInOrder 0 outer = found_order (origin.port == 5683) origin in
-      let whole = merge outer m.options in
-      let same : inner_options whole ≡ m.options = inner_merged order each_of only outer m.options outer_order p (found_inside (origin.port == 5683) origin) ∙ inner in
-      let shorter : options_length 0 (inner_options whole) ≤ options_length 0 whole = filtered_shorter is_inner 0 whole (order 0 outer m.options outer_order p) in
-      let fewer : options_length 0 m.options ≤ options_length 0 whole = subst (λ (options : List NumberAndValue). options_length 0 options ≤ options_length 0 whole) same shorter in
-      omega (arith, exact m, exact (through (Some origin) m), fewer)
-
 -- ---- the options of a request, and of a post
 
 -- in the order of their numbers, and all encrypted
@@ -193,10 +122,6 @@ AreEncrypted before (option ∷ options) = (before ≤ option.0) × (is_inner op
 in_order : (before : ℕ) (options : List NumberAndValue) → AreEncrypted before options → AreInOrder before options
 in_order before [] p = tt
 in_order before (option ∷ options) p = (p.0, in_order option.0 options p.2)
-
-all_inside : (before : ℕ) (options : List NumberAndValue) → AreEncrypted before options → inner_options options ≡ options
-all_inside before [] p = refl
-all_inside before (option ∷ options) p = rw p.1 (ap (λ (rest : List NumberAndValue). option ∷ rest) (all_inside option.0 options p.2))
 
 -- after options of no larger number
 abbrev EncryptedFrom : ℕ → List NumberAndValue → Type 0
@@ -237,12 +162,6 @@ request_encrypted r =
 pub request_order : (id : ℕ) (token : List ℕ) (request : Request) → AreInOrder 0 (plain_request id token request).options
 request_order id token request = in_order 0 (request_options request) (request_encrypted request)
 
-pub request_inside : (id : ℕ) (token : List ℕ) (request : Request) → inner_options (plain_request id token request).options ≡ (plain_request id token request).options
-request_inside id token request = all_inside 0 (request_options request) (request_encrypted request)
-
-pub post_order : (id : ℕ) (token body : List ℕ) → AreInOrder 0 (post_with id token body).options
-post_order id token body = (omega arith, (omega arith, tt))
-
 -- what stays outside of a request, and its plaintext, are the request as it goes to the server
 found_outside : (default : Bool) (origin : HostAndPort) → outer_options (found_by default origin) ≡ found_by default origin
 found_outside true origin = refl
@@ -257,50 +176,6 @@ request_around plaintext alone (Some origin) id token request =
     ap₂ (λ (outer inner : List NumberAndValue). record (plain_request id token request) { options = merge outer inner })
     (found_outside (origin.port == 5683) origin) (ap (λ (p : Plaintext). p.options) (plaintext (bare Confirmable 2 id token) request))
 
--- what is encrypted isn't OSCORE's own option
-none_own : (before : ℕ) (options : List NumberAndValue) → AreEncrypted before options → has_oscore options ≡ false
-none_own before [] p = refl
-none_own before (option ∷ options) p =
-    elim (cases_Bool (option.0 == 9)) [
-      | inl own ↦ let outer : same_class E (class_of option.0) ≡ false = rw (eqb-true option.0 9 own) refl in absurd cc
-      | inr other ↦ rw other (none_own option.0 options p.2)
-    ]
-
-own_inserted : (option : NumberAndValue) (options : List NumberAndValue) → (option.0 == 9) ≡ false → has_oscore options ≡ false → has_oscore (insert option options) ≡ false
-own_inserted option [] other none = rw other refl
-own_inserted option (first ∷ options) other none =
-    elim (cases_Bool (nat_lt option.0 first.0)) [
-      | inl lt ↦ rw (lt, other) none
-      | inr le ↦ elim (cases_Bool (first.0 == 9)) [
-        | inl own ↦ let no = rw own at none in absurd cc
-        | inr not_own ↦ rw (le, not_own) (own_inserted option options other (rw not_own at none))
-      ]
-    ]
-
-own_merged : (outer inner : List NumberAndValue) → has_oscore outer ≡ false → has_oscore inner ≡ false → has_oscore (merge outer inner) ≡ false
-own_merged outer [] p q = p
-own_merged outer (option ∷ inner) p q =
-    elim (cases_Bool (option.0 == 9)) [
-      | inl own ↦ let no = rw own at q in absurd cc
-      | inr other ↦ own_merged (insert option outer) inner (own_inserted option outer other p) (rw other at q)
-    ]
-
-found_unprotected : (default : Bool) (origin : HostAndPort) → has_oscore (found_by default origin) ≡ false
-found_unprotected true origin = refl
-found_unprotected false origin = refl
-
--- a request isn't protected yet, through a proxy either
-pub request_unprotected : (origin : Option HostAndPort) (id : ℕ) (token : List ℕ) (request : Request) → has_oscore (through origin (plain_request id token request)).options ≡ false
-request_unprotected None id token request = none_own 0 (request_options request) (request_encrypted request)
-request_unprotected (Some origin) id token request =
-    own_merged (proxy_options (Some origin)) (request_options request) (found_unprotected (origin.port == 5683) origin) (none_own 0 (request_options request) (request_encrypted request))
-
--- its options are in order, through a proxy too
-pub request_through_order : OrderLaw → (origin : Option HostAndPort) (id : ℕ) (token : List ℕ) (request : Request) → AreInOrder 0 (through origin (plain_request id token request)).options
-request_through_order order None id token request = request_order id token request
-request_through_order order (Some origin) id token request =
-    order 0 (proxy_options (Some origin)) (request_options request) (found_order (origin.port == 5683) origin) (request_order id token request)
-
 -- a post isn't protected, through a proxy either
 pub post_unprotected : (origin : Option HostAndPort) (id : ℕ) (token body : List ℕ) → has_oscore (through origin (post_with id token body)).options ≡ false
 post_unprotected None id token body = refl
@@ -309,10 +184,3 @@ post_unprotected (Some origin) id token body = by (origin.port == 5683)
     by : (default : Bool) → has_oscore (merge (found_by default origin) (post_with id token body).options) ≡ false
     by true = refl
     by false = refl
-
--- ---- what is refused on the way
-
--- what a `?` refuses, where the whole can't fit either
-pub refused : {T E P : Type 0} (r : Result T E) → IsErr r → ¬ P → (IsOk r → P) × (P → IsOk r)
-refused (Ok x) is cannot = absurd (both_ways _ refl is)
-refused (Err e) is cannot = (λ ok. absurd (both_ways _ refl ok), λ p. absurd (cannot p))

@@ -8,7 +8,6 @@ use Rattle.osc_model.specs.declared.step.Step.{Step}
 use Rattle.osc_message.specs.{heard, Receives, AreSendable}
 use Rattle.osc_message.specs.declared.received.Received.{Received}
 use Rattle.osc_ccm.specs.{Sealings, Tags}
-use Rattle.osc_client.specs.Lying.{Lie, Lies}
 use Rattle.osc_client.specs.Sending.{Asked, Asks, Exchanges}
 use Rattle.osc_client.specs.Sending as sending
 use Rattle.osc_client.specs.State.{State}
@@ -41,10 +40,4 @@ module _ (is_sealing : Sealings) where
   pub record Requests (tag : Tags) (old : State) (asked : Asked) (step : Step) (new : State) : Type 0 where
     pub asks : Asks is_sealing tag old asked step new
     pub told : AreTold is_sealing old asked.at None step
-    pub fits : AreSendable step.out
-
-  -- a lie is told, or refused; the client stays as it is
-  pub record TellsLie (tag : Tags) (old : State) (lie : Lie) (draw : Draw) (step : Step) : Type 0 where
-    pub lies : Lies is_sealing tag old lie draw step
-    pub told : (now : Moment) → AreTold is_sealing old now None step
     pub fits : AreSendable step.out

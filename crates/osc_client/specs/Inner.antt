@@ -1,3 +1,4 @@
 -- What private functions owe one another; no public contract rests on it.
+pub mod Around
 pub mod Bounds
 pub mod Opened

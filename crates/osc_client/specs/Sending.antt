@@ -173,6 +173,5 @@ module _ (is_sealing : Sealings) (tag : Tags) where
           notes = record quiet { seals = Some (request_note context.name context.next (plain_bytes (plain_of old asked.draw asked.request))) };
         }
         → new
-        ≡ opened (record old { context = Some (record context { next = context.next + 1 }) }) asked.at asked.draw protected
-        (Ask (record { number = context.next; plaintext = plain_bytes (plain_of old asked.draw asked.request) }))
+        ≡ opened (record old { context = Some (record context { next = context.next + 1 }) }) asked.at asked.draw protected (Ask (record { number = context.next }))
         → Asks old asked step new

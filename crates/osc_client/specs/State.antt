@@ -23,7 +23,7 @@ pub record State : Type 0 where
 -- what waits, as a run knows it: a protected request was sealed under the context that the client has
 abbrev pub outstanding_of : Option ClientContextState → Awaited → Outstanding
 outstanding_of context (Exchange begun) = OpenExchange begun
-outstanding_of (Some context) (Ask ask) = AskOf (record { context = context.name; number = ask.number; plaintext = ask.plaintext })
+outstanding_of (Some context) (Ask ask) = AskOf (record { context = context.name; number = ask.number })
 outstanding_of None (Ask ask) = Nothing
 
 abbrev pub outstanding : Option ClientContextState → Option Waiting → Outstanding

@@ -16,7 +16,7 @@ use crate::waiting::OpenAsk;
 use osc_authz::ClientContext;
 use osc_ccm::Ciphers;
 use osc_coap::MessageBuilder;
-use osc_message::{Buffer, ReplyRoom};
+use osc_message::ReplyRoom;
 use osc_model::{Note, Request};
 use osc_options::laws::a_written_request;
 use osc_protect::{Draft, RequestSize, Room, draft_request, seal_request};
@@ -77,8 +77,6 @@ pub(crate) fn fitting<A: Ciphers>(
 pub(crate) struct AskRoom {
     /// For its seal.
     pub seal: Room,
-    /// For its plaintext, which is kept while it waits.
-    pub plaintext: Buffer,
     /// For the datagram, and for its retransmissions.
     pub datagram: ReplyRoom,
 }
@@ -93,7 +91,6 @@ impl AskRoom {
         requires { context.now.next ≤ greatest_number }
         ensures { IfOk result (λ room. room ≡ record {
           seal = record { name = context.now.name; number = context.now.next; most = size.plaintext };
-          plaintext = size.plaintext;
           datagram = size.message;
         }) }
     {
@@ -102,7 +99,6 @@ impl AskRoom {
         let number = context.sender().next_number();
         Ok(AskRoom {
             seal: Room::new(alloc, context.name(), number, size.plaintext)?,
-            plaintext: Buffer::new(alloc, size.plaintext)?,
             datagram: ReplyRoom::new(alloc, size.message)?,
         })
     }
@@ -133,27 +129,20 @@ pub(crate) fn sealed<A: Ciphers>(
         → IsProtectedRequest A.is_sealing context.old.name context.old.next plain draft.new.message }
     ensures note { (plain : Message) → IsDraft A.TAG context.old.name context.old.next plain draft.old
         → result.note ≡ request_note context.old.name context.old.next (plain_bytes plain) }
-    ensures ask { (plain : Message) → IsDraft A.TAG context.old.name context.old.next plain draft.old
-        → result.ask ≡ record { number = context.old.next; plaintext = plain_bytes plain } }
+    ensures ask { result.ask ≡ record { number = context.old.next } }
     ensures lawful { result.ask.number ≤ greatest_number }
     ensures datagram { length (spelling draft.new.message) ≤ result.datagram }
     ensures next { context.new ≡ record context.old { next = context.old.next + 1 } }
 {
-    let AskRoom {
-        seal,
-        plaintext,
-        datagram,
-    } = room;
+    let AskRoom { seal, datagram } = room;
     let number = context.take_number().unwrap();
-    let taken = number.get();
+    let ask = OpenAsk {
+        number: number.get(),
+    };
     let note = seal_request::<A>(seal, number, draft);
-    let plaintext = plaintext.fill(note.plaintext.as_slice());
     Asked {
         note,
-        ask: OpenAsk {
-            number: taken,
-            plaintext,
-        },
+        ask,
         datagram,
     }
 }

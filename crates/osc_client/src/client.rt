@@ -1,6 +1,7 @@
 //! The client.
 ghost use Rattle.std.specs.Prelude.{◌≡◌, ℕ, ◌≤◌, ◌<◌, ◌↔◌, List, [], ◌∷◌, length, false, true, None, IfOk, IfErr, IfNone, IfSome, IsErr, IsSome, IsTrue, IsFalse, OnOk, OnErr, Some, is_some, option_map};
-ghost use Rattle.osc_coap.specs.{Spells, spelling};
+ghost use Rattle.osc_coap.specs.{Spells, bare, spelling};
+ghost use Rattle.osc_coap.specs.declared.kind.Kind.TheVariants.{Confirmable};
 ghost use Rattle.osc_model.specs.{quiet, sends};
 ghost use Rattle.osc_model.specs.declared.node.Draw.{Draw as AnyDraw};
 ghost use Rattle.osc_model.specs.declared.node.Moment.{Moment as AnyMoment};
@@ -12,7 +13,7 @@ ghost use Rattle.osc_message.specs.declared.handling.Handling.TheVariants as han
 ghost use Rattle.osc_message.specs.declared.heard.Heard.TheVariants as heard;
 ghost use Rattle.osc_message.specs.declared.received.Received.{Received as AnyReceived};
 ghost use Rattle.osc_client.specs.Answering.{CountsInMemory};
-ghost use Rattle.osc_client.specs.Hearing.{Begins, Hears, Requests, TellsLie, Ticks};
+ghost use Rattle.osc_client.specs.Hearing.{Begins, Hears, Requests, Ticks};
 ghost use Rattle.osc_client.specs.Case.{case_of as case_in, counts as counts_of, is_ended as is_ended_of};
 ghost use Rattle.osc_client.specs.Table.{Answers, AnswersNew, Counts, NewTakesMemory, SendsOne, Settles, TakesMemory, refusal as refusal_of};
 ghost use Rattle.osc_run.specs.{ClientStep, IsSkipped};
@@ -21,24 +22,24 @@ ghost use Rattle.osc_protect.specs.{IsDraft};
 ghost use Rattle.osc_client.specs.Sending.{IsFree, IsHindered, PostFits, PostIsTooLong, acts_at, is_over_by, opened, plain_of, restarted};
 ghost use Rattle.osc_client.specs.Inner.Bounds.{AsksFor, IsLawful, NeedsContext, room_for};
 ghost use Rattle.osc_client.specs.Lawful.{IsLawfulClient};
-ghost use Rattle.osc_client.specs.Route.{IsLawfulOrigin};
+ghost use Rattle.osc_client.specs.Route.{IsLawfulOrigin, through};
 
 use crate::Endpoint;
 use crate::answering::{Learnt, learn, outcome_of};
 use crate::asking::{AskRoom, Asked, fitting, sealed};
 use crate::case::{Case, case_of, is_ended};
 use crate::exchanging::{each_post_fits, post_message};
-use crate::lying::{lie_under, outside};
+use crate::proxied::outside_with;
 use crate::refusing::refused;
 use crate::route::{Origin, Route};
 use crate::sending::{acknowledged, refusal};
 use crate::waiting::{Awaited, Waiting};
 use osc_authz::{ClientContext, ClientDesk};
 use osc_ccm::Ciphers;
-use osc_coap::{Kind, MessageBuilder, MessageRef};
+use osc_coap::{Kind, MessageBuilder};
 use osc_context::NUMBER_LIMIT;
 use osc_message::laws::{ticks_at_rest, what_is_heard};
-use osc_message::{Handling, Heard, ReplyRoom, Ticked, noted};
+use osc_message::{Arrival, Handling, Heard, ReplyRoom, Ticked, noted};
 use osc_model::limits::EXCHANGE_LIFETIME;
 use osc_model::{
     ClientResult, Code, Datagrams, Draw, Moment, Peer, Request, Step, StepNotes, refusals,
@@ -140,6 +141,14 @@ impl Client {
         ensures { result ≡ self.now.next_hop }
     {
         self.next_hop
+    }
+
+    /// What stays outside of a protected request of the client (RFC 8613 section 4.2): a confirmable POST with this message ID and this
+    /// token, and with the options by which a proxy finds the server, where there is one.
+    pub fn outside(&self, id: u16, token: &[u8; 8]) -> MessageBuilder
+        ensures { result ≡ through self.now.origin (bare Confirmable 2 id token.now) }
+    {
+        outside_with(&self.origin, id, token)
     }
 
     /// Its security context, if it has one.
@@ -256,30 +265,6 @@ impl Client {
         })
     }
 
-    /// Seals any text at any lawful number in the client's context, as a holder can that keeps no rule, and sends it as a protected
-    /// request to the next hop. Refused by 22 without a context, and by 14 where the datagram would be longer than one may be. The
-    /// client stays as it is: nothing waits for an answer, nothing is sent again, and no number is taken.
-    pub fn lie<A: Ciphers>(
-        &self,
-        alloc: Global,
-        number: u64,
-        text: &[u8],
-        draw: &Draw,
-    ) -> Result<Step, AllocError>
-        requires { number ≤ greatest_number }
-        ensures lied { IfOk result (λ step. TellsLie A.is_sealing A.TAG self.now (record { number = number; text = text.now }) draw.now step) }
-        ensures kind { IfOk result (λ step. ClientStep true (core self.now) step.notes (core self.now)) }
-        ensures needs_memory { IsErr result → IsSome self.now.context }
-    {
-        match &self.context {
-            Some(context) => {
-                let outside = outside(&self.origin, draw);
-                lie_under::<A>(alloc, self.next_hop, context, number, text, &outside)
-            }
-            None => Ok(refused(alloc, refusals::NO_CONTEXT)),
-        }
-    }
-
     /// Writes the request, and takes the memory for it; or answers the number of what hinders it.
     #[inline(never)]
     fn prepared<A: Ciphers>(
@@ -386,7 +371,17 @@ impl Client {
         match heard {
             Heard::Alone(out) => Ok(Step::sending(out)),
             Heard::Empty(kind, id) => Ok(self.settle_empty(alloc, now, from, kind, id)),
-            Heard::Message(message) => self.answer_new::<A>(alloc, now, from, message),
+            Heard::Message(message) => {
+                // No random bytes are used.
+                let draw = Draw([0; 32]);
+                let came = Arrival {
+                    at: now,
+                    from,
+                    draw: &draw,
+                    message,
+                };
+                self.answer_new::<A>(alloc, came)
+            }
         }
     }
 
@@ -394,20 +389,17 @@ impl Client {
     fn answer_new<A: Ciphers>(
         &mut self,
         alloc: Global,
-        now: Moment,
-        from: Peer,
-        message: MessageRef<'_>,
+        came: Arrival<'_>,
     ) -> Result<Step, AllocError>
-        ensures answered { IfOk result (λ step. (draw : AnyDraw) → AnswersNew A.is_sealing self.old (record { at = now; from = from; draw = draw; what = message.entry })
-            (case_in self.old.next_hop from self.old.waiting message.entry) step self.new) }
+        ensures answered { IfOk result (λ step. AnswersNew A.is_sealing self.old came.entry (case_in self.old.next_hop came.entry.from self.old.waiting came.entry.what) step self.new) }
         ensures err { OnErr result (self.new ≡ self.old) }
         ensures fits { IfOk result (λ step. AreSendable step.out) }
-        ensures needs_memory { OnErr result (NewTakesMemory self.old.waiting message.entry (case_in self.old.next_hop from self.old.waiting message.entry)) }
+        ensures needs_memory { OnErr result (NewTakesMemory self.old.waiting came.entry.what (case_in self.old.next_hop came.entry.from self.old.waiting came.entry.what)) }
     {
-        match case_of(self.next_hop, from, &self.waiting, &message) {
-            Case::Refused => self.refuse(alloc, now, from, message),
-            Case::Unused => self.pass_over(alloc, now, from, message),
-            Case::Counted => self.count::<A>(alloc, now, from, message),
+        match case_of(self.next_hop, came.from, &self.waiting, &came.message) {
+            Case::Refused => self.refuse(alloc, came),
+            Case::Unused => self.pass_over(alloc, came),
+            Case::Counted => self.count::<A>(alloc, came),
         }
     }
 
@@ -429,21 +421,21 @@ impl Client {
     }
 
     /// Refuses a request with a critical option that isn't recognised, and notes it for a repeat.
-    fn refuse(
-        &mut self,
-        alloc: Global,
-        now: Moment,
-        from: Peer,
-        message: MessageRef<'_>,
-    ) -> Result<Step, AllocError>
-        ensures sent { IfOk result (λ step. step ≡ sends (datagram from (refusal_of message.entry) ∷ [])) }
-        ensures kept { OnOk result (self.new ≡ record self.old { endpoint = settled self.old.endpoint now from (heard.Message message.entry) (handling.Answered (Some (spelling (refusal_of message.entry)))) }) }
+    fn refuse(&mut self, alloc: Global, came: Arrival<'_>) -> Result<Step, AllocError>
+        ensures sent { IfOk result (λ step. step ≡ sends (datagram came.entry.from (refusal_of came.entry.what) ∷ [])) }
+        ensures kept { OnOk result (self.new ≡ record self.old { endpoint = settled self.old.endpoint came.entry.at came.entry.from (heard.Message came.entry.what) (handling.Answered (Some (spelling (refusal_of came.entry.what)))) }) }
         ensures fits { IfOk result (λ step. AreSendable step.out) }
         ensures err { OnErr result (self.new ≡ self.old) }
     {
+        let Arrival {
+            at,
+            from,
+            message,
+            ..
+        } = came;
         let (out, bytes) = noted(alloc, from, &refusal(&message))?;
         self.endpoint.settle(
-            now,
+            at,
             from,
             &Heard::Message(message),
             Handling::Answered(Some(bytes)),
@@ -453,20 +445,20 @@ impl Client {
 
     /// Rejects a message that the client has no use for, where it is confirmable, and else ignores it; an acknowledgement acknowledges all the
     /// same.
-    fn pass_over(
-        &mut self,
-        alloc: Global,
-        now: Moment,
-        from: Peer,
-        message: MessageRef<'_>,
-    ) -> Result<Step, AllocError>
-        ensures sent { IfOk result (λ step. step ≡ sends (rejection from message.entry.kind message.entry.id)) }
-        ensures kept { OnOk result (self.new ≡ record self.old { endpoint = settled self.old.endpoint now from (heard.Message message.entry) handling.Dropped }) }
+    fn pass_over(&mut self, alloc: Global, came: Arrival<'_>) -> Result<Step, AllocError>
+        ensures sent { IfOk result (λ step. step ≡ sends (rejection came.entry.from came.entry.what.kind came.entry.what.id)) }
+        ensures kept { OnOk result (self.new ≡ record self.old { endpoint = settled self.old.endpoint came.entry.at came.entry.from (heard.Message came.entry.what) handling.Dropped }) }
         ensures fits { IfOk result (λ step. AreSendable step.out) }
         ensures err { OnErr result (self.new ≡ self.old) }
-        ensures needs_memory { OnErr result (is_confirmable message.entry.kind ≡ true) }
+        ensures needs_memory { OnErr result (is_confirmable came.entry.what.kind ≡ true) }
     {
-        let step = self.endpoint.pass_over(alloc, now, from, message)?;
+        let Arrival {
+            at,
+            from,
+            message,
+            ..
+        } = came;
+        let step = self.endpoint.pass_over(alloc, at, from, message)?;
         Ok(step)
     }
 
@@ -474,16 +466,20 @@ impl Client {
     fn count<A: Ciphers>(
         &mut self,
         alloc: Global,
-        now: Moment,
-        from: Peer,
-        message: MessageRef<'_>,
+        came: Arrival<'_>,
     ) -> Result<Step, AllocError>
-        requires { counts_of self.old.next_hop from message self.old.waiting ≡ true }
-        ensures answered { IfOk result (λ step. (draw : AnyDraw) → Counts A.is_sealing self.old (record { at = now; from = from; draw = draw; what = message.entry }) step self.new) }
+        requires { counts_of self.old.next_hop came.from came.what self.old.waiting ≡ true }
+        ensures answered { IfOk result (λ step. Counts A.is_sealing self.old came.entry step self.new) }
         ensures fits { IfOk result (λ step. AreSendable step.out) }
         ensures err { OnErr result (self.new ≡ self.old) }
-        ensures needs_memory { OnErr result (CountsInMemory self.old.waiting message.entry) }
+        ensures needs_memory { OnErr result (CountsInMemory self.old.waiting came.entry.what) }
     {
+        let Arrival {
+            at,
+            from,
+            message,
+            ..
+        } = came;
         let (out, bytes) = acknowledged(alloc, from, &message)?;
         let waiting = self.waiting.take().unwrap();
         let id = waiting.id;
@@ -499,7 +495,7 @@ impl Client {
             Ok(outcome) => {
                 let notes = learn(&mut self.context, outcome);
                 self.endpoint.settle(
-                    now,
+                    at,
                     from,
                     &Heard::Message(message),
                     Handling::Counted(id, bytes),

@@ -8,7 +8,6 @@ mod case;
 mod client;
 mod exchanging;
 pub mod laws;
-mod lying;
 mod node;
 mod proxied;
 mod refusing;

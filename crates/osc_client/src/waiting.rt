@@ -1,22 +1,11 @@
 //! What a client waits for.
 use osc_authz::OpenExchange;
-use osc_model::Bytes;
 
 /// A protected request that waits for its response, under the context that the client has.
+#[derive(Drop)]
 pub struct OpenAsk {
     /// The sender sequence number of the request.
     pub number: u64,
-    /// Its plaintext (RFC 8613 section 5.3).
-    pub plaintext: Bytes,
-}
-
-impl Drop for OpenAsk {
-    fn drop(self) {
-        let OpenAsk {
-            number: _,
-            plaintext: _,
-        } = self;
-    }
 }
 
 /// What the answer is awaited of.

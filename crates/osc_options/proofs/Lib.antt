@@ -10,4 +10,5 @@ pub mod RequestAgainLaws
 pub mod Plaintexts
 pub mod WrittenPlaintextLaws
 pub mod ReplyTextLaws
+pub mod ReplyMessageLaws
 pub mod AroundLaws

@@ -5,7 +5,7 @@ use Rattle.osc_coap.specs.{NumberAndValue, option_spelling, options_spelling, pa
 use Rattle.osc_options.specs.{etag_option, format_option, reply_text}
 
 -- options in two parts are spelled after one another
-options_spelling-append : (before : ℕ) (front back : List NumberAndValue) → options_spelling before (front ++ back) ≡ options_spelling before front ++ options_spelling (last_number before front) back
+pub options_spelling-append : (before : ℕ) (front back : List NumberAndValue) → options_spelling before (front ++ back) ≡ options_spelling before front ++ options_spelling (last_number before front) back
 unfolding options_spelling
 options_spelling-append before [] back = refl
 options_spelling-append before (option ∷ front) back =

@@ -1,5 +1,5 @@
 //! What is encrypted of a reply, written where it is kept (RFC 7252 section 5.10, RFC 8613 section 5.3).
-ghost use Rattle.std.specs.Prelude.{◌≡◌, ◌<◌, ◌≤◌, ◌+◌, ◌-◌, [], ◌++◌, length};
+ghost use Rattle.std.specs.Prelude.{◌≡◌, ◌<◌, ◌≤◌, ◌+◌, ◌-◌, [], ◌++◌, length, IfSome};
 ghost use Rattle.std.specs.Vec.{vec_len, vec_capacity};
 ghost use Rattle.osc_coap.specs.{last_number, payload_of, options_length, payload_length, option_spelling, options_spelling, payload_spelling};
 ghost use Rattle.osc_options.specs.Replies.{etag_option, format_option, uint_bytes as bytes_of};
@@ -34,7 +34,7 @@ fn tag_size(tag: &[u8; 8]) -> usize
 }
 
 /// How many bytes the ETag takes, if there is one; its delta and its length have no extension (RFC 7252 section 3.1).
-fn etag_size(etag: &Option<[u8; 8]>) -> usize
+pub(crate) fn etag_size(etag: &Option<[u8; 8]>) -> usize
     ensures value { result ≡ options_length 0 (etag_option etag.now) }
     ensures few { result ≤ 9 }
 {
@@ -45,7 +45,7 @@ fn etag_size(etag: &Option<[u8; 8]>) -> usize
 }
 
 /// The number of the ETag, if there is one, or 0.
-fn etag_number(etag: &Option<[u8; 8]>) -> u16
+pub(crate) fn etag_number(etag: &Option<[u8; 8]>) -> u16
     ensures value { result ≡ last_number 0 (etag_option etag.now) }
     ensures low { result ≤ 4 }
 {
@@ -57,7 +57,7 @@ fn etag_number(etag: &Option<[u8; 8]>) -> u16
 
 /// How many bytes the Content-Format takes, if there is one, after an option of number `before`; its delta and its length have no
 /// extension.
-fn format_size(before: u16, format: Option<u16>) -> usize
+pub(crate) fn format_size(before: u16, format: Option<u16>) -> usize
     requires { before ≤ 4 }
     ensures value { result ≡ options_length before (format_option format) }
     ensures few { result ≤ 3 }
@@ -69,25 +69,13 @@ fn format_size(before: u16, format: Option<u16>) -> usize
 }
 
 /// How many bytes a payload takes, with its marker.
-fn payload_size(payload: &[u8]) -> usize
+pub(crate) fn payload_size(payload: &[u8]) -> usize
     ensures value { result ≡ payload_length (payload_of payload.now) }
 {
     match payload.len() {
         0 => 0,
         size => 1 + size,
     }
-}
-
-/// How many bytes the plaintext of a reply has.
-#[tactic(auto, unfolding(crate::specs::Texts::reply_text))]
-pub fn reply_text_size(reply: &Reply) -> usize
-    ensures { result ≡ length (reply_text reply.now) }
-{
-    length_of_plaintext();
-    options_in_parts();
-    let etag = etag_size(&reply.etag);
-    let format = format_size(etag_number(&reply.etag), reply.format);
-    1 + etag + format + payload_size(reply.payload.as_slice())
 }
 
 /// Appends an option after one of number `before`, whose delta and length have no extension (RFC 7252 section 3.1); there is room
@@ -109,9 +97,10 @@ fn append_option(text: &mut Vec<u8>, before: u16, number: u16, value: &[u8])
 
 /// Appends the ETag, if there is one; there is room for it.
 #[tactic(auto, unfolding(osc_coap::specs::Message::options_spelling))]
-fn append_etag(text: &mut Vec<u8>, etag: &Option<[u8; 8]>)
+pub(crate) fn append_etag(text: &mut Vec<u8>, etag: &Option<[u8; 8]>)
     requires room { vec_len text.old + options_length 0 (etag_option etag.now) ≤ vec_capacity text.old }
     ensures text { text.new.items ≡ text.old.items ++ options_spelling 0 (etag_option etag.now) }
+    ensures eight { IfSome etag.now (λ tag. length tag ≡ 8) }
     ensures length { vec_len text.new ≡ vec_len text.old + options_length 0 (etag_option etag.now) }
     ensures capacity { vec_capacity text.old ≤ vec_capacity text.new }
 {
@@ -122,7 +111,7 @@ fn append_etag(text: &mut Vec<u8>, etag: &Option<[u8; 8]>)
 
 /// Appends the Content-Format, if there is one, after an option of number `before`; there is room for it.
 #[tactic(auto, unfolding(osc_coap::specs::Message::options_spelling))]
-fn append_format(text: &mut Vec<u8>, before: u16, format: Option<u16>)
+pub(crate) fn append_format(text: &mut Vec<u8>, before: u16, format: Option<u16>)
     requires low { before ≤ 4 }
     requires room { vec_len text.old + options_length before (format_option format) ≤ vec_capacity text.old }
     ensures text { text.new.items ≡ text.old.items ++ options_spelling before (format_option format) }
@@ -136,7 +125,7 @@ fn append_format(text: &mut Vec<u8>, before: u16, format: Option<u16>)
 
 /// Appends the marker and the payload; there is room. No bytes are no payload.
 #[tactic(auto, unfolding(osc_coap::specs::Message::payload_spelling))]
-fn append_payload(text: &mut Vec<u8>, payload: &[u8])
+pub(crate) fn append_payload(text: &mut Vec<u8>, payload: &[u8])
     requires { vec_len text.old + payload_length (payload_of payload.now) ≤ vec_capacity text.old }
     ensures { text.new.items ≡ text.old.items ++ payload_spelling (payload_of payload.now) }
 {

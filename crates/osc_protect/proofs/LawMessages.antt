@@ -42,8 +42,10 @@ module _ (is_sealing : Sealings) (tag : Tags)
       let says : IsRequest p request = record {
         bytes = request_value name number;
         option = ap (λ (q : Message). value 9 q.options) made.whole ∙ option_nine m 2 (request_value name number) made.sealed;
-        spelled = record { lawful = record { number = fits; kid_context = context_fits name.id_context short }; whole = refl };
-        payload = ap (λ (q : Message). q.payload) made.whole ∙ payload_written made.sealed some;
+        says = record {
+          spelled = record { lawful = record { number = fits; kid_context = context_fits name.id_context short }; whole = refl };
+          payload = ap (λ (q : Message). q.payload) made.whole ∙ payload_written made.sealed some;
+        };
       } in
       (request, says, refl, record { kid = refl; kid_context = λ bytes same. same }, made.is_sealed, λ text opens. one_text (algorithm_of name) _ _ _ _ _ _ opens made.is_sealed)
 

@@ -1,5 +1,5 @@
 -- What goes outside of a sealed reply: a message of one empty option.
-use Rattle.std.proofs.Common.{◌≡◌, ℕ, ◌+◌, List, [], length, refl, sym, ap, ◌∙◌}
+use Rattle.std.proofs.Common.{◌≡◌, ℕ, ◌+◌, List, [], length, sym, ap, ◌∙◌}
 use Rattle.osc_coap.specs.declared.kind.Kind.{Kind}
 use Rattle.osc_coap.specs.{bare, last_number, option_length, spelling, with_option}
 use Rattle.osc_coap.specs.Message.{Message}

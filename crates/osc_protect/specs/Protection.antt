@@ -125,11 +125,15 @@ pub record SealedRequest : Type 0 where
   pub kid_context : Option (List ℕ)
   pub sealed : List ℕ
 
+-- this value of option 9, and the payload of this message
+pub record SaysRequest (bytes : List ℕ) (m : Message) (request : SealedRequest) : Type 0 where
+  pub spelled : SpellsValue bytes (record { partial_iv = Some request.number; kid_context = request.kid_context; kid = Some request.kid })
+  pub payload : m.payload ≡ Some request.sealed
+
 pub record IsRequest (m : Message) (request : SealedRequest) : Type 0 where
   pub bytes : List ℕ
   pub option : value oscore m.options ≡ Some bytes
-  pub spelled : SpellsValue bytes (record { partial_iv = Some request.number; kid_context = request.kid_context; kid = Some request.kid })
-  pub payload : m.payload ≡ Some request.sealed
+  pub says : SaysRequest bytes m request
 
 -- it names this context: by the client's ID, and by the id context where it has a kid context
 pub record IsFor (name : ContextName) (request : SealedRequest) : Type 0 where

@@ -74,11 +74,12 @@ fn enc_structure(name: &ContextName, number: u64) -> ArrayVec<u8, AAD_LENGTH>
     out
 }
 
-/// The cipher's associated data; takes no memory.
-pub(crate) fn associated_data(name: &ContextName, number: u64) -> AssociatedData
+/// The cipher's associated data, of a request with this number and of the responses to it; takes no memory.
+pub fn associated_data(name: &ContextName, number: u64) -> AssociatedData
     requires id { length name.now.client_id ≤ longest_id }
     requires number { number ≤ greatest_number }
-    ensures { result ≡ aad_of name.now number }
+    ensures value { result ≡ aad_of name.now number }
+    ensures short { length result ≤ AAD_LENGTH }
 {
     let bytes = enc_structure(name, number);
     AssociatedData::from_slice(bytes.as_slice())

@@ -85,19 +85,3 @@ impl ReplyTooLong {
         refusals::DATAGRAM_TOO_LONG
     }
 }
-
-/// The request in which the text is sealed would be longer than a datagram may be: the room is handed back.
-#[derive(Debug, Drop)]
-pub struct TextTooLong {
-    /// The room, as it was.
-    pub room: Room,
-}
-
-impl TextTooLong {
-    /// The number by which programs name the refusal.
-    pub fn number(&self) -> u8
-        ensures { result ≡ refusal.datagram_too_long }
-    {
-        refusals::DATAGRAM_TOO_LONG
-    }
-}

@@ -19,13 +19,12 @@ mod sealing;
 mod token_cipher;
 mod value;
 
-pub use error::{
-    Malformed, MessageTooLong, ReplyTooLong, RequestNotGenuine, ResponseNotGenuine, TextTooLong,
-};
+pub use aad::associated_data;
+pub use error::{Malformed, MessageTooLong, ReplyTooLong, RequestNotGenuine, ResponseNotGenuine};
 pub use header::Header;
 pub use request::{
-    Draft, ProtectedRequest, RequestSize, UncountedRequest, draft_request, open_request,
-    protect_request, protect_uncounted, request_size, seal_request,
+    Draft, ProtectedRequest, RequestSize, draft_request, fits, open_request, protect_request,
+    seal_request,
 };
 pub use response::{
     ProtectedResponse, SealedReply, open_response, protect_reply, protect_response, seal_reply,
@@ -33,4 +32,4 @@ pub use response::{
 pub use room::Room;
 pub use sealed::{SealedRequestRef, SealedResponseRef, read_request, read_response};
 pub use token_cipher::TokenCipher;
-pub use value::OscoreOption;
+pub use value::{OscoreOption, request_option};

@@ -1,6 +1,6 @@
 //! Protected requests (RFC 8613 sections 8.1 and 8.2).
 
-ghost use Rattle.std.specs.Prelude.{◌≡◌, ◌≤◌, ◌<◌, ◌⊎◌, ◌↔◌, ◌+◌, ℕ, List, [], None, length, replicate, IsOk, IsErr, IsSome, IfOk, IfErr, IfSome};
+ghost use Rattle.std.specs.Prelude.{◌≡◌, ◌≤◌, ◌<◌, ◌⊎◌, ◌↔◌, ◌+◌, ℕ, List, [], None, length, replicate, IsOk, IsErr, IsSome, IsTrue, IfOk, IfErr, IfSome};
 ghost use Rattle.osc_coap.specs.{bare, bare_plaintext, spelling, plaintext_spelling, with_payload};
 ghost use Rattle.osc_coap.specs.declared.kind.Kind.TheVariants.{Confirmable};
 ghost use Rattle.osc_coap.specs.Message.{Message};
@@ -10,19 +10,19 @@ ghost use Rattle.osc_context.specs.{algorithm_of, key_of, taken_of, sender_of, r
 ghost use Rattle.osc_protect.specs.Aad.{aad_of};
 ghost use Rattle.osc_protect.specs.Protection.{HasShortContext, HasRoomFor, longest_message, plain_bytes, request_nonce, note_of, request_with, IsDraft, IsRequestOf, IsProtectedRequest, IsGenuine, length_of_request, request_length, IsFor};
 
-use crate::error::{MessageTooLong, RequestNotGenuine, TextTooLong};
+use crate::error::{MessageTooLong, RequestNotGenuine};
 use crate::opening::{KeyUse, open};
 use crate::room::Room;
 use crate::sealed::SealedRequestRef;
-use crate::sealing::{seal, size_with, split, write_outer};
+use crate::sealing::{seal_draft, size_with, write_outer};
 use crate::value::request_option;
 use osc_ccm::Ciphers;
 use osc_coap::laws::length_of_growing;
-use osc_coap::{DATAGRAM_LIMIT, Kind, MessageBuilder, MessageRef, PlaintextBuilder};
-use osc_context::{RecipientContext, SendNumber, SenderContext, nonce_for};
-use osc_model::{Algorithm, ContextName, Note, Request, SharedName, Side};
+use osc_coap::{Kind, MessageBuilder, MessageRef, PlaintextBuilder};
+use osc_context::{RecipientContext, SendNumber, nonce_for};
+use osc_model::{ContextName, Note, Request, SharedName, Side};
 use osc_options::laws::a_written_request;
-use osc_options::write_request;
+use osc_options::{plaintext_of, write_request};
 use std::alloc::{AllocError, Global};
 
 /// The code of a protected request, POST (RFC 8613 section 4.2).
@@ -46,28 +46,15 @@ pub struct RequestSize {
     pub message: usize,
 }
 
-/// How many bytes the message has, protected as a request with this number: `None` exactly where they are more than a datagram
-/// may have. Takes no memory.
-pub fn request_size<A: Ciphers>(
-    name: &ContextName,
-    number: u64,
-    message: &MessageRef<'_>,
-) -> Option<RequestSize>
+/// Whether the message fits a datagram, protected as a request with this number. Takes no memory.
+pub fn fits<A: Ciphers>(name: &ContextName, number: u64, message: &MessageRef<'_>) -> bool
     requires number { number ≤ greatest_number }
     requires short { HasShortContext name.now }
     requires id { length name.now.client_id ≤ longest_id }
-    ensures size { IfSome result (λ size. size
-        ≡ record { plaintext = length (plain_bytes message.now); message = request_length A.TAG name.now number message.now }) }
-    ensures fits { IsSome result ↔ (request_length A.TAG name.now number message.now ≤ longest_message) }
+    ensures { IsTrue result ↔ (request_length A.TAG name.now number message.now ≤ longest_message) }
 {
-    let value = request_option(name, number);
-    let algorithm = osc_context::algorithm_of(name);
-    let (outer, plaintext) = split::<A>(algorithm, message, OUTER_CODE, value.as_slice())?;
-    let plaintext = plaintext.bytes().len();
-    Some(RequestSize {
-        plaintext,
-        message: size_with(&outer, plaintext + A::tag(algorithm)),
-    })
+    let mut draft = Draft::new();
+    draft_message::<A>(name, number, message, &mut draft).is_some()
 }
 
 /// Protects a request of the client: its class E options and payload are sealed, its class U options stay outside. An
@@ -92,21 +79,18 @@ pub fn protect_request<A: Ciphers>(
     ensures fits { IsOk result ↔ (request_length A.TAG room.name number.number message.now ≤ longest_message) }
     ensures err { IfErr result (λ refused. (refused.room ≡ room) × (refused.number ≡ number)) }
 {
-    let nonce = nonce_for(number.common_iv(), number.id(), number.get());
-    let value = request_option(room.name(), number.get());
-    let Some((outer, plaintext)) = split::<A>(
-        room.algorithm(),
-        message,
-        OUTER_CODE,
-        value.as_slice(),
-    ) else {
+    length_of_growing();
+    // For the proof alone: the call tells how long the ID is.
+    let _id = number.id();
+    let mut draft = Draft::new();
+    let Some(_) = draft_message::<A>(room.name(), number.get(), message, &mut draft) else {
         return Err(MessageTooLong { room, number });
     };
-    let note = room.note(Side::Client, nonce, plaintext.bytes());
-    let mut message = outer;
-    seal::<A>(&mut message, number.key(), &note);
-    number.spend();
-    Ok(ProtectedRequest { message, note })
+    let note = seal_request::<A>(room, number, &mut draft);
+    Ok(ProtectedRequest {
+        message: draft.into_message(),
+        note,
+    })
 }
 
 /// A request before it is sealed. It is written where it stays, and sealed there: a message and a plaintext have 1152 bytes each.
@@ -127,6 +111,17 @@ impl Draft {
             message: MessageBuilder::start(Kind::Confirmable, 0, 0, &[]),
             plaintext: PlaintextBuilder::start(0),
         }
+    }
+
+    /// The message.
+    pub(crate) fn into_message(self) -> MessageBuilder
+        ensures { result ≡ self.message }
+    {
+        let Draft {
+            message,
+            plaintext: _,
+        } = self;
+        message
     }
 }
 
@@ -156,6 +151,29 @@ pub fn draft_request<A: Ciphers>(
     let _token = outside.token();
     match write_request(&mut draft.plaintext, request) {
         Ok(()) => draft_outer::<A>(name, number, outside, draft),
+        Err(_) => None,
+    }
+}
+
+/// The same of a message that is there, as it is sealed and as it stays outside.
+fn draft_message<A: Ciphers>(
+    name: &ContextName,
+    number: u64,
+    message: &MessageRef<'_>,
+    draft: &mut Draft,
+) -> Option<RequestSize>
+    requires number { number ≤ greatest_number }
+    requires short { HasShortContext name.now }
+    requires id { length name.now.client_id ≤ longest_id }
+    ensures drafted { IsSome result → IsDraft A.TAG name.now number message.now draft.new }
+    ensures fits { IsSome result ↔ (request_length A.TAG name.now number message.now ≤ longest_message) }
+{
+    length_of_growing();
+    match plaintext_of(message) {
+        Ok(plaintext) => {
+            draft.plaintext = plaintext;
+            draft_outer::<A>(name, number, message, draft)
+        }
         Err(_) => None,
     }
 }
@@ -232,92 +250,9 @@ fn seal_text<A: Ciphers>(room: Room, number: SendNumber, draft: &mut Draft) -> N
         (replicate (length (plaintext_spelling draft.old.plaintext) + A.TAG (algorithm_of room.name)) 0))) }
 {
     let nonce = nonce_for(number.common_iv(), number.id(), number.get());
-    let note = room.note(Side::Client, nonce, draft.plaintext.bytes());
-    seal::<A>(&mut draft.message, number.key(), &note);
+    let note = seal_draft::<A>(room, Side::Client, nonce, number.key(), draft);
     number.spend();
     note
-}
-
-/// A request under a number that nobody took for it: it spends none, so its nonce may be another request's as well.
-#[derive(Debug, Drop)]
-pub struct UncountedRequest {
-    /// The message to send.
-    pub message: MessageBuilder,
-    /// What was sealed, and under which name, number and nonce.
-    pub note: Note,
-}
-
-/// Seals any text as a request of the client under any number, for which the room is, as a holder can that keeps no rule: kind,
-/// message ID, token and class U options are the message's, its code, its class E options and its payload are left out. No number is
-/// spent.
-/// Takes no memory.
-///
-/// # Errors
-///
-/// Exactly where the request is longer than a datagram may be; the room is handed back.
-pub fn protect_uncounted<A: Ciphers>(
-    room: Room,
-    sender: &SenderContext,
-    number: u64,
-    message: &MessageRef<'_>,
-    text: &[u8],
-) -> Result<UncountedRequest, TextTooLong>
-    requires sender { sender.now ≡ sender_of room.name Client sender.now.next }
-    requires number { number ≤ greatest_number }
-    requires about { room.number ≡ number }
-    requires short { HasShortContext room.name }
-    requires room { HasRoomFor text.now room.most }
-    ensures protected { IfOk result (λ made. IsRequestOf A.is_sealing text.now room.name number message.now made.message) }
-    ensures noted { IfOk result (λ made. made.note ≡ note_of room.name Client number (request_nonce room.name number) text.now) }
-    ensures fits { IsOk result ↔ (length_of_request (length text.now + A.TAG (algorithm_of room.name)) room.name number message.now ≤ longest_message) }
-    ensures err { IfErr result (λ refused. refused.room ≡ room) }
-{
-    let nonce = nonce_for(sender.common_iv(), sender.id(), number);
-    let value = request_option(room.name(), number);
-    let Some(mut outer) = outer_of_text::<A>(
-        room.algorithm(),
-        message,
-        value.as_slice(),
-        text.len(),
-    ) else {
-        return Err(TextTooLong { room });
-    };
-    let note = room.note(Side::Client, nonce, text);
-    seal::<A>(&mut outer, sender.key(), &note);
-    Ok(UncountedRequest {
-        message: outer,
-        note,
-    })
-}
-
-/// The message of a request with this option value, still without its payload; `None` exactly where it is longer than a
-/// datagram may be with a text of so many bytes sealed in it.
-fn outer_of_text<A: Ciphers>(
-    algorithm: Algorithm,
-    message: &MessageRef<'_>,
-    value: &[u8],
-    size: usize,
-) -> Option<MessageBuilder>
-    ensures outer { IfSome result (λ outer. outer ≡ protected message.now 2 value.now []) }
-    ensures short { IsSome result → size ≤ longest_message }
-    ensures fits { IsSome result
-        ↔ (length (spelling (protected message.now 2 value.now (replicate (size + A.TAG algorithm) 0))) ≤ longest_message) }
-{
-    length_of_growing();
-    if size > DATAGRAM_LIMIT {
-        return None;
-    }
-    let mut outer = MessageBuilder::start(message.kind(), 0, 0, &[]);
-    match write_outer(
-        &mut outer,
-        message,
-        OUTER_CODE,
-        value,
-        size + A::tag(algorithm),
-    ) {
-        Ok(()) => Some(outer),
-        Err(_) => None,
-    }
 }
 
 /// Opens a protected request at the server, under the context of this name, and answers the note of the opening, whose plaintext

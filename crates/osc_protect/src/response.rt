@@ -1,29 +1,31 @@
 //! Protected responses (RFC 8613 sections 8.3 and 8.4).
 
-ghost use Rattle.std.specs.Prelude.{◌≡◌, ◌≤◌, ◌<◌, ◌⊎◌, ◌↔◌, ◌+◌, ℕ, List, [], Some, None, length, replicate, IfSome, IsOk, IsErr, IfOk, IfErr};
+ghost use Rattle.std.specs.Prelude.{◌≡◌, ◌≤◌, ◌<◌, ◌⊎◌, ◌↔◌, ◌+◌, ℕ, List, [], Some, None, length, replicate, IfSome, IsOk, IsErr, IsTrue, IfOk, IfErr};
 ghost use Rattle.std.specs.Vec.{vec_len, vec_capacity};
-ghost use Rattle.osc_coap.specs.{spelling, Spells};
+ghost use Rattle.osc_coap.specs.{spelling, plaintext_spelling, Spells};
 ghost use Rattle.osc_coap.specs.Message.{Message};
 ghost use Rattle.osc_model.specs.declared.context.Side.TheVariants.{Client, Server};
 ghost use Rattle.osc_context.specs.{algorithm_of, key_of, accepted_of, taken_of, sender_of, recipient_of, longest_id, greatest_number};
 ghost use Rattle.osc_options.specs.{reply_text};
 ghost use Rattle.osc_protect.specs.Aad.{aad_of};
 ghost use Rattle.osc_protect.specs.Inner.Outside.{IsSealedOutside, outer_response};
-ghost use Rattle.osc_protect.specs.Protection.{HasRoomFor, longest_message, plain_bytes, request_nonce, response_nonce, note_of, IsGenuine, IsProtectedResponse, reply_with_header, response_length};
+ghost use Rattle.osc_protect.specs.Protection.{HasRoomFor, longest_message, plain_bytes, request_nonce, response_nonce, note_of, IsGenuine, IsProtectedResponse, reply_with_header, response_length, response_with};
 
 use crate::error::{MessageTooLong, ReplyTooLong, ResponseNotGenuine};
 use crate::header::{Header, OUTER_CODE, write_response_start};
 use crate::opening::{KeyUse, open};
+use crate::request::Draft;
 use crate::room::Room;
 use crate::sealed::SealedResponseRef;
-use crate::sealing::{seal, seal_into, split};
+use crate::sealing::{seal_draft, seal_into, write_outer};
 use crate::value::response_option;
 use osc_ccm::Ciphers;
 use osc_coap::laws::{growing, length_of_growing, spelling_of_growing};
 use osc_coap::{MessageBuilder, MessageRef};
 use osc_context::{AcceptedNumber, RecipientContext, SendNumber, SenderContext, nonce_for};
-use osc_model::{Bytes, ContextName, Note, Reply, SharedName, Side};
+use osc_model::{Algorithm, Bytes, ContextName, Note, Reply, SharedName, Side};
 use osc_options::laws::a_written_reply;
+use osc_options::plaintext_of;
 use std::alloc::{AllocError, Global};
 
 /// A protected response, and the note of its seal.
@@ -33,6 +35,37 @@ pub struct ProtectedResponse {
     pub message: MessageBuilder,
     /// What was sealed, and under which name, request number and nonce.
     pub note: Note,
+}
+
+/// Writes a message as it is sealed with a tag of this algorithm, and as it stays outside of a response with this Partial IV of its own,
+/// or with none. Answers whether both fit a datagram; else the draft is any.
+fn draft_response<A: Ciphers>(
+    algorithm: Algorithm,
+    own: Option<u64>,
+    message: &MessageRef<'_>,
+    draft: &mut Draft,
+) -> bool
+    requires own { IfSome own (λ n. n ≤ greatest_number) }
+    ensures outer { IsTrue result → draft.new.message ≡ response_with own message.now [] }
+    ensures inner { IsTrue result → plaintext_spelling draft.new.plaintext ≡ plain_bytes message.now }
+    ensures short { IsTrue result → length (plain_bytes message.now) ≤ longest_message }
+    ensures fits { IsTrue result ↔ (response_length (A.TAG algorithm) own message.now ≤ longest_message) }
+{
+    length_of_growing();
+    let Ok(plaintext) = plaintext_of(message) else {
+        return false;
+    };
+    draft.plaintext = plaintext;
+    let value = response_option(own);
+    let size = draft.plaintext.bytes().len() + A::tag(algorithm);
+    write_outer(
+        &mut draft.message,
+        message,
+        OUTER_CODE,
+        value.as_slice(),
+        size,
+    )
+    .is_ok()
 }
 
 /// Protects the server's reply under the nonce of the request that it answers, with an empty option value. The right to it is
@@ -58,20 +91,16 @@ pub fn protect_reply<A: Ciphers>(
     ensures err { IfErr result (λ refused. (refused.room ≡ room) × (refused.number ≡ number)) }
 {
     let nonce = nonce_for(number.common_iv(), number.id(), number.get());
-    let value = response_option(None);
-    let Some((outer, plaintext)) = split::<A>(
-        room.algorithm(),
-        message,
-        OUTER_CODE,
-        value.as_slice(),
-    ) else {
+    let mut draft = Draft::new();
+    if !draft_response::<A>(room.algorithm(), None, message, &mut draft) {
         return Err(ReplyTooLong { room, number });
-    };
-    let note = room.note(Side::Server, nonce, plaintext.bytes());
-    let mut message = outer;
-    seal::<A>(&mut message, sender.key(), &note);
+    }
+    let note = seal_draft::<A>(room, Side::Server, nonce, sender.key(), &mut draft);
     number.spend();
-    Ok(ProtectedResponse { message, note })
+    Ok(ProtectedResponse {
+        message: draft.into_message(),
+        note,
+    })
 }
 
 /// A protected reply, and the note of its seal.
@@ -172,22 +201,18 @@ pub fn protect_response<A: Ciphers>(
     ensures fits { IsOk result ↔ (response_length (A.TAG (algorithm_of room.name)) (Some number.number) message.now ≤ longest_message) }
     ensures err { IfErr result (λ refused. (refused.room ≡ room) × (refused.number ≡ number)) }
 {
-    let id = number.id();
-    let nonce = nonce_for(number.common_iv(), id, number.get());
-    let value = response_option(Some(number.get()));
-    let Some((outer, plaintext)) = split::<A>(
-        room.algorithm(),
-        message,
-        OUTER_CODE,
-        value.as_slice(),
-    ) else {
+    let own = number.get();
+    let nonce = nonce_for(number.common_iv(), number.id(), own);
+    let mut draft = Draft::new();
+    if !draft_response::<A>(room.algorithm(), Some(own), message, &mut draft) {
         return Err(MessageTooLong { room, number });
-    };
-    let note = room.note(Side::Server, nonce, plaintext.bytes());
-    let mut message = outer;
-    seal::<A>(&mut message, number.key(), &note);
+    }
+    let note = seal_draft::<A>(room, Side::Server, nonce, number.key(), &mut draft);
     number.spend();
-    Ok(ProtectedResponse { message, note })
+    Ok(ProtectedResponse {
+        message: draft.into_message(),
+        note,
+    })
 }
 
 /// The nonce of a response: the request's, whose Partial IV is the client's, or that of its own Partial IV, which is the

@@ -3,12 +3,13 @@
 ghost use Rattle.std.specs.Prelude.{◌≡◌, ◌↔◌, ◌≤◌, Ok, Some, IfOk, IfSome, IsTrue, option_copied};
 ghost use Rattle.osc_context.specs.{greatest_number};
 ghost use Rattle.osc_options.specs.{value as value_in};
-ghost use Rattle.osc_protect.specs.Protection.{SealedRequest, IsRequest, IsFor, SealedResponse, IsResponse};
+ghost use Rattle.osc_protect.specs.Protection.{SealedRequest, SaysRequest, IsFor, SealedResponse, IsResponse};
 
 use crate::error::Malformed;
 use crate::value::OscoreOption;
 use osc_coap::MessageRef;
 use osc_model::{Bytes, ContextName};
+use osc_options::OscoreValue;
 use osc_options::numbers::OSCORE;
 use std::marker::Model;
 
@@ -69,27 +70,30 @@ fn oscore_value<'a>(message: &MessageRef<'a>) -> Option<&'a [u8]>
     None
 }
 
-/// Reads a protected request: option 9, in which there are a Partial IV and a kid, and the payload.
+/// Reads a protected request, of which the value of option 9 was found: a Partial IV and a kid are in it, and there is a payload.
 ///
 /// # Errors
 ///
 /// Exactly where the message is none.
-pub fn read_request<'a>(message: &MessageRef<'a>) -> Result<SealedRequestRef<'a>, Malformed>
-    ensures found { IfOk result (λ request. IsRequest message.now request) }
-    ensures only { (request : SealedRequest) → IsRequest message.now request → result ≡ Ok request }
+pub fn read_request<'a>(
+    value: &OscoreValue<'a>,
+    message: &MessageRef<'a>,
+) -> Result<SealedRequestRef<'a>, Malformed>
+    ensures found { IfOk result (λ request. SaysRequest value.now message.now request) }
+    ensures only { (request : SealedRequest) → SaysRequest value.now message.now request → result ≡ Ok request }
 {
-    match found_request(message) {
+    match found_request(value.bytes(), message) {
         Some(request) => Ok(request),
         None => Err(Malformed),
     }
 }
 
-/// What the message says, if it is a protected request.
-fn found_request<'a>(message: &MessageRef<'a>) -> Option<SealedRequestRef<'a>>
-    ensures found { IfSome result (λ request. IsRequest message.now request) }
-    ensures only { (request : SealedRequest) → IsRequest message.now request → result ≡ Some request }
+/// What the message says by this value of option 9, if it is a protected request.
+fn found_request<'a>(value: &'a [u8], message: &MessageRef<'a>) -> Option<SealedRequestRef<'a>>
+    ensures found { IfSome result (λ request. SaysRequest value.now message.now request) }
+    ensures only { (request : SealedRequest) → SaysRequest value.now message.now request → result ≡ Some request }
 {
-    let option = OscoreOption::parse(oscore_value(message)?)?;
+    let option = OscoreOption::parse(value)?;
     let number = option.partial_iv()?;
     let kid = option.kid()?;
     let sealed = message.payload()?;

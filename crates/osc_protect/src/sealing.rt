@@ -1,21 +1,22 @@
 //! What requests and responses share: the message that is sent in place of one, and its seal.
 
-ghost use Rattle.std.specs.Prelude.{◌≡◌, ◌↔◌, ◌+◌, ◌≤◌, ◌<◌, ◌++◌, ℕ, List, [], None, length, replicate, IsOk, IsSome, IfSome, OnOk};
+ghost use Rattle.std.specs.Prelude.{◌≡◌, ◌↔◌, ◌+◌, ◌≤◌, ◌<◌, ◌++◌, ℕ, List, [], None, length, replicate, IsOk, OnOk};
 ghost use Rattle.std.specs.Vec.{vec_len, vec_capacity};
-ghost use Rattle.osc_coap.specs.{spelling, payload_of, payload_spelling, with_payload, payload_length};
-ghost use Rattle.osc_options.specs.{protected, plaintext_of as plaintext_in};
+ghost use Rattle.osc_coap.specs.{spelling, plaintext_spelling, payload_of, payload_spelling, with_payload, payload_length};
+ghost use Rattle.osc_options.specs.{protected};
 ghost use Rattle.osc_context.specs.{algorithm_of, longest_id};
 ghost use Rattle.osc_protect.specs.Aad.{aad_of};
-ghost use Rattle.osc_protect.specs.Protection.{plain_bytes, longest_message};
+ghost use Rattle.osc_protect.specs.Protection.{longest_message, note_of};
 
+use crate::request::Draft;
+use crate::room::Room;
 use osc_ccm::Ciphers;
 use osc_coap::laws::length_of_growing;
 use osc_coap::{
-    DATAGRAM_LIMIT, DatagramTooLong, MessageBuilder, MessageRef, PayloadWriter, PlaintextBuilder,
-    append_payload,
+    DATAGRAM_LIMIT, DatagramTooLong, MessageBuilder, MessageRef, PayloadWriter, append_payload,
 };
-use osc_model::{Algorithm, Note};
-use osc_options::{plaintext_of, write_protected};
+use osc_model::{Algorithm, Note, Side};
+use osc_options::write_protected;
 use std::marker::PhantomData;
 
 /// How many bytes a payload of this size takes, with its marker.
@@ -61,33 +62,30 @@ pub(crate) fn write_outer(
     Ok(())
 }
 
-/// The message with this code and option value, still without its payload, and what is sealed of it; `None` exactly where the
-/// protected message is longer than a datagram may be, with the tag of this algorithm.
-#[inline(never)]
-pub(crate) fn split<A: Ciphers>(
-    algorithm: Algorithm,
-    message: &MessageRef<'_>,
-    code: u8,
-    value: &[u8],
-) -> Option<(MessageBuilder, PlaintextBuilder)>
-    requires code { 0 < code }
-    ensures outer { IfSome result (λ parts. parts.0 ≡ protected message.now code value.now []) }
-    ensures inner { IfSome result (λ parts. parts.1 ≡ plaintext_in message.now) }
-    ensures short { IsSome result → length (plain_bytes message.now) ≤ longest_message }
-    ensures fits { IsSome result
-        ↔ (length (spelling (protected message.now code value.now (replicate (length (plain_bytes message.now) + A.TAG algorithm) 0)))
-        ≤ longest_message) }
+/// Seals the plaintext of a draft as the payload of its message, and notes that. Takes no memory.
+pub(crate) fn seal_draft<A: Ciphers>(
+    room: Room,
+    side: Side,
+    nonce: [u8; 13],
+    key: &[u8; 16],
+    draft: &mut Draft,
+) -> Note
+    requires id { length room.name.client_id ≤ longest_id }
+    requires code { 0 < draft.old.message.code }
+    requires payload { draft.old.message.payload ≡ None }
+    requires room { length (plaintext_spelling draft.old.plaintext) ≤ room.most }
+    requires fits { length (spelling (with_payload draft.old.message
+        (replicate (length (plaintext_spelling draft.old.plaintext) + A.TAG (algorithm_of room.name)) 0))) ≤ longest_message }
+    ensures sealed { (sealed : List ℕ)
+        × A.is_sealing (algorithm_of room.name) key.now nonce (aad_of room.name room.number) (plaintext_spelling draft.old.plaintext) sealed
+        × (draft.new.message ≡ with_payload draft.old.message sealed) }
+    ensures noted { result ≡ note_of room.name side room.number nonce (plaintext_spelling draft.old.plaintext) }
+    ensures size { length (spelling draft.new.message) ≡ length (spelling (with_payload draft.old.message
+        (replicate (length (plaintext_spelling draft.old.plaintext) + A.TAG (algorithm_of room.name)) 0))) }
 {
-    length_of_growing();
-    let Ok(plaintext) = plaintext_of(message) else {
-        return None;
-    };
-    let size = plaintext.bytes().len() + A::tag(algorithm);
-    let mut outer = MessageBuilder::start(message.kind(), 0, 0, &[]);
-    match write_outer(&mut outer, message, code, value, size) {
-        Ok(()) => Some((outer, plaintext)),
-        Err(_) => None,
-    }
+    let note = room.note(side, nonce, draft.plaintext.bytes());
+    seal::<A>(&mut draft.message, key, &note);
+    note
 }
 
 /// The sealing of a text, which is written as a payload where it is sent from.

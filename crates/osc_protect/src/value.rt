@@ -189,7 +189,7 @@ fn append(out: &mut ArrayVec<u8, OPTION_LIMIT>, bytes: &[u8])
 }
 
 /// The value of a request's option: Partial IV, kid, and the id context where there is one.
-pub(crate) fn request_option(name: &ContextName, number: u64) -> ArrayVec<u8, OPTION_LIMIT>
+pub fn request_option(name: &ContextName, number: u64) -> ArrayVec<u8, OPTION_LIMIT>
     requires number { number ≤ greatest_number }
     requires short { HasShortContext name.now }
     requires id { length name.now.client_id ≤ longest_id }

@@ -1,5 +1,5 @@
 -- A response answers the exchange whose key its token begins with.
-use Rattle.std.proofs.Common.{◌≡◌, ℕ, true, false, ◌∷◌, ◌&&◌, bytes_eq, refl, ap, sym, ◌∙◌, Option, Some, None}
+use Rattle.std.proofs.Common.{◌≡◌, ℕ, true, false, List, [], ◌∷◌, ◌&&◌, bytes_eq, get_or, drop, length, ◌<◌, ◌≤◌, arith, refl, ap, sym, ◌∙◌, Option, Some, None}
 use Rattle.std.proofs.lemmas.Bool.{and_parts}
 use Rattle.std.proofs.lemmas.Slice.Eq.{bytes_eq-Decides}
 use Rattle.osc_coap.specs.Message.{Message}
@@ -32,3 +32,40 @@ found_by_own table from message key exchange own is passes = by (first_key (answ
         sym its.1 ∙ token_is from message there.exchange there.passes ∙ sym (token_is from message exchange passes) ∙ mine.1 in
         let same : other ≡ key = cc in
         e ∙ ap Some same
+
+-- where no exchange of the key with which the token begins is answered, none is
+pub none_elsewhere : (table : Table) (from : Peer) (message : Message) (key : ℕ) (rest : List ℕ) → HasOwnTokens table → message.token ≡ key ∷ rest
+    → ((exchange : Exchange) → get table key ≡ Some exchange → answers from message exchange ≡ false) → first_key (answers from message) table ≡ None
+none_elsewhere table from message key rest own token none = by (first_key (answers from message) table) refl
+  where
+    by : (found : Option ℕ) → first_key (answers from message) table ≡ found → first_key (answers from message) table ≡ None
+    by None e = e
+    by (Some other) e =
+        let there = first_is_there (answers from message) table other e in
+        let its = own other there.exchange there.is in
+        let tokens : other ∷ its.0 ≡ key ∷ rest = sym its.1 ∙ token_is from message there.exchange there.passes ∙ token in
+        let same : key ≡ other = cc in
+        let wrong : true ≡ false = sym there.passes ∙ none there.exchange (ap (get table) same ∙ there.is) in
+        absurd (cc)
+
+-- no exchange is answered by a response without a token
+pub none_without : (table : Table) (from : Peer) (message : Message) → HasOwnTokens table → message.token ≡ [] → first_key (answers from message) table ≡ None
+none_without table from message own token = by (first_key (answers from message) table) refl
+  where
+    by : (found : Option ℕ) → first_key (answers from message) table ≡ found → first_key (answers from message) table ≡ None
+    by None e = e
+    by (Some other) e =
+        let there = first_is_there (answers from message) table other e in
+        let its = own other there.exchange there.is in
+        let tokens : other ∷ its.0 ≡ [] = sym its.1 ∙ token_is from message there.exchange there.passes ∙ token in
+        absurd (cc)
+
+-- ---- the token, read from its front
+
+pub none_of : (bytes : List ℕ) → length bytes < 1 → bytes ≡ []
+none_of [] few = refl
+none_of (byte ∷ bytes) few = absurd (omega (arith, few))
+
+pub first_of : (bytes : List ℕ) (d : ℕ) → 1 ≤ length bytes → bytes ≡ get_or bytes 0 d ∷ drop 1 bytes
+first_of [] d some = absurd (omega (arith, some))
+first_of (byte ∷ bytes) d some = refl

@@ -70,7 +70,9 @@ impl fmt::Debug for FailureRoom {
 
 impl FailureRoom {
     /// Room for one answer. Refused only for lack of memory.
-    pub fn new(alloc: Global) -> Result<FailureRoom, AllocError> {
+    pub fn new(alloc: Global) -> Result<FailureRoom, AllocError>
+        ensures { IfOk result (λ room. room ≡ tt) }
+    {
         Ok(FailureRoom {
             sent: Buffer::new(alloc, LONGEST_FAILURE)?,
             kept: Buffer::new(alloc, LONGEST_FAILURE)?,
@@ -91,11 +93,13 @@ impl FailureRoom {
 /// is taken when the table is made.
 pub struct Exchanges {
     open: Slab<Exchange>,
+    /// That of an exchange that was answered, for the next one.
+    spare: Option<FailureRoom>,
 }
 
 impl Drop for Exchanges {
     fn drop(self) {
-        let Exchanges { open: _ } = self;
+        let Exchanges { open: _, spare: _ } = self;
     }
 }
 
@@ -172,6 +176,7 @@ impl Exchanges {
     {
         Ok(Exchanges {
             open: Slab::with_capacity(alloc, MOST_EXCHANGES)?,
+            spare: None,
         })
     }
 
@@ -212,6 +217,16 @@ impl Exchanges {
         let _key = self.open.insert_reserved(exchange);
     }
 
+    /// Room for the next exchange: that of one that was answered, or, where none is left, new memory.
+    pub(crate) fn take_room(&mut self, alloc: Global) -> Result<FailureRoom, AllocError>
+        ensures { self.new ≡ self.old }
+    {
+        match self.spare.take() {
+            Some(room) => Ok(room),
+            None => FailureRoom::new(alloc),
+        }
+    }
+
     /// The exchange of this key, if one is open.
     pub fn get(&self, key: usize) -> Option<&Exchange>
         ensures { option_copied result ≡ spec.get self.now key }
@@ -224,12 +239,22 @@ impl Exchanges {
     pub fn find(&self, from: Peer, message: &MessageRef<'_>) -> Option<usize>
         ensures { result ≡ spec.first_key (spec.answers from message.now) self.now }
     {
-        for (key, exchange) in self.open.iter() {
-            if answers(from, message, exchange) {
-                return Some(key);
+        // For the proof alone: what always holds of the table is that the token of each exchange begins with its key.
+        let _open = &self.open;
+        let [key, ..] = message.token() else {
+            return None;
+        };
+        let key = *key as usize;
+        match self.get(key) {
+            Some(exchange) => {
+                if answers(from, message, exchange) {
+                    Some(key)
+                } else {
+                    None
+                }
             }
+            None => None,
         }
-        None
     }
 
     /// The key of the exchange whose forwarded message is confirmable and is named by an empty acknowledgement or a Reset of this
@@ -290,5 +315,16 @@ impl Exchanges {
         ensures absent { IfNone result (self.new ≡ self.old) }
     {
         self.open.try_remove(key)
+    }
+
+    /// The same of one that is answered: its room is left to the next one.
+    pub(crate) fn close_answered(&mut self, key: usize)
+        requires { IsSome (spec.get self.old key) }
+        ensures closed { spec.Changes self.old self.new key None }
+        ensures count { spec.count self.new + 1 ≡ spec.count self.old }
+        ensures next { self.new.next ≡ key }
+    {
+        let Exchange { room, .. } = self.close(key).unwrap();
+        self.spare = Some(room);
     }
 }

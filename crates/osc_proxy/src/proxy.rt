@@ -27,12 +27,12 @@ use crate::deadline::{first_of, messages_deadline};
 use crate::exchanges::{Exchanges, FailureRoom};
 use crate::forwarding::{forwarded_message, forwarded_token};
 use crate::opening::opened;
-use crate::sending::{Acknowledged, Own, has_room, put, send_back, send_own};
+use crate::sending::{Acknowledged, Own, alone, going, has_room, send_back, send_own};
 use crate::targets::Targets;
 use crate::ticking::tick;
 use osc_coap::{Kind, MessageBuilder, MessageRef};
 use osc_message::laws::{ticks_send_few, what_nodes_send};
-use osc_message::{Arrival, Handling, Heard, MessageName, Outbox, is_confirmable, noted};
+use osc_message::{Arrival, Handling, Heard, MessageName, is_confirmable, noted};
 use osc_model::{Code, Datagrams, Draw, Moment, Peer, RefusedRequest, Step};
 use std::alloc::{AllocError, Global};
 use std::marker::Model;
@@ -178,7 +178,8 @@ impl Proxy {
         match heard {
             Heard::Alone(out) => Ok(Step::sending(out)),
             Heard::Empty(kind, id) => {
-                self.settle_empty(alloc, now, draw, kind, MessageName { peer: from, id })
+                let named = MessageName { peer: from, id };
+                Ok(self.settle_empty(alloc, now, draw, kind, named))
             }
             Heard::Message(message) => self.answer_new(
                 alloc,
@@ -227,7 +228,7 @@ impl Proxy {
         }
     }
 
-    /// Settles what an empty acknowledgement or Reset of this kind names, and ends the exchange that it ends.
+    /// Settles what an empty acknowledgement or Reset of this kind names, and ends the exchange that it ends; takes no memory.
     fn settle_empty(
         &mut self,
         alloc: Global,
@@ -235,16 +236,14 @@ impl Proxy {
         draw: &Draw,
         kind: Kind,
         named: MessageName,
-    ) -> Result<Step, AllocError>
-        ensures settled { IfOk result (λ step. Settles (ended_by_of kind (first_key (is_named named.peer named.id) self.old.exchanges)) kind self.old
-            (record { at = now; from = named.peer; draw = draw.now; what = named.id }) step self.new) }
-        ensures fits { IfOk result (λ step. AreSendable step.out) }
-        ensures err { OnErr result (self.new ≡ self.old) }
-        ensures needs_memory { OnErr result (ended_by_of kind (first_key (is_named named.peer named.id) self.old.exchanges) ≢ None) }
+    ) -> Step
+        ensures settled { Settles (ended_by_of kind (first_key (is_named named.peer named.id) self.old.exchanges)) kind self.old
+            (record { at = now; from = named.peer; draw = draw.now; what = named.id }) result self.new }
+        ensures fits { AreSendable result.out }
     {
         match ended_by(&self.exchanges, kind, named) {
             Some(key) => self.end(alloc, now, draw, named, key),
-            None => Ok(self.acknowledge(alloc, now, kind, named)),
+            None => self.acknowledge(alloc, now, kind, named),
         }
     }
 
@@ -352,15 +351,16 @@ impl Proxy {
         ensures fits { IfOk result (λ step. AreSendable step.out) }
         ensures err { OnErr result (self.new ≡ self.old) }
     {
-        let room = FailureRoom::new(alloc)?;
         let own = Own::new(alloc, to, is_confirmable(came.message.kind()), forwarded)?;
         let acknowledged = Acknowledged::new(alloc, came.from, &came.message)?;
-        Ok(self.open(came, key, own, acknowledged, room))
+        let room = self.exchanges.take_room(alloc)?;
+        Ok(self.open(alloc, came, key, own, acknowledged, room))
     }
 
     /// Opens the exchange of this key, and sends the message that is forwarded; takes no memory.
     fn open(
         &mut self,
+        alloc: Global,
         came: Arrival<'_>,
         key: u8,
         own: Own,
@@ -384,16 +384,16 @@ impl Proxy {
             draw,
             message,
         } = came;
-        let Acknowledged { mut out, reply } = acknowledged;
+        let Acknowledged { out, reply } = acknowledged;
         self.endpoint.settle(
             at,
             from,
             &Heard::Message(message),
             Handling::Answered(reply),
         );
-        put(&mut out, send_own(&mut self.endpoint, at, draw, own));
+        let sent = send_own(&mut self.endpoint, at, draw, own);
         self.exchanges.open(exchange);
-        Step::sending(out.into_datagrams())
+        Step::sending(going(alloc, out, sent))
     }
 
     /// Sends a response that counts back to the client, and closes its exchange.
@@ -409,12 +409,13 @@ impl Proxy {
         let own = Own::new(alloc, exchange.client, exchange.confirmable, &answer)?;
         let named = exchange.id;
         let acknowledged = Acknowledged::new(alloc, came.from, &came.message)?;
-        Ok(self.close(came, key, named, own, acknowledged))
+        Ok(self.close(alloc, came, key, named, own, acknowledged))
     }
 
     /// Closes the exchange that a response counts for, and sends the answer back; takes no memory.
     fn close(
         &mut self,
+        alloc: Global,
         came: Arrival<'_>,
         key: usize,
         named: u16,
@@ -433,19 +434,19 @@ impl Proxy {
             draw,
             message,
         } = came;
-        let Acknowledged { mut out, reply } = acknowledged;
+        let Acknowledged { out, reply } = acknowledged;
         self.endpoint.settle(
             at,
             from,
             &Heard::Message(message),
             Handling::Counted(named, reply),
         );
-        let _closed = self.exchanges.close(key).unwrap();
-        put(&mut out, send_back(&mut self.endpoint, at, draw, own));
-        Step::sending(out.into_datagrams())
+        self.exchanges.close_answered(key);
+        let sent = send_back(&mut self.endpoint, at, draw, own);
+        Step::sending(going(alloc, out, sent))
     }
 
-    /// Ends an exchange whose forwarded message was rejected by a Reset, which names it.
+    /// Ends an exchange whose forwarded message was rejected by a Reset, which names it; takes no memory.
     fn end(
         &mut self,
         alloc: Global,
@@ -453,19 +454,17 @@ impl Proxy {
         draw: &Draw,
         rejected: MessageName,
         key: usize,
-    ) -> Result<Step, AllocError>
+    ) -> Step
         requires { IsNamed self.old.exchanges rejected.peer rejected.id key }
-        ensures ended { IfOk result (λ step. Ends key self.old (record { at = now; from = rejected.peer; draw = draw.now; what = rejected.id }) step self.new) }
-        ensures fits { IfOk result (λ step. AreSendable step.out) }
-        ensures err { OnErr result (self.new ≡ self.old) }
+        ensures ended { Ends key self.old (record { at = now; from = rejected.peer; draw = draw.now; what = rejected.id }) result self.new }
+        ensures fits { AreSendable result.out }
     {
         let MessageName { peer: from, id } = rejected;
-        let mut out = Outbox::new(alloc, 1)?;
         self.endpoint.settle_empty(now, from, Kind::Reset, id);
         let exchange = self.exchanges.close(key).unwrap();
         let own = failing(exchange, self.endpoint.own_id(draw), Code::BAD_GATEWAY);
-        put(&mut out, send_back(&mut self.endpoint, now, draw, own));
-        Ok(Step::sending(out.into_datagrams()))
+        let sent = send_back(&mut self.endpoint, now, draw, own);
+        Step::sending(alone(alloc, sent))
     }
 
     /// Ends the exchanges that were opened 247 seconds ago or earlier, and those whose forwarded message was given up, by 5.04, and sends

@@ -11,7 +11,7 @@ use crate::targets::Targets;
 use osc_coap::MessageRef;
 use osc_model::Peer;
 use osc_model::limits::DEFAULT_PORT;
-use osc_options::{Named, survey_of, uint};
+use osc_options::{Named, proxy_survey_of, uint};
 
 /// Where a request goes.
 #[derive(Clone, Copy, Debug, PartialEq, Eq)]
@@ -82,7 +82,7 @@ pub fn route_of(targets: &Targets, message: &MessageRef<'_>) -> Route
     ensures { (named : Option HostAndPort) × spec.Names message.now.options named × (result ≡ spec.route targets.now message.now.options named) }
 {
     something_is_named();
-    let survey = survey_of(message);
+    let survey = proxy_survey_of(message);
     if survey.has_unrecognised_unsafe {
         return Route::BadOption;
     }

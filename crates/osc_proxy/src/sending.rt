@@ -4,18 +4,18 @@ ghost use Rattle.std.specs.Option.{option_to_list};
 ghost use Rattle.osc_coap.specs.{HasSpelling, spelling};
 ghost use Rattle.osc_message.specs.{FitsDatagram};
 ghost use Rattle.osc_proxy.specs.Own.{goes_now, has_room, sends_own, with_own};
-ghost use Rattle.osc_proxy.specs.Inner.Going.{Acknowledges, IsOwn, back_kept_by, back_sends_by};
+ghost use Rattle.osc_proxy.specs.Inner.Going.{Acknowledges, HasPlace, IsOwn, back_kept_by, back_sends_by, sent_in};
 
 use crate::Endpoint;
 use osc_coap::{MessageBuilder, MessageRef};
 use osc_message::{Outbox, acknowledgement};
-use osc_model::{Bytes, Datagram, Draw, Moment, Peer};
+use osc_model::{Bytes, Datagram, Datagrams, Draw, Moment, Peer};
 use std::alloc::{AllocError, Global};
 
 /// The acknowledgement of a message, where it is confirmable: the first datagram in room for two, and its bytes to be noted.
 #[derive(Drop)]
 pub(crate) struct Acknowledged {
-    pub out: Outbox,
+    pub out: Option<Outbox>,
     pub reply: Option<Bytes>,
 }
 
@@ -28,16 +28,21 @@ impl Acknowledged {
     ) -> Result<Acknowledged, AllocError>
         ensures { IfOk result (λ made. Acknowledges from message.now made) }
     {
-        let mut out = Outbox::new(alloc, 2)?;
-        let reply = match acknowledgement(message) {
+        match acknowledgement(message) {
             Some(answer) => {
+                let mut out = Outbox::new(alloc, 2)?;
                 let bytes = Bytes::from_slice(alloc, answer.bytes())?;
                 out.send(from, Bytes::from_slice(alloc, answer.bytes())?);
-                Some(bytes)
+                Ok(Acknowledged {
+                    out: Some(out),
+                    reply: Some(bytes),
+                })
             }
-            None => None,
-        };
-        Ok(Acknowledged { out, reply })
+            None => Ok(Acknowledged {
+                out: None,
+                reply: None,
+            }),
+        }
     }
 }
 
@@ -84,14 +89,36 @@ pub(crate) fn has_room(endpoint: &Endpoint, confirmable: bool, to: Peer) -> bool
     !confirmable || endpoint.takes(to)
 }
 
-/// Puts a datagram, if there is one, after the others; takes no memory.
-pub(crate) fn put(out: &mut Outbox, sent: Option<Datagram>)
-    requires { 0 < out.old.places }
-    ensures { out.new.sent ≡ out.old.sent ++ option_to_list sent }
+/// At most one datagram.
+pub(crate) fn alone(alloc: Global, sent: Option<Datagram>) -> Datagrams
+    ensures { result ≡ option_to_list sent }
+{
+    match sent {
+        Some(datagram) => Datagrams::one(alloc, datagram),
+        None => Datagrams::new(alloc),
+    }
+}
+
+/// An acknowledgement, if there is one, and a datagram after it; takes no memory.
+pub(crate) fn going(alloc: Global, out: Option<Outbox>, sent: Option<Datagram>) -> Datagrams
+    requires { HasPlace out }
+    ensures { result ≡ sent_in out ++ option_to_list sent }
+{
+    match out {
+        Some(out) => both(out, sent),
+        None => alone(alloc, sent),
+    }
+}
+
+/// The same of an acknowledgement that there is.
+fn both(mut out: Outbox, sent: Option<Datagram>) -> Datagrams
+    requires { 0 < out.places }
+    ensures { result ≡ out.sent ++ option_to_list sent }
 {
     if let Some(Datagram { to, bytes }) = sent {
         out.send(to, bytes);
     }
+    out.into_datagrams()
 }
 
 /// Makes the message, for which there is room; its datagram, where it goes out at once. Takes no memory.

@@ -232,7 +232,7 @@ module _ (is_sealing : Sealings) (laws : ReplyLaws is_sealing)
   p = came.what
 
   abbrev ask : OpenAsk
-  ask = record { number = number; plaintext = awaits.plaintext }
+  ask = record { number = number }
 
   abbrev context : ClientContextState
   context = record { name = name; next = awaits.next }

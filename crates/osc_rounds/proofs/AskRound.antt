@@ -249,7 +249,7 @@ module _ (is_sealing : Sealings) (tag : Tags) (laws : RoundLaws is_sealing tag)
       request_sendable is_sealing tag laws.spelled_length laws.sealed_length held.name context.next bare_request sent.message its direct few token_short value_short fits
 
   abbrev waiting : Waiting
-  waiting = waits client.endpoint asks_for.at draw (Ask (record { number = context.next; plaintext = plain_bytes (plain_of client draw request) }))
+  waiting = waits client.endpoint asks_for.at draw (Ask (record { number = context.next }))
 
   number_taken : asked.context ≡ Some (record { name = held.name; next = context.next + 1 })
   number_taken =
@@ -262,7 +262,6 @@ module _ (is_sealing : Sealings) (tag : Tags) (laws : RoundLaws is_sealing tag)
     held = number_taken;
     waiting = waiting;
     waits = ap (λ (c : Client). c.waiting) sent.kept;
-    plaintext = plain_bytes (plain_of client draw request);
     asks = refl;
     id = ap (λ (m : Message). m.id) (sym its.whole);
     token = ap (λ (m : Message). m.token) (sym its.whole);

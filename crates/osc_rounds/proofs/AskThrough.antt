@@ -115,7 +115,7 @@ module _ (is_sealing : Sealings) (tag : Tags) (laws : RoundLaws is_sealing tag)
   id_is = its_id is_sealing tag client asked asks_for first context is
 
   abbrev waiting : Waiting
-  waiting = waits client.endpoint asks_for.at draw (Ask (record { number = context.next; plaintext = plain_bytes asked_for }))
+  waiting = waits client.endpoint asks_for.at draw (Ask (record { number = context.next }))
 
   awaits : AwaitsReply asked proxy_at context.name context.next is.message
   awaits = record {
@@ -123,7 +123,6 @@ module _ (is_sealing : Sealings) (tag : Tags) (laws : RoundLaws is_sealing tag)
     held = ap (λ (c : Client). c.context) is.kept;
     waiting = waiting;
     waits = ap (λ (c : Client). c.waiting) is.kept;
-    plaintext = plain_bytes asked_for;
     asks = refl;
     id = sym id_is;
     token = sym (ap (λ (m : Message). m.token) is.made.whole ∙ token_is);
@@ -264,7 +263,6 @@ module _ (is_sealing : Sealings) (tag : Tags) (laws : RoundLaws is_sealing tag)
       held = awaits.held;
       waiting = awaits.waiting;
       waits = awaits.waits;
-      plaintext = awaits.plaintext;
       asks = awaits.asks;
       id = awaits.id;
       token = awaits.token;

@@ -75,11 +75,11 @@ abbrev pub in_place : Message → ℕ → List NumberAndValue → List ℕ → M
 in_place m code options sealed = record m { code = code; options = options; payload = payload_of sealed }
 
 case_by_options : (open_scope : Scope) (m : Message) (v sealed : List ℕ) → length v ≤ 255
-    → server_case open_scope (in_place m 2 ((9, v) ∷ []) sealed) ≡ Protected
+    → server_case open_scope (in_place m 2 ((9, v) ∷ []) sealed) ≡ Protected v
 case_by_options open_scope m v sealed short = rw (one_option v short) refl
 
 case_with_host : (open_scope : Scope) (m : Message) (host v sealed : List ℕ) → IsHost host → length v ≤ 255
-    → server_case open_scope (in_place m 2 ((3, host) ∷ (9, v) ∷ []) sealed) ≡ Protected
+    → server_case open_scope (in_place m 2 ((3, host) ∷ (9, v) ∷ []) sealed) ≡ Protected v
 case_with_host open_scope m host v sealed is short = rw (with_host host v is short) refl
 
 heard_by_kind : (seen : List Entry) (now : Moment) (from : Peer) (m : Message) (options : List NumberAndValue) (sealed : List ℕ)
@@ -88,7 +88,7 @@ heard_by_kind : (seen : List Entry) (now : Moment) (from : Peer) (m : Message) (
 heard_by_kind seen now from m options sealed kind unheard = rw (kind, unheard) refl
 
 case_by_outside : (open_scope : Scope) (m : Message) (outer : List NumberAndValue) (v sealed : List ℕ) → AreForServer outer → length v ≤ 255
-    → server_case open_scope (in_place m 2 (merge outer ((9, v) ∷ [])) sealed) ≡ Protected
+    → server_case open_scope (in_place m 2 (merge outer ((9, v) ∷ [])) sealed) ≡ Protected v
 case_by_outside open_scope m outer v sealed (nothing is) short = rw is (case_by_options open_scope m v sealed short)
 case_by_outside open_scope m outer v sealed (a_uri_host host lawful is) short = rw is (case_with_host open_scope m host v sealed lawful short)
 
@@ -99,7 +99,7 @@ protected_heard seen now from m v sealed is unheard =
     heard_by_kind seen now from m options sealed is.kind unheard
 
 protected_case : (open_scope : Scope) (m : Message) (v sealed : List ℕ) → IsForServer m → length v ≤ 255
-    → server_case open_scope (protected m 2 v sealed) ≡ Protected
+    → server_case open_scope (protected m 2 v sealed) ≡ Protected v
 protected_case open_scope m v sealed is short = case_by_outside open_scope m (outer_options m.options) v sealed is.outside short
 
 -- ---- what it says
@@ -133,8 +133,8 @@ module _ (is_sealing : Sealings) (laws : RequestLaws is_sealing)
   reads_as request is =
       let bytes : is.bytes ≡ request_value name number = same_Some is.bytes (request_value name number) (sym is.option ∙ value_is) in
       let same : value_of request ≡ value_of said = laws.one_value (request_value name number) (value_of request) (value_of said)
-      (subst (λ (b : List ℕ). SpellsValue b (value_of request)) bytes is.spelled) spelled in
-      let payload : request.sealed ≡ made.sealed = payload_is made.sealed request.sealed (sym (ap (λ (q : Message). q.payload) made.whole) ∙ is.payload) in
+      (subst (λ (b : List ℕ). SpellsValue b (value_of request)) bytes is.says.spelled) spelled in
+      let payload : request.sealed ≡ made.sealed = payload_is made.sealed request.sealed (sym (ap (λ (q : Message). q.payload) made.whole) ∙ is.says.payload) in
       by request (same_Some request.number number (ap (λ (c : Compressed). c.partial_iv) same))
       (same_Some request.kid name.client_id (ap (λ (c : Compressed). c.kid) same))
       (ap (λ (c : Compressed). c.kid_context) same) payload
@@ -267,7 +267,7 @@ module _ (is_sealing : Sealings) (laws : RequestLaws is_sealing)
       ap (λ (r : Received). heard old.endpoint.seen now came.from r) as_it
       ∙ protected_heard old.endpoint.seen now came.from m v made.sealed for_server awaits.unheard
       ∙ ap heard_as.Message (sym made.whole) in
-      let case_is : server_case old.open_scope p ≡ Protected =
+      let case_is : server_case old.open_scope p ≡ Protected v =
       ap (server_case old.open_scope) made.whole
       ∙ protected_case old.open_scope m v made.sealed for_server (laws.value_short name number awaits.lawful.context awaits.lawful.client_id) in
       let so : ServerAnswersNew is_sealing old came (server_case old.open_scope p) step new =

@@ -42,7 +42,7 @@ module _ (is_sealing : Sealings) (tag : Tags)
         }
     pub kept : asked
         ≡ opened (record client { context = Some (record context { next = context.next + 1 }) }) asks_for.at draw message
-        (Ask (record { number = context.next; plaintext = plain_bytes (plain_of client draw request) }))
+        (Ask (record { number = context.next }))
 
   not_hindered : (context : ClientContextState) (number : ℕ) → client.waiting ≡ None → client.context ≡ Some context → context.next ≤ greatest_number
       → first.notes.result ≢ Some (result.Refused 14) → IsRefused number client first asked → IsHindered is_sealing tag client request draw number → ⊥

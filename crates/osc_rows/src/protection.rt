@@ -1,22 +1,23 @@
 //! Protected messages (RFC 8613 sections 5 to 8). The context is the row's first five words.
-ghost use Rattle.std.specs.Prelude.{◌≡◌, ◌≤◌, length, IfSome, IsFalse};
+ghost use Rattle.std.specs.Prelude.{◌≡◌, ◌≤◌, length, None, IfSome, IsFalse, IsSome};
 ghost use Rattle.osc_model.specs.declared.context.Side.TheVariants.{Client, Server};
-ghost use Rattle.osc_context.specs.{taken_of, recipient_of, longest_id, greatest_number};
-ghost use Rattle.osc_protect.specs.{HasShortContext, IsFor};
+ghost use Rattle.osc_context.specs.{accepted_of, algorithm_of, taken_of, recipient_of, longest_id, greatest_number};
+ghost use Rattle.osc_protect.specs.{HasShortContext, IsFor, longest_message, response_length};
 
 use crate::line::Line;
 use crate::note::write_note;
 use crate::words::Word;
-use osc_ccm::Suite;
+use osc_ccm::{Ciphers, Suite};
 use osc_coap::{DATAGRAM_LIMIT, MessageBuilder, MessageRef};
-use osc_context::{ID_LIMIT, NUMBER_LIMIT, RecipientContext, SendNumber, derive};
-use osc_model::{Bytes, ContextName, Note, SharedName, Side};
+use osc_context::{AcceptedNumber, ID_LIMIT, NUMBER_LIMIT, RecipientContext, SendNumber, derive};
+use osc_model::{Bytes, ContextName, Note, Reply, SharedName, Side, refusals};
+use osc_options::{reply_message, reply_of, survey_of};
 use osc_protect::{
-    MessageTooLong, ProtectedRequest, ProtectedResponse, ReplyTooLong, Room, SealedRequestRef,
-    SealedResponseRef, TextTooLong, UncountedRequest, open_request, open_response, protect_reply,
-    protect_request, protect_response, protect_uncounted, read_request, read_response,
-    request_size,
+    Header, Malformed, MessageTooLong, ProtectedRequest, ProtectedResponse, ReplyTooLong, Room,
+    SealedReply, SealedRequestRef, SealedResponseRef, fits, open_request, open_response,
+    protect_reply, protect_request, protect_response, read_request, read_response, seal_reply,
 };
+use osc_world::adversary::seal_any;
 use std::alloc::Global;
 
 /// Rows of a context whose id context and client ID are short enough.
@@ -64,7 +65,7 @@ fn told_under(
         "open" => opened(alloc, name, words, line),
         "open_response" => opened_response(alloc, name, words, line),
         "is_for" => is_for(name, words, line),
-        "protected_size" => size(name, words, line),
+        "protected_size" => size(alloc, name, words, line),
         _ => None,
     }
 }
@@ -196,19 +197,22 @@ fn text(alloc: Global, name: &SharedName, words: &[Word<'_>], line: &mut Line) -
         MessageRef::parse(message.bytes()?).ok()?,
     );
     let text = text.bytes()?;
-    let room = Room::new(alloc, name, number, DATAGRAM_LIMIT).ok()?;
     let (sender, recipient) = derive(alloc, name, Side::Client).ok()?;
     drop(recipient);
-    let made = protect_uncounted::<Suite>(room, &sender, number, &message, text);
+    let made = seal_any::<Suite>(alloc, name, &sender, number, &message, text);
     drop(sender);
-    write_text(name, &made, line);
+    match made.ok()? {
+        Some(made) => write_made(name, &made.message, &made.note, line),
+        None => line.number(refusals::DATAGRAM_TOO_LONG.into()),
+    }
     Some(())
 }
 
-fn write_text(name: &SharedName, made: &Result<UncountedRequest, TextTooLong>, line: &mut Line) {
-    match made {
-        Ok(made) => write_made(name, &made.message, &made.note, line),
-        Err(error) => line.number(error.number().into()),
+/// What the message says, if it is a protected request.
+fn sealed_request<'a>(message: &MessageRef<'a>) -> Result<SealedRequestRef<'a>, Malformed> {
+    match survey_of(message).oscore {
+        Some(value) => read_request(&value, message),
+        None => Err(Malformed),
     }
 }
 
@@ -218,7 +222,7 @@ fn opened(alloc: Global, name: &SharedName, words: &[Word<'_>], line: &mut Line)
         return None;
     };
     let request = MessageRef::parse(request.bytes()?).ok()?;
-    let sealed = read_request(&request).ok()?;
+    let sealed = sealed_request(&request).ok()?;
     if !sealed.is_for(name) {
         return None;
     }
@@ -234,39 +238,78 @@ fn opened(alloc: Global, name: &SharedName, words: &[Word<'_>], line: &mut Line)
 }
 
 /// `protect_reply`, a context, a protected request and a message: the response that the server makes of it, under the request's nonce, and its
-/// note.
+/// note. Where the message carries a reply, it is the one that the server seals as it answers, or none where that is another.
 fn reply(alloc: Global, name: &SharedName, words: &[Word<'_>], line: &mut Line) -> Option<()> {
     let [request, reply] = words else {
         return None;
     };
     let request = MessageRef::parse(request.bytes()?).ok()?;
     let reply = MessageRef::parse(reply.bytes()?).ok()?;
-    let sealed = read_request(&request).ok()?;
+    let sealed = sealed_request(&request).ok()?;
     if !sealed.is_for(name) {
         return None;
     }
-    let made = reply_under(alloc, name, &sealed, &reply)?;
-    write_made(name, &made.message, &made.note, line);
+    let made = reply_under::<Suite>(alloc, name, &sealed, &reply)?;
+    match reply_of(alloc, made.note.plaintext.as_slice()) {
+        Ok(carried) => {
+            let header = Header {
+                kind: reply.kind(),
+                id: reply.id(),
+                token: reply.token(),
+            };
+            let answer = answer_under::<Suite>(alloc, name, &sealed, header, &carried)?;
+            if answer.datagram.as_slice() != made.message.bytes() {
+                return None;
+            }
+            line.bytes(answer.datagram.as_slice());
+            write_opened(name, &answer.note, line);
+        }
+        Err(_) => write_made(name, &made.message, &made.note, line),
+    }
     Some(())
 }
 
-fn reply_under(
+/// The right of the server to one reply to a request that opens, and room for it.
+struct Right {
+    number: AcceptedNumber,
+    room: Room,
+}
+
+/// The server accepts the number of a request that opens.
+fn right_to<A: Ciphers>(
+    alloc: Global,
+    name: &SharedName,
+    recipient: RecipientContext,
+    sealed: &SealedRequestRef<'_>,
+) -> Option<Right>
+    requires recipient { recipient ≡ recipient_of name.now Server recipient.window }
+    requires named { IsFor name.now sealed.now }
+    ensures number { IfSome result (λ right. right.number ≡ accepted_of name.now Server right.number.number) }
+    ensures room { IfSome result (λ right. right.room ≡ record { name = name.now; number = right.number.number; most = DATAGRAM_LIMIT }) }
+{
+    let mut recipient = recipient;
+    let room = answering::<A>(alloc, name, &recipient, sealed)?;
+    if !recipient.is_fresh(sealed.number()) {
+        return None;
+    }
+    let number = recipient.accept(sealed.number());
+    drop(recipient);
+    Some(Right { number, room })
+}
+
+/// The response to a request under its nonce.
+fn reply_under<A: Ciphers>(
     alloc: Global,
     name: &SharedName,
     sealed: &SealedRequestRef<'_>,
     reply: &MessageRef<'_>,
 ) -> Option<ProtectedResponse>
     requires { IsFor name.now sealed.now }
+    ensures { IsSome result → response_length (A.TAG (algorithm_of name.now)) None reply.now ≤ longest_message }
 {
     let (sender, recipient) = derive(alloc, name, Side::Server).ok()?;
-    let mut recipient = recipient;
-    let room = answering(alloc, name, &recipient, sealed)?;
-    if !recipient.is_fresh(sealed.number()) {
-        return None;
-    }
-    let number = recipient.accept(sealed.number());
-    drop(recipient);
-    let made = protect_reply::<Suite>(room, number, &sender, reply);
+    let Right { number, room } = right_to::<A>(alloc, name, recipient, sealed)?;
+    let made = protect_reply::<A>(room, number, &sender, reply);
     drop(sender);
     match made {
         Ok(made) => Some(made),
@@ -278,8 +321,33 @@ fn reply_under(
     }
 }
 
+/// The same of a message that carries this reply, as the server seals it.
+fn answer_under<A: Ciphers>(
+    alloc: Global,
+    name: &SharedName,
+    sealed: &SealedRequestRef<'_>,
+    header: Header<'_>,
+    reply: &Reply,
+) -> Option<SealedReply>
+    requires named { IsFor name.now sealed.now }
+    requires token { length header.token.now ≤ 8 }
+{
+    if reply.code.0 == 0 {
+        return None;
+    }
+    let message = reply_message(header.kind, header.id, header.token, reply).ok()?;
+    let fitting = reply_under::<A>(alloc, name, sealed, &message.message())?;
+    drop(fitting);
+    let out = Vec::with_capacity(alloc, DATAGRAM_LIMIT).ok()?;
+    let (sender, recipient) = derive(alloc, name, Side::Server).ok()?;
+    let Right { room, number } = right_to::<A>(alloc, name, recipient, sealed)?;
+    let answer = seal_reply::<A>(room, number, &sender, header, reply, out);
+    drop(sender);
+    Some(answer)
+}
+
 /// Room for the response to a request that opens.
-fn answering(
+fn answering<A: Ciphers>(
     alloc: Global,
     name: &SharedName,
     recipient: &RecipientContext,
@@ -289,7 +357,7 @@ fn answering(
     requires named { IsFor name.now sealed.now }
     ensures { IfSome result (λ room. room ≡ record { name = name.now; number = sealed.now.number; most = DATAGRAM_LIMIT }) }
 {
-    let opened = open_request::<Suite>(alloc, name, recipient, sealed).ok()?;
+    let opened = open_request::<A>(alloc, name, recipient, sealed).ok()?;
     let note = opened.ok()?;
     let room = Room::answering(alloc, &note, DATAGRAM_LIMIT).ok();
     drop(note);
@@ -385,7 +453,7 @@ pub fn number(words: &[Word<'_>], line: &mut Line) -> Option<()> {
         return None;
     };
     let message = MessageRef::parse(message.bytes()?).ok()?;
-    match read_request(&message) {
+    match sealed_request(&message) {
         Ok(sealed) => line.number(sealed.number()),
         Err(error) => line.value(&error),
     }
@@ -398,13 +466,13 @@ fn is_for(name: &SharedName, words: &[Word<'_>], line: &mut Line) -> Option<()> 
         return None;
     };
     let message = MessageRef::parse(message.bytes()?).ok()?;
-    let sealed = read_request(&message).ok()?;
+    let sealed = sealed_request(&message).ok()?;
     line.test(sealed.is_for(name));
     Some(())
 }
 
 /// `protected_size`, a context, a number and a message: how many bytes its plaintext and it have, protected as a request, if it fits a datagram.
-fn size(name: &SharedName, words: &[Word<'_>], line: &mut Line) -> Option<()>
+fn size(alloc: Global, name: &SharedName, words: &[Word<'_>], line: &mut Line) -> Option<()>
     requires context { HasShortContext name.now }
     requires id { length name.now.client_id ≤ longest_id }
 {
@@ -415,12 +483,22 @@ fn size(name: &SharedName, words: &[Word<'_>], line: &mut Line) -> Option<()>
         number_of(number)?,
         MessageRef::parse(message.bytes()?).ok()?,
     );
-    match request_size::<Suite>(name, number, &message) {
-        Some(size) => {
-            line.number(size.plaintext as u64);
-            line.number(size.message as u64);
-        }
-        None => line.text("none"),
+    if !fits::<Suite>(name, number, &message) {
+        line.text("none");
+        return Some(());
     }
-    Some(())
+    let room = Room::new(alloc, name, number, DATAGRAM_LIMIT).ok()?;
+    let number = taken(alloc, name, Side::Client, number)?;
+    match protect_request::<Suite>(room, number, &message) {
+        Ok(made) => {
+            line.number(made.note.plaintext.len() as u64);
+            line.number(made.message.bytes().len() as u64);
+            Some(())
+        }
+        Err(MessageTooLong { room, number }) => {
+            number.spend();
+            drop(room);
+            None
+        }
+    }
 }

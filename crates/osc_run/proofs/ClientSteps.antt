@@ -6,7 +6,7 @@ use Rattle.osc_authz.specs.{ClientContextState, made_name, In}
 use Rattle.osc_authz.specs.Begun.{Begun}
 use Rattle.osc_run.specs.{Noted, ByClient, ClientState, OpenAsk, Outstanding, Nothing, Exchange, Ask, Minted, request_note, IsStarted, IsMade, IsAsked, ClientStep, ClientIdle, Started, Made, Asked, Answered, Ended, Lied, ClientRestarted, IsRaised, IsSkipped, IsDrawn, HasFreshDraws}
 use Rattle.osc_run.proofs.LawsBelow.{Laws}
-use Rattle.osc_run.proofs.Parts.{IsJoinedOf, one_nonce, IsDrawnBy, IsSealedBy, OneExchange, OneContext, OneClient, SealPart, Silent, client_stays, more_drawn_by, fewer_sealed}
+use Rattle.osc_run.proofs.Parts.{IsJoinedOf, one_nonce, IsAskedBy, IsDrawnBy, IsSealedBy, OneExchange, OneContext, OneClient, SealPart, Silent, client_stays, more_drawn_by, fewer_sealed}
 
 pub no_seal : (s : Noted) (by : ℕ) → s.notes.seals ≡ None → Silent s by
 no_seal s by h = record { is = λ t a l e. cc }
@@ -83,7 +83,7 @@ asked_keeps notes s by old new its honest p k0 =
     let t : Note = request_note x.name x.next p.plaintext in
     let sealed : s.notes.seals ≡ Some t = ap (λ (r : StepNotes). r.seals) p.noted in
     let k = k0.context x p.held in
-    let asked : OpenAsk = record { context = x.name; number = x.next; plaintext = p.plaintext } in
+    let asked : OpenAsk = record { context = x.name; number = x.next } in
     let here : OneContext old.desk.secret (s ∷ notes) by (record { name = x.name; next = x.next + 1 }) = record {
       nonce = k.nonce;
       joined = k.joined;
@@ -99,7 +99,7 @@ asked_keeps notes s by old new its honest p k0 =
     subst (OneClient (s ∷ notes) by) (sym p.is) (record {
       exchange = λ b e. absurd (cc);
       context = λ y e. subst (OneContext old.desk.secret (s ∷ notes) by) (cc) here;
-      ask = λ o e. let same : asked ≡ o = cc in subst (λ (y : OpenAsk). IsSealedBy (s ∷ notes) by false (request_note y.context y.number y.plaintext)) same now;
+      ask = λ o e. let same : asked ≡ o = cc in subst (IsAskedBy (s ∷ notes) by) same (record { plaintext = p.plaintext; sealed = now });
     })
 
 restarted_keeps : (notes : List Noted) (by : ℕ) (c : ClientState) → OneClient notes by c → OneClient notes by (record c { context = None; outstanding = Nothing })

@@ -139,7 +139,7 @@ reply_of_answered : Laws → (v : WorldState) (i : ℕ) (old new : ClientState) 
 reply_of_answered laws v i old new notes p at genuine own kept k =
     let q = p.ask in
     let asked = (kept.clients i old at).ask q p.before in
-    let seal = kept.seals.client i false (request_note q.context q.number q.plaintext) asked in
+    let seal = kept.seals.client i false (request_note q.context q.number asked.plaintext) asked.sealed in
     let vouched = genuine.message (no_token (response_note q.context q.number p.own p.text) seal.lawful) in
     let t = vouched.sealing in
     let b = opened_reply v.minted v.notes vouched.step t vouched.step.actor refl vouched.noted vouched.seal vouched.side kept.seals in
@@ -153,9 +153,9 @@ reply_of_answered laws v i old new notes p at genuine own kept k =
       context = named;
       number = number;
       reply = one_reply laws v.notes t b p.text p.reply p.reads vouched.plaintext;
-      plaintext = q.plaintext;
-      asked = sealed_question v.notes i false (request_note q.context q.number q.plaintext) asked;
-      same = same_text v.minted v.notes i q e own kept.nonces asked seal.holds named number h h.lied refl;
+      plaintext = asked.plaintext;
+      asked = sealed_question v.notes i false (request_note q.context q.number asked.plaintext) asked.sealed;
+      same = same_text v.minted v.notes i q asked.plaintext e own kept.nonces asked.sealed seal.holds named number h h.lied refl;
     }
 
 right_of_client : Laws → (v : WorldState) (i : ℕ) (lied : Bool) (old new : ClientState) (notes : StepNotes) → slice_get v.clients i ≡ Some old → ClientStep lied old notes new → IsGenuine v.minted (by_client i lied notes ∷ v.notes) → HasOwnSecrets v.minted → Kept v → Right v

@@ -130,7 +130,7 @@ module _ (key text audience : List ℕ) (now : Moment) (claims : Claims) (lawful
   ready = record { desk = desk; context = Some (record { name = name; next = 0 }); outstanding = Nothing }
 
   abbrev asking : ClientState
-  asking = record { desk = desk; context = Some (record { name = name; next = 0 + 1 }); outstanding = Ask (record { context = name; number = 0; plaintext = [] }) }
+  asking = record { desk = desk; context = Some (record { name = name; next = 0 + 1 }); outstanding = Ask (record { context = name; number = 0 }) }
 
   abbrev done : ClientState
   done = record { desk = desk; context = Some (record { name = name; next = 0 + 1 }); outstanding = Nothing }
@@ -274,7 +274,7 @@ module _ (key text audience : List ℕ) (now : Moment) (claims : Claims) (lawful
   step_answered : Has → WorldStep (world (confirmed ∷ []) asking (served ∷ asked ∷ made ∷ posted ∷ started ∷ [])) after
   step_answered h = OfClient 0 false asking done (record quiet { opens = Some (response_note name 0 None (reply_text refusal)); result = Some (result.Answer refusal) }) refl
       (Answered refl (record {
-        ask = record { context = name; number = 0; plaintext = [] };
+        ask = record { context = name; number = 0 };
         own = None;
         text = reply_text refusal;
         reply = refusal;

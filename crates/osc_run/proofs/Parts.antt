@@ -44,6 +44,11 @@ pub record IsSealedBy (notes : List Noted) (by : ℕ) (by_lie : Bool) (t : Note)
   pub lied : step.lied ≡ by_lie
   pub seal : step.notes.seals ≡ Some t
 
+-- no lie of the client sealed a request under this number in this context
+pub record IsAskedBy (notes : List Noted) (by : ℕ) (q : OpenAsk) : Type 0 where
+  pub plaintext : List ℕ
+  pub sealed : IsSealedBy notes by false (request_note q.context q.number plaintext)
+
 -- ---- the server
 
 -- its contexts against what was noted
@@ -74,7 +79,7 @@ pub record OneContext (its_secret : List ℕ) (notes : List Noted) (by : ℕ) (x
 pub record OneClient (notes : List Noted) (by : ℕ) (c : ClientState) : Type 0 where
   pub exchange : (b : Begun) → c.outstanding ≡ Exchange b → OneExchange notes by c b.nonce1
   pub context : (x : ClientContextState) → c.context ≡ Some x → OneContext c.desk.secret notes by x
-  pub ask : (q : OpenAsk) → c.outstanding ≡ Ask q → IsSealedBy notes by false (request_note q.context q.number q.plaintext)
+  pub ask : (q : OpenAsk) → c.outstanding ≡ Ask q → IsAskedBy notes by q
 
 -- ---- the seals
 
@@ -144,5 +149,5 @@ client_stays notes s by c q k = record {
     lawful = x.lawful;
     below = λ t a. x.below t (fewer_sealed notes s by t q a);
   };
-  ask = λ o h. more_sealed notes s by false _ (k.ask o h);
+  ask = λ o h. let a = k.ask o h in record { plaintext = a.plaintext; sealed = more_sealed notes s by false (request_note o.context o.number a.plaintext) a.sealed };
 }

@@ -104,14 +104,14 @@ same_seal (s ∷ notes) m n k a b same =
     b.1)
     a.1
 
--- the entry's plaintext is that of the open request, unless it was a lie of the same client's holder
-pub same_text : (minted : List Minted) (notes : List Noted) (by : ℕ) (q : OpenAsk) (e : Entry) → HasOwnSecrets minted → HasOwnNonces notes
-    → IsSealedBy notes by false (request_note q.context q.number q.plaintext) → Holds minted by q.context.secret
+-- the entry's plaintext is the one that was sealed of the open request, unless it was a lie of the same client's holder
+pub same_text : (minted : List Minted) (notes : List Noted) (by : ℕ) (q : OpenAsk) (text : List ℕ) (e : Entry) → HasOwnSecrets minted → HasOwnNonces notes
+    → IsSealedBy notes by false (request_note q.context q.number text) → Holds minted by q.context.secret
     → e.context ≡ q.context → e.number ≡ q.number → (h : AskedBy minted notes e.context e.number e.plaintext) → (lied : Bool) → h.lied ≡ lied
-    → (e.plaintext ≡ q.plaintext) ⊎ In (record { by = by; lied = true; context = q.context; number = q.number; plaintext = e.plaintext }) (questions notes)
-same_text minted notes by q e own nonces a holds named number h false l =
+    → (e.plaintext ≡ text) ⊎ In (record { by = by; lied = true; context = q.context; number = q.number; plaintext = e.plaintext }) (questions notes)
+same_text minted notes by q text e own nonces a holds named number h false l =
     let m : Note = request_note e.context e.number e.plaintext in
-    let n : Note = request_note q.context q.number q.plaintext in
+    let n : Note = request_note q.context q.number text in
     let there : IsSealed notes m = (h.sealed.step, h.sealed.noted, h.sealed.lied ∙ l, h.sealed.seal) in
     let here : IsSealed notes n = (a.step, a.noted, a.lied, a.seal) in
     let one : m ≡ n = same_seal notes m n nonces there here (record {
@@ -119,7 +119,7 @@ same_text minted notes by q e own nonces a holds named number h false l =
       nonce = λ j. request_nonce (named j) (number j);
     }) in
     inl (ap (λ (u : Note). u.plaintext) one)
-same_text minted notes by q e own nonces a holds named number h true l =
+same_text minted notes by q text e own nonces a holds named number h true l =
     let secret : h.holds.held.grant.secret ≡ holds.held.grant.secret = h.holds.secret ∙ ap (λ (x : ContextName). x.secret) named ∙ sym holds.secret in
     let same : h.holds.held ≡ holds.held = one_minted minted h.holds.held holds.held own h.holds.granted holds.granted secret in
     let one : h.by ≡ by = sym h.holds.holder ∙ ap (λ (m : Minted). m.grant.holder) same ∙ holds.holder in

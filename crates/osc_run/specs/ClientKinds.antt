@@ -84,7 +84,7 @@ pub record IsAsked (old : ClientState) (notes : StepNotes) (new : ClientState) :
   pub is : new
       ≡ record old {
         context = Some (record { name = context.name; next = context.next + 1 });
-        outstanding = Ask (record { context = context.name; number = context.next; plaintext = plaintext });
+        outstanding = Ask (record { context = context.name; number = context.next });
       }
 
 -- A response opens with the associated data of the open request (section 8.4), which is answered by the reply that it is.

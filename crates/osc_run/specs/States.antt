@@ -17,11 +17,10 @@ pub record ServerState : Type 0 where
   pub tree : Tree
   pub rules : ContextRules
 
--- a protected request that waits for its response: its context, its sender sequence number and its plaintext
+-- a protected request that waits for its response: its context and its sender sequence number; what was sealed under them is noted
 pub record OpenAsk : Type 0 where
   pub context : ContextName
   pub number : ℕ
-  pub plaintext : List ℕ
 
 -- what a client waits for: nothing, the answer to an exchange (RFC 9203 section 4), or a protected response
 pub data Outstanding : Type 0 where

@@ -17,4 +17,4 @@ pub unprotected_answered : (message : Message) (open_scope : Scope) (request : R
 unprotected_answered message open_scope request =
     one_of message (is_authz_info request.path) _ _
     (one_of message (request.code.0 == method_number Post) Posted NotPosted tt tt)
-    (one_of message (is_open_get open_scope request) (OpenGet request) Unauthorised tt tt)
+    (one_of message (is_open_get open_scope request) (OpenGet (record { scope = open_scope; request = request })) Unauthorised tt tt)

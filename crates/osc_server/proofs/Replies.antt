@@ -176,6 +176,12 @@ pub post_message_short : (endpoint : EndpointState) (came : Arrival Message) (an
 post_message_short endpoint came answer token short =
     omega (arith, token, post_options answer, payload_short (post_reply answer).payload, short)
 
+-- ---- a message with a reply
+
+pub reply_message_short : (endpoint : EndpointState) (came : Arrival Message) (reply : Reply) → length came.what.token ≤ 8 → FitsAResource reply → spelled_length (reply_to endpoint came reply) ≤ 1152
+reply_message_short endpoint came reply token short =
+    omega (arith, token, options_short reply.etag reply.format short.etag, payload_short reply.payload, short.payload)
+
 -- ---- a protected reply
 
 pub text_short : ((p : Plaintext) → length (plaintext_spelling p) ≡ plaintext_length p) → (most : ℕ) (reply : Reply) → IsReplyOf most reply → length (reply_text reply) ≤ 14 + most

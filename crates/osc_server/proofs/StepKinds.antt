@@ -113,7 +113,7 @@ module _ (is_sealing : Sealings) (laws : Laws is_sealing) (old : State) (step : 
       subst (λ notes. ServerStep (core old) came.at notes (core new)) (sym (ap (λ s. s.notes) it.sent.sent))
       (subst (λ d. ServerStep (core old) came.at (notes_of_request came.at it.held (holder_at it.request.kid old.desk.table) it.request.number it.text it.reply) (record { contexts = of_tokens d.table; tree = new.tree; rules = d.rules })) (sym (ap (λ s. s.desk) it.sent.kept))
       (Served (laws.opens came.at it.request.kid it.request.kid_context old.desk.table it.held it.request.number it.text it.reply old.tree new.tree old.desk.rules
-      before it.opened.meant.is_meant it.opened.meant.is_request.spelled.lawful.number it.opened.fresh it.within it.applied)))
+      before it.opened.meant.is_meant it.opened.meant.is_request.says.spelled.lawful.number it.opened.fresh it.within it.applied)))
 
   protected_kind : (came : Arrival Message) → AnswersProtected is_sealing old came step new → ServerStep (core old) came.at step.notes (core new)
   protected_kind came (refused refusal why sends) = sends_idly old came _ _ step new sends
@@ -123,10 +123,10 @@ module _ (is_sealing : Sealings) (laws : Laws is_sealing) (old : State) (step : 
   new_kind came case.Unused drawn (e, same) = quietly old came.at step new (ap (λ s. s.notes) e) (ap (λ s. s.tree) same) (ap (λ s. s.desk) same)
   new_kind came case.BadOption drawn it = sends_idly old came _ _ step new it
   new_kind came case.ProxyAsked drawn it = sends_idly old came _ _ step new it
-  new_kind came case.Protected drawn it = protected_kind came it
+  new_kind came (case.Protected value) drawn it = protected_kind came it
   new_kind came case.Posted drawn it = posted_kind came drawn it
   new_kind came case.NotPosted drawn it = sends_idly old came _ _ step new it
-  new_kind came (case.OpenGet request) drawn it = sends_idly old came _ _ step new it.replies
+  new_kind came (case.OpenGet granted) drawn it = sends_idly old came _ _ step new it.replies
   new_kind came case.Unauthorised drawn it = sends_idly old came _ _ step new it
 
   pub kind_of : (came : Arrival (List ℕ)) (it : Heard) → length came.draw.0 ≡ 32 → Answers is_sealing old came it step new → ServerStep (core old) came.at step.notes (core new)

@@ -140,11 +140,11 @@ module _ (is_sealing : Sealings)
   told_new message case.Unused step new spelled (e, same) = as_sent step _ e (rejection_told message.kind message.id)
   told_new message case.BadOption step new spelled it = replied_told message (bare (code 4 2)) (refused_for (code 4 2) None) step refl opens_nothing it.sent
   told_new message case.ProxyAsked step new spelled it = replied_told message (bare (code 5 5)) (refused_for (code 5 5) None) step refl opens_nothing it.sent
-  told_new message case.Protected step new spelled it = protected_told message step new spelled it
+  told_new message (case.Protected value) step new spelled it = protected_told message step new spelled it
   told_new message case.Posted step new spelled it =
       replied_told message (post_reply it.post.answer) (notes_of_post it.post) step refl (posted_opens message it.post new.desk spelled it.posts) it.sent.sent
   told_new message case.NotPosted step new spelled it = replied_told message (bare (code 4 5)) (refused_for (code 4 5) None) step refl opens_nothing it.sent
-  told_new message (case.OpenGet request) step new spelled it = replied_told message it.reply quiet step refl opens_nothing it.replies.sent
+  told_new message (case.OpenGet granted) step new spelled it = replied_told message it.reply quiet step refl opens_nothing it.replies.sent
   told_new message case.Unauthorised step new spelled it = replied_told message (bare (code 4 1)) (refused_for (code 4 1) None) step refl opens_nothing it.sent
 
   -- what the message layer answers is one of its three answers; a message is the one that came

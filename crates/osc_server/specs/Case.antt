@@ -7,7 +7,7 @@ use Rattle.osc_model.specs.declared.code.Method.TheVariants.{Get, Post}
 use Rattle.osc_model.specs.declared.request.Request.{Request}
 use Rattle.osc_coap.specs.{is_request_code, NumberAndValue}
 use Rattle.osc_coap.specs.Message.{Message as CoapMessage}
-use Rattle.osc_options.specs.{proxy_uri, proxy_scheme, request_of, unrecognised_critical, has_oscore}
+use Rattle.osc_options.specs.{oscore, proxy_uri, proxy_scheme, request_of, unrecognised_critical, value}
 use Rattle.osc_scope.specs.{verdict_of}
 use Rattle.osc_scope.specs.declared.verdict.Verdict.{Verdict}
 use Rattle.osc_scope.specs.declared.verdict.Verdict.TheVariants.{Granted}
@@ -38,13 +38,22 @@ is_open_get open_scope request = (request.code.0 == method_number Get) && is_gra
 abbrev pub refused_option : CoapMessage → Case
 refused_option message = if is_confirmable message.kind then BadOption else Unused
 
+-- a GET that needs no protection, or a request that does
+abbrev pub open_case : Scope → Request → Case
+open_case open_scope request =
+    if is_open_get open_scope request then OpenGet (record { scope = open_scope; request = request }) else Unauthorised
+
 -- An unprotected request that wants no proxy: at authz-info a POST or another method; elsewhere a GET that needs no protection,
 -- or any other request.
 abbrev pub unprotected_case : Scope → Request → Case
 unprotected_case open_scope request =
     if is_authz_info request.path then (if request.code.0 == method_number Post then Posted else NotPosted)
-    else if is_open_get open_scope request then OpenGet request
-    else Unauthorised
+    else open_case open_scope request
+
+-- a request that wants no proxy, by the value of OSCORE's option, if it has one
+abbrev pub case_by : Scope → CoapMessage → Option (List ℕ) → Case
+case_by open_scope message (Some bytes) = Protected bytes
+case_by open_scope message None = unprotected_case open_scope (request_of message)
 
 -- A critical option that isn't recognised; a wish for a proxy (section 5.10.2); OSCORE's option, whatever the code and the
 -- path outside are (RFC 8613 section 8.2); a request without protection.
@@ -52,8 +61,7 @@ abbrev pub request_case : Scope → CoapMessage → Case
 request_case open_scope message =
     if is_some (unrecognised_critical 0 message.options) then refused_option message
     else if has_option proxy_uri message.options || has_option proxy_scheme message.options then ProxyAsked
-    else if has_oscore message.options then Protected
-    else unprotected_case open_scope (request_of message)
+    else case_by open_scope message (value oscore message.options)
 
 -- A server sends no request, so it waits for no response (RFC 7252 section 5.3.2).
 abbrev pub case_of : Scope → CoapMessage → Case

@@ -228,10 +228,10 @@ module _ (is_sealing : Sealings) where
   AnswersNew old came Unused step new = (step ≡ sends (rejection came.from came.what.kind came.what.id)) × (new ≡ old)
   AnswersNew old came BadOption step new = Refuses old came (code 4 2) step new
   AnswersNew old came ProxyAsked step new = Refuses old came (code 5 5) step new
-  AnswersNew old came Protected step new = AnswersProtected old came step new
+  AnswersNew old came (Protected bytes) step new = AnswersProtected old came step new
   AnswersNew old came Posted step new = AnswersPost old came step new
   AnswersNew old came NotPosted step new = Refuses old came (code 4 5) step new
-  AnswersNew old came (OpenGet request) step new = AnswersGet old came request step new
+  AnswersNew old came (OpenGet granted) step new = AnswersGet old came granted.request step new
   AnswersNew old came Unauthorised step new = Refuses old came (code 4 1) step new
 
   -- What the message layer answers by itself changes nothing; an empty message is settled there; a new message is answered as its case says.

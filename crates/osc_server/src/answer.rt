@@ -12,7 +12,7 @@ use osc_coap::MessageBuilder;
 use osc_coap::laws::length_of_spelling;
 use osc_message::{Arrival, ReplyRoom, reply_kind};
 use osc_model::{Bytes, Datagrams, Peer, Reply};
-use osc_options::{error_message, reply_message};
+use osc_options::{error_message, write_reply_message};
 use osc_protect::Header;
 
 /// The header of what answers a request: of the acknowledgement of a confirmable one (RFC 7252 section 5.2.1), and of a message of the
@@ -29,17 +29,25 @@ pub fn header_to<'a>(endpoint: &Endpoint, came: &Arrival<'a>) -> Header<'a>
     }
 }
 
-/// The message that carries the reply: the acknowledgement of a confirmable request (RFC 7252 section 5.2.1), and a message
-/// of the server's own for another (section 5.2.3).
-pub fn reply_to(endpoint: &Endpoint, came: &Arrival<'_>, reply: &Reply) -> MessageBuilder
-    requires { FitsAResource reply.now }
-    ensures { result ≡ reply_to_of endpoint.now came.now reply.now }
+/// The message that carries the reply, as it goes to the peer and as its bytes are kept for a repeat: the acknowledgement of a confirmable
+/// request (RFC 7252 section 5.2.1), and a message of the server's own for another (section 5.2.3). It is written where it is sent, in room
+/// that was taken for it; takes no memory.
+pub fn sent_reply(
+    room: ReplyRoom,
+    endpoint: &Endpoint,
+    came: &Arrival<'_>,
+    reply: &Reply,
+) -> (Datagrams, Bytes)
+    requires short { FitsAResource reply.now }
+    requires room { length (spelling (reply_to_of endpoint.now came.now reply.now)) ≤ room }
+    ensures { IsSentAs came.now.from (reply_to_of endpoint.now came.now reply.now) result.0 result.1 }
 {
     length_of_spelling();
-    let request = &came.message;
-    let kind = reply_kind(request.kind());
-    let id = endpoint.reply_id(came.draw, request);
-    reply_message(kind, id, request.token(), reply).unwrap()
+    let (sent, copy) = room.open();
+    let header = header_to(endpoint, came);
+    let mut bytes = sent.into_vec();
+    write_reply_message(&mut bytes, header.kind, header.id, header.token, reply);
+    copy.fill(came.from, Bytes::from_vec(bytes))
 }
 
 /// The message, as it goes to the peer and as its bytes are kept for a repeat, in room that was taken for it; takes no memory.

@@ -1,33 +1,36 @@
 //! Which case a new message is.
-ghost use Rattle.std.specs.Prelude.{◌≡◌, option_map, if◌then◌else◌, IfOk, OnErr, IsTrue};
+ghost use Rattle.std.specs.Prelude.{◌≡◌, option_map, if◌then◌else◌, IfOk, OnErr};
 ghost use Rattle.osc_server.specs.Case as spec;
-ghost use Rattle.osc_server.specs.Inner.Parts.{AsksGet};
+ghost use Rattle.osc_coap.specs.Message.{Message as AnyMessage};
+ghost use Rattle.osc_server.specs.Inner.Parts.{AsksGet, HasValue};
 
 use osc_coap::{MessageRef, is_request_code};
 use osc_message::is_confirmable;
 use osc_model::limits::{AUTHZ_INFO, GET, POST};
 use osc_model::{Path, Request};
-use osc_options::{request_of_message, survey_of};
-use osc_scope::{Scope, Verdict};
+use osc_options::{OscoreValue, Survey, request_of_message, survey_of};
+use osc_scope::Scope;
+use osc_tree::Grant;
 use std::alloc::{AllocError, Global};
 
-/// What a server makes of a new message.
+/// What a server makes of a new message. The value of an OSCORE option is lent from the message, and a grant from the open scope and the
+/// request.
 #[derive(Debug, Drop)]
-pub enum Case {
+pub enum Case<'m, 'g> {
     /// The server has no use for it: a response, or a request with a critical option that isn't understood which isn't confirmable.
     Unused,
     /// A confirmable request with a critical option that isn't understood.
     BadOption,
     /// A request that wants a proxy.
     ProxyAsked,
-    /// A protected request.
-    Protected,
+    /// A protected request, with this value of the OSCORE option.
+    Protected(OscoreValue<'m>),
     /// An unprotected POST to authz-info.
     Posted,
     /// An unprotected request to authz-info with another method.
     NotPosted,
     /// An unprotected GET that the open scope grants.
-    OpenGet(Request),
+    OpenGet(Grant<'g>),
     /// Another unprotected request.
     Unauthorised,
 }
@@ -42,19 +45,26 @@ fn is_authz_info(path: Option<&Path>) -> bool
     }
 }
 
-/// Whether the request is a GET that the open scope grants.
-fn is_open(open_scope: &Scope, request: &Request) -> bool
-    ensures granted { result ≡ spec.is_open_get open_scope.now request.now }
-    ensures get { IsTrue result → request.now.code.0 ≡ 1 }
+/// A GET that the open scope grants, or another request that needs protection.
+fn open_case<'m, 'g>(open_scope: &'g Scope, request: &'g Request) -> Case<'m, 'g>
+    ensures case { result ≡ spec.open_case open_scope.now request.now }
+    ensures get { AsksGet result }
+    ensures value { (message : AnyMessage) → HasValue message result }
 {
-    request.code.0 == GET
-        && open_scope.verdict(request.path.as_ref(), request.code) == Verdict::Granted
+    if request.code.0 != GET {
+        return Case::Unauthorised;
+    }
+    match Grant::of(open_scope, request) {
+        Ok(grant) => Case::OpenGet(grant),
+        Err(_) => Case::Unauthorised,
+    }
 }
 
 /// What is made of a request with an option that isn't understood.
-fn refused_option(message: &MessageRef<'_>) -> Case
+fn refused_option<'m, 'g>(message: &MessageRef<'m>) -> Case<'m, 'g>
     ensures case { result ≡ spec.refused_option message.now }
     ensures get { AsksGet result }
+    ensures value { HasValue message.now result }
 {
     if is_confirmable(message.kind()) {
         Case::BadOption
@@ -64,9 +74,10 @@ fn refused_option(message: &MessageRef<'_>) -> Case
 }
 
 /// Which case an unprotected request is that wants no proxy.
-fn unprotected_case(open_scope: &Scope, request: Request) -> Case
-    ensures case { result ≡ spec.unprotected_case open_scope.now request }
+fn unprotected_case<'m, 'g>(open_scope: &'g Scope, request: &'g Request) -> Case<'m, 'g>
+    ensures case { result ≡ spec.unprotected_case open_scope.now request.now }
     ensures get { AsksGet result }
+    ensures value { (message : AnyMessage) → HasValue message result }
 {
     if is_authz_info(request.path.as_ref()) {
         if request.code.0 == POST {
@@ -74,49 +85,60 @@ fn unprotected_case(open_scope: &Scope, request: Request) -> Case
         } else {
             Case::NotPosted
         }
-    } else if is_open(open_scope, &request) {
-        Case::OpenGet(request)
     } else {
-        Case::Unauthorised
+        open_case(open_scope, request)
     }
 }
 
+/// Which case a request is. An unprotected one is put into the place for it.
 #[tactic(auto, using(crate::proofs::Cases::unprotected_answered))]
-fn request_case(
+fn request_case<'m, 'g>(
     alloc: Global,
-    open_scope: &Scope,
-    message: &MessageRef<'_>,
-) -> Result<Case, AllocError>
+    open_scope: &'g Scope,
+    message: &MessageRef<'m>,
+    place: &'g mut Option<Request>,
+) -> Result<Case<'m, 'g>, AllocError>
     ensures case { IfOk result (λ case. case ≡ spec.request_case open_scope.now message.now) }
     ensures get { IfOk result AsksGet }
+    ensures value { IfOk result (HasValue message.now) }
     ensures needs_memory { OnErr result (spec.IsNewAnswered message.now (spec.request_case open_scope.now message.now)) }
 {
-    let survey = survey_of(message);
-    if survey.unrecognised_critical.is_some() {
-        Ok(refused_option(message))
-    } else if survey.standing.has_proxy_uri || survey.standing.has_proxy_scheme {
-        Ok(Case::ProxyAsked)
-    } else if survey.standing.oscore.is_some() {
-        Ok(Case::Protected)
-    } else {
-        let request = request_of_message(alloc, message)?;
-        Ok(unprotected_case(open_scope, request))
+    let Survey {
+        unrecognised_critical,
+        oscore,
+        has_proxy_uri,
+        has_proxy_scheme,
+    } = survey_of(message);
+    if unrecognised_critical.is_some() {
+        return Ok(refused_option(message));
+    }
+    if has_proxy_uri || has_proxy_scheme {
+        return Ok(Case::ProxyAsked);
+    }
+    match oscore {
+        Some(value) => Ok(Case::Protected(value)),
+        None => {
+            let request = place.insert(request_of_message(alloc, message)?);
+            Ok(unprotected_case(open_scope, request))
+        }
     }
 }
 
-/// Which case it is. The path and the payload of an unprotected request take memory where the options don't refuse it; without
-/// it an `AllocError`.
-pub fn case_of(
+/// Which case it is. An unprotected request, which is put into the place for it, takes memory for its path and its payload where the options
+/// don't refuse it; without it an `AllocError`.
+pub fn case_of<'m, 'g>(
     alloc: Global,
-    open_scope: &Scope,
-    message: &MessageRef<'_>,
-) -> Result<Case, AllocError>
+    open_scope: &'g Scope,
+    message: &MessageRef<'m>,
+    place: &'g mut Option<Request>,
+) -> Result<Case<'m, 'g>, AllocError>
     ensures case { IfOk result (λ case. case ≡ spec.case_of open_scope.now message.now) }
     ensures get { IfOk result AsksGet }
+    ensures value { IfOk result (HasValue message.now) }
     ensures needs_memory { OnErr result (spec.IsNewAnswered message.now (spec.case_of open_scope.now message.now)) }
 {
     if is_request_code(message.code()) {
-        request_case(alloc, open_scope, message)
+        request_case(alloc, open_scope, message, place)
     } else {
         Ok(Case::Unused)
     }

@@ -1,17 +1,16 @@
 //! The answers to posts at authz-info (RFC 9200 section 5.10.1, RFC 9203 section 4.2).
 ghost use Rattle.std.specs.Prelude.{◌≡◌, ◌≤◌, length};
-ghost use Rattle.osc_coap.specs.{spelling};
 ghost use Rattle.osc_model.specs.{quiet};
+ghost use Rattle.osc_server.specs.Inner.Parts.{IsSentAs};
 ghost use Rattle.osc_server.specs.Table.{nonce_of_post, post_reply as post_reply_of, refusal_of_post, reply_to as reply_to_of};
 
 use crate::Endpoint;
-use crate::answer::reply_to;
+use crate::answer::sent_reply;
 use osc_authz::{PostError, PostReply};
-use osc_coap::MessageBuilder;
 use osc_coap::laws::length_of_spelling;
-use osc_message::{Arrival, Buffer};
+use osc_message::{Arrival, Buffer, ReplyRoom};
 use osc_model::limits::ACE_CBOR;
-use osc_model::{Code, Note, RefusedRequest, Reply, SharedBytes, StepNotes};
+use osc_model::{Bytes, Code, Datagrams, Note, RefusedRequest, Reply, SharedBytes, StepNotes};
 use std::alloc::Global;
 
 /// The bytes of the payload that answers a post which isn't refused.
@@ -37,23 +36,24 @@ fn post_reply(alloc: Global, payload: Buffer, answer: Result<PostReply, PostErro
     }
 }
 
-/// The message that answers a post; takes no memory.
+/// The message that answers a post, as it goes to the peer and as its bytes are kept for a repeat, in room for it; takes no memory.
 pub fn post_answer(
     alloc: Global,
     payload: Buffer,
+    room: ReplyRoom,
     endpoint: &Endpoint,
     came: &Arrival<'_>,
     answer: Result<PostReply, PostError>,
-) -> MessageBuilder
-    requires { payload ≡ 16 }
-    ensures answer { result ≡ reply_to_of endpoint.now came.now (post_reply_of answer) }
-    ensures short { length (spelling result) ≤ 31 }
+) -> (Datagrams, Bytes)
+    requires payload { payload ≡ 16 }
+    requires room { room ≡ 31 }
+    ensures { IsSentAs came.now.from (reply_to_of endpoint.now came.now (post_reply_of answer)) result.0 result.1 }
 {
     length_of_spelling();
     // For the proof alone: the call tells how long the token is.
     let _token = came.message.token();
     let reply = post_reply(alloc, payload, answer);
-    reply_to(endpoint, came, &reply)
+    sent_reply(room, endpoint, came, &reply)
 }
 
 /// What is noted of a post: its token's opening, the nonce that it drew and the id of its token, where it made a context, and why it was refused,

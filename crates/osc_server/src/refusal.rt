@@ -1,8 +1,8 @@
 //! Why a protected request isn't served (RFC 8613 section 8.2).
-ghost use Rattle.std.specs.Prelude.{◌≡◌};
-ghost use Rattle.osc_server.specs.Table.{refusal_age, refusal_code, refusal_number, refusal_text, refused_for as refused_for_of};
+ghost use Rattle.std.specs.Prelude.{◌≡◌, Some};
+ghost use Rattle.osc_server.specs.Table.{refusal_age, refusal_code, refusal_number, refusal_text};
 
-use osc_model::{Code, RefusedRequest, StepNotes, refusals};
+use osc_model::{Code, RefusedRequest, refusals};
 
 /// Why a protected request isn't served: the first of these that applies.
 #[derive(Clone, Copy, Debug, PartialEq, Eq)]
@@ -27,6 +27,16 @@ impl Refusal {
             Refusal::NoContext => refusals::NO_CONTEXT,
             Refusal::Replayed => refusals::REPLAY,
             Refusal::NotGenuine => refusals::NOT_GENUINE,
+        }
+    }
+
+    /// What is noted of the request: the code of the answer, and the number.
+    pub(crate) fn noted(self) -> RefusedRequest
+        ensures { result ≡ record { code = refusal_code self; reason = Some (refusal_number self) } }
+    {
+        RefusedRequest {
+            code: self.code(),
+            reason: Some(self.number()),
         }
     }
 
@@ -62,12 +72,4 @@ impl Refusal {
             Refusal::NotGenuine => b"Decryption failed",
         }
     }
-}
-
-/// What is noted of a request that isn't served: the code that it is answered, and the number of the reason, where the code alone
-/// doesn't tell it.
-pub(crate) fn refused_for(code: Code, reason: Option<u8>) -> StepNotes
-    ensures { result ≡ refused_for_of code reason }
-{
-    StepNotes::quiet().with_refused(RefusedRequest { code, reason })
 }

@@ -9,35 +9,36 @@ ghost use Rattle.osc_message.specs.declared.received.Received.{Received as AnyRe
 ghost use Rattle.osc_model.specs.{apply, MayReply, sends, quiet};
 ghost use Rattle.osc_model.specs.Tree.{Tree as AnyTree};
 ghost use Rattle.osc_model.specs.declared.node.Moment.{Moment as AnyMoment};
+ghost use Rattle.osc_options.specs.{value as value_in};
 ghost use Rattle.osc_run.specs.{ServerStep};
 ghost use Rattle.osc_server.specs.Case.{IsAnswered, IsNewAnswered, case_of as case_in};
 ghost use Rattle.osc_server.specs.Hearing.{Hears, Ticks};
-ghost use Rattle.osc_server.specs.Inner.Parts.{AsksGet, DifferAt, FitsAResource, HeardSendsTo, IsMessage, SendsTo, may_change_by, noted_by};
+ghost use Rattle.osc_server.specs.Inner.Parts.{AnswersBy, DifferAt, FitsAResource, HeardSendsTo, IsMessage, SendsTo, may_change_by, noted_by};
 ghost use Rattle.osc_server.specs.State.{core};
 ghost use Rattle.osc_server.specs.Steps.{again};
-ghost use Rattle.osc_server.specs.Table.{Answers, AnswersNew, AnswersGet, AnswersPost, AnswersProtected, AnswersWith, Refuses, Sends, answered, refusal_code, refusal_number, refusal_to as refusal_to_of, refused_for as refused_for_of};
+ghost use Rattle.osc_server.specs.Table.{Answers, AnswersNew, AnswersPost, AnswersProtected, AnswersWith, Refuses, Sends, refusal_code, refusal_number, refusal_to as refusal_to_of, refused_for as refused_for_of};
 
 use crate::Endpoint;
-use crate::answer::{refusal_to, reply_to, sent_as};
+use crate::answer::{refusal_to, sent_as, sent_reply};
 use crate::case::{Case, case_of};
 use crate::in_hand::InHand;
 use crate::posting::{POST_ANSWER, POST_PAYLOAD, notes_of, post_answer};
-use crate::refusal::{Refusal, refused_for};
-use crate::serving::{ProtectedRequest, Served, prepared, serve_opened};
+use crate::refusal::Refusal;
+use crate::serving::{ProtectedRequest, Served, prepared, sealed_request, serve_opened};
 use osc_authz::laws::marks_stay;
 use osc_authz::{Post, RevokedMarks, ServerDesk, Standing};
 use osc_ccm::Ciphers;
-use osc_coap::MessageBuilder;
 use osc_message::laws::{what_is_heard, what_nodes_send};
 use osc_message::{Arrival, Buffer, Handling, Heard, ReplyRoom, Ticked, rejection};
 use osc_model::limits::GET;
 use osc_model::{
-    Bytes, Code, Datagrams, Draw, Moment, Path, Peer, Reply, Request, Step, StepNotes,
+    Bytes, Code, Datagrams, Draw, Moment, Path, Peer, RefusedRequest, Reply, Step, StepNotes,
 };
-use osc_protect::{TokenCipher, read_request};
+use osc_options::{OscoreValue, reply_message_size};
+use osc_protect::TokenCipher;
 use osc_run::kinds;
 use osc_scope::Scope;
-use osc_tree::Tree;
+use osc_tree::{Grant, Tree};
 use std::alloc::{AllocError, Global};
 use std::marker::Model;
 
@@ -176,9 +177,9 @@ impl Server {
         drawn(draw);
         self.desk.has_a_table();
         let heard = self.hear(alloc, now, from, bytes)?;
-        let step = self.answer::<A>(alloc, now, from, draw, heard)?;
+        let answered = self.answer::<A>(alloc, now, from, draw, heard);
         self.desk.has_a_table();
-        Ok(step)
+        answered
     }
 
     /// What these bytes are to the message layer.
@@ -216,7 +217,7 @@ impl Server {
         ensures needs_memory { OnErr result (IsAnswered self.old.open_scope heard.entry) }
     {
         match heard {
-            Heard::Alone(out) => Ok(Step::sending(out)),
+            Heard::Alone(out) => return Ok(Step::sending(out)),
             Heard::Empty(kind, id) => {
                 self.endpoint.settle_empty(now, from, kind, id);
                 Ok(Step::sending(Datagrams::new(alloc)))
@@ -245,50 +246,33 @@ impl Server {
         ensures err { OnErr result (self.new ≡ self.old) }
         ensures needs_memory { OnErr result (IsNewAnswered came.entry.what (case_in self.old.open_scope came.entry.what)) }
     {
-        match case_of(alloc, &self.open_scope, &came.message)? {
+        let mut place = None;
+        match case_of(alloc, &self.open_scope, &came.message, &mut place)? {
             Case::Unused => pass_over(alloc, &came),
             Case::BadOption => self.refuse(alloc, came, Code::BAD_OPTION),
             Case::ProxyAsked => self.refuse(alloc, came, Code::PROXYING_NOT_SUPPORTED),
-            Case::Protected => self.protected::<A>(alloc, came),
+            Case::Protected(value) => self.protected::<A>(alloc, came, &value),
             Case::Posted => self.posted::<A>(alloc, came),
             Case::NotPosted => self.refuse(alloc, came, Code::METHOD_NOT_ALLOWED),
-            Case::OpenGet(request) => self.get(alloc, came, &request),
+            Case::OpenGet(grant) => {
+                let reply = open_reply(alloc, self.desk.revoked(), &mut self.tree, &grant);
+                self.give(alloc, came, &reply)
+            }
             Case::Unauthorised => self.refuse(alloc, came, Code::UNAUTHORIZED),
         }
     }
 
-    /// Answers a GET on an open path.
+    /// Answers a GET on an open path with this reply.
     #[inline(never)]
-    fn get(
-        &mut self,
-        alloc: Global,
-        came: Arrival<'_>,
-        request: &Request,
-    ) -> Result<Step, AllocError>
-        requires { request.now.code.0 ≡ 1 }
-        ensures answered { IfOk result (λ step. AnswersGet self.old came.entry request.now step self.new) }
+    fn give(&mut self, alloc: Global, came: Arrival<'_>, reply: &Reply) -> Result<Step, AllocError>
+        requires { FitsAResource reply.now }
+        ensures replied { IfOk result (λ step. AnswersWith self.old came.entry reply.now step self.new) }
         ensures sent { IfOk result (λ step. SendsTo came.entry.from step.out) }
         ensures same { self.new.open_scope ≡ self.old.open_scope }
         ensures err { OnErr result (self.new ≡ self.old) }
     {
-        let reply = self.read(alloc, request);
-        self.reply(alloc, came, &reply)
-    }
-
-    /// The reply to a GET on an open path; the server stays as it is.
-    fn read(&mut self, alloc: Global, request: &Request) -> Reply
-        requires { request.now.code.0 ≡ 1 }
-        ensures reply { MayReply (apply self.old.desk.rules.revoked self.old.tree self.old.open_scope request.now) result }
-        ensures short { FitsAResource result }
-        ensures same { self.new ≡ self.old }
-    {
-        open_reply(
-            alloc,
-            self.desk.revoked(),
-            &mut self.tree,
-            &self.open_scope,
-            request,
-        )
+        let out = self.reply(alloc, came, reply)?;
+        Ok(Step::sending(out))
     }
 
     /// Answers the request, which isn't served, with a reply of this code alone.
@@ -299,54 +283,28 @@ impl Server {
         ensures sent { IfOk result (λ step. SendsTo came.entry.from step.out) }
         ensures err { OnErr result (self.new ≡ self.old) }
     {
-        let answer = reply_to(&self.endpoint, &came, &Reply::bare(alloc, code));
-        self.send_noting(alloc, came, &answer, refused_for(code, None))
+        let out = self.reply(alloc, came, &Reply::bare(alloc, code))?;
+        let why = RefusedRequest { code, reason: None };
+        Ok(Step::refusing(why, out))
     }
 
-    /// Answers the request with an unprotected reply.
-    fn reply(&mut self, alloc: Global, came: Arrival<'_>, reply: &Reply) -> Result<Step, AllocError>
-        requires { FitsAResource reply.now }
-        ensures replied { IfOk result (λ step. AnswersWith self.old came.entry reply.now step self.new) }
-        ensures sent { IfOk result (λ step. SendsTo came.entry.from step.out) }
-        ensures err { OnErr result (self.new ≡ self.old) }
-    {
-        let answer = reply_to(&self.endpoint, &came, reply);
-        self.send_noting(alloc, came, &answer, StepNotes::quiet())
-    }
-
-    /// Answers the request with this message; of resources and desk nothing changes.
-    fn send_noting(
+    /// Answers the request with an unprotected reply, which is written where it is sent; of resources and desk nothing changes.
+    fn reply(
         &mut self,
         alloc: Global,
         came: Arrival<'_>,
-        answer: &MessageBuilder,
-        notes: StepNotes,
-    ) -> Result<Step, AllocError>
-        ensures sends { IfOk result (λ step. Sends self.old came.entry answer.now notes step self.new) }
-        ensures sent { IfOk result (λ step. SendsTo came.entry.from step.out) }
+        reply: &Reply,
+    ) -> Result<Datagrams, AllocError>
+        requires { FitsAResource reply.now }
+        ensures replied { IfOk result (λ out. AnswersBy self.old came.entry (reply_to_of self.old.endpoint came.entry reply.now) out self.new) }
+        ensures sent { IfOk result (SendsTo came.entry.from) }
         ensures err { OnErr result (self.new ≡ self.old) }
     {
-        let room = ReplyRoom::new(alloc, answer.bytes().len())?;
-        Ok(self.send(room, came, answer, notes))
-    }
-
-    /// Answers the request with this message, for which there is room, and notes it for a repeat; takes no memory.
-    fn send(
-        &mut self,
-        room: ReplyRoom,
-        came: Arrival<'_>,
-        answer: &MessageBuilder,
-        notes: StepNotes,
-    ) -> Step
-        requires { length (spelling answer.now) ≤ room }
-        ensures step { result ≡ record { out = datagram came.entry.from answer.now ∷ []; notes = notes } }
-        ensures kept { self.new ≡ record self.old { endpoint = answered self.old.endpoint came.entry answer.now } }
-        ensures spelled { Spells (spelling answer.now) answer.now }
-        ensures sent { SendsTo came.entry.from result.out }
-    {
-        let (out, reply) = sent_as(room, came.from, answer);
-        self.note(came, reply);
-        Step { out, notes }
+        let size = reply_message_size(came.message.token(), reply);
+        let room = ReplyRoom::new(alloc, size)?;
+        let (out, bytes) = sent_reply(room, &self.endpoint, &came, reply);
+        self.note(came, bytes);
+        Ok(out)
     }
 
     /// Notes the request with the bytes that answered it, for a repeat; takes no memory.
@@ -392,23 +350,29 @@ impl Server {
         } = self
             .desk
             .post::<TokenCipher<A>>(alloc, &on, &mut self.marks, body, came.draw)?;
-        let message = post_answer(alloc, payload, &self.endpoint, &came, answer);
-        Ok(self.send(room, came, &message, notes_of(opened, answer, holder)))
+        let (out, reply) = post_answer(alloc, payload, room, &self.endpoint, &came, answer);
+        self.note(came, reply);
+        Ok(Step {
+            out,
+            notes: notes_of(opened, answer, holder),
+        })
     }
 
-    /// Answers a protected request. Its number is accepted once nothing can fail.
+    /// Answers a protected request with this value of the OSCORE option. Its number is accepted once nothing can fail.
     #[inline(never)]
     fn protected<A: Ciphers>(
         &mut self,
         alloc: Global,
         came: Arrival<'_>,
+        value: &OscoreValue<'_>,
     ) -> Result<Step, AllocError>
+        requires { value_in 9 came.what.options ≡ Some value.now }
         ensures answered { IfOk result (λ step. AnswersProtected A.is_sealing self.old came.entry step self.new) }
         ensures sent { IfOk result (λ step. SendsTo came.entry.from step.out) }
         ensures same { self.new.open_scope ≡ self.old.open_scope }
         ensures err { OnErr result (self.new ≡ self.old) }
     {
-        let Ok(says) = read_request(&came.message) else {
+        let Ok(says) = sealed_request(value, &came.message) else {
             return self.complain(alloc, came, Refusal::Malformed);
         };
         marks_stay();
@@ -454,8 +418,10 @@ impl Server {
         ensures err { OnErr result (self.new ≡ self.old) }
     {
         let answer = refusal_to(&self.endpoint, &came, refusal);
-        let notes = refused_for(refusal.code(), Some(refusal.number()));
-        self.send_noting(alloc, came, &answer, notes)
+        let room = ReplyRoom::new(alloc, answer.bytes().len())?;
+        let (out, reply) = sent_as(room, came.from, &answer);
+        self.note(came, reply);
+        Ok(Step::refusing(refusal.noted(), out))
     }
 
     /// Lets the notes of what was heard go whose lifetime has ended. Nothing that a server sends waits for an acknowledgement, so
@@ -547,21 +513,15 @@ fn drawn(draw: &Draw)
 }
 
 /// The reply to a GET on an open path: 5.00 for lack of memory.
-fn open_reply(
-    alloc: Global,
-    root: Option<&Path>,
-    tree: &mut Tree,
-    open_scope: &Scope,
-    request: &Request,
-) -> Reply
-    requires { request.now.code.0 ≡ 1 }
-    ensures reply { MayReply (apply (option_map (λ path. path.now) root.entry) tree.old open_scope.now request.now) result }
+fn open_reply(alloc: Global, root: Option<&Path>, tree: &mut Tree, grant: &Grant<'_>) -> Reply
+    requires { grant.now.request.code.0 ≡ 1 }
+    ensures reply { MayReply (apply (option_map (λ path. path.now) root.entry) tree.old grant.now.scope grant.now.request) result }
     ensures short { FitsAResource result }
     ensures same { tree.new ≡ tree.old }
 {
     // For the proof alone: the call tells that what the tree has fits a datagram.
     let _count = tree.len();
-    match tree.apply(alloc, root, open_scope, request) {
+    match tree.apply_granted(alloc, root, grant) {
         Ok(reply) => reply,
         Err(_) => Reply::bare(alloc, Code::INTERNAL_SERVER_ERROR),
     }

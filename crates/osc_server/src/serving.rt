@@ -1,15 +1,15 @@
 //! Protected requests (RFC 8613 sections 8.2 and 8.3): a request is opened without memory until it is known to be genuine, then all
 //! memory is taken before the number is accepted, and nothing fails from there but what is answered by 5.00.
-ghost use Rattle.std.specs.Prelude.{◌≡◌, ◌<◌, ◌≤◌, ◌+◌, ℕ, List, length, Some, None, IfOk, IfErr, IfSome, IfNone, OnErr, OnOk, option_map};
+ghost use Rattle.std.specs.Prelude.{◌≡◌, ◌<◌, ◌≤◌, ◌+◌, ℕ, List, length, Ok, Some, None, IfOk, IfErr, IfSome, IfNone, OnErr, OnOk, option_map};
 ghost use Rattle.osc_coap.specs.Message.{Message as AnyMessage};
 ghost use Rattle.osc_authz.specs.SecurityContext.{SecurityContext};
 ghost use Rattle.osc_authz.specs.{AreMarked, accepted, holder_at};
 ghost use Rattle.osc_context.specs.{algorithm_of, accepted_of};
 ghost use Rattle.osc_model.specs.declared.context.Side.TheVariants.{Server};
 ghost use Rattle.osc_model.specs.{apply_read};
-ghost use Rattle.osc_protect.specs.{aad_of, IsFor, IsRequest, IsProtectedResponse};
+ghost use Rattle.osc_protect.specs.{aad_of, IsFor, IsRequest, IsProtectedResponse, SealedRequest};
 ghost use Rattle.osc_run.specs.{opening_note, reply_note, Replies as AppliesTo};
-ghost use Rattle.osc_options.specs.{read_request, IsWithinRanges};
+ghost use Rattle.osc_options.specs.{read_request, value as value_in, IsWithinRanges};
 ghost use Rattle.osc_model.specs.Tree.{Tree as AnyTree};
 ghost use Rattle.osc_server.specs.Inner.Parts.{DifferAt, FitsAResource, IsReady, IsReplyOf, IsSentAs, IsServedAs, IsTakenFor, may_change_by, message_beside_sealed, reply_length, read_length as read_length_of, text_beside_payload};
 ghost use Rattle.osc_server.specs.Table.{context_for, IsMeant, IsOpened, IsRefused, IsSealed, notes_of_request, reply_to as reply_to_of};
@@ -22,6 +22,7 @@ use crate::refusal::Refusal;
 use osc_authz::laws::{meant_contexts, one_path_changed};
 use osc_authz::{RevokedMarks, ServerContext, ServerDesk, Standing};
 use osc_ccm::Ciphers;
+use osc_coap::MessageRef;
 use osc_coap::laws::{length_of_plaintext, length_of_spelling};
 use osc_context::AcceptedNumber;
 use osc_message::{Arrival, ReplyRoom};
@@ -30,8 +31,10 @@ use osc_model::{
     Bytes, Code, Datagrams, Entry, Note, Path, Peer, Reply, Request, SharedBytes, SharedName,
     StepNotes,
 };
-use osc_options::request_in;
-use osc_protect::{Room, SealedReply, SealedRequestRef, open_request, seal_reply};
+use osc_options::{OscoreValue, request_in};
+use osc_protect::{
+    Malformed, Room, SealedReply, SealedRequestRef, open_request, read_request, seal_reply,
+};
 use osc_run::kinds;
 use osc_scope::{Scope, Verdict};
 use osc_tree::Tree;
@@ -61,6 +64,22 @@ pub struct ProtectedRequest<'a> {
     pub came: &'a Arrival<'a>,
     /// What its message says.
     pub says: SealedRequestRef<'a>,
+}
+
+/// What a protected request says, whose OSCORE option has this value; takes no memory.
+///
+/// # Errors
+///
+/// Exactly where the message is none.
+pub fn sealed_request<'a>(
+    value: &OscoreValue<'a>,
+    message: &MessageRef<'a>,
+) -> Result<SealedRequestRef<'a>, Malformed>
+    requires { value_in 9 message.now.options ≡ Some value.now }
+    ensures found { IfOk result (λ request. IsRequest message.now request) }
+    ensures only { (request : SealedRequest) → IsRequest message.now request → result ≡ Ok request }
+{
+    read_request(value, message)
 }
 
 /// The live context that the request means; takes no memory.

@@ -10,6 +10,7 @@ use osc_fixtures::{
 };
 use osc_model::{ClientResult, Code, Moment, Request, SharedName, Side, Step};
 use osc_server::Server;
+use osc_world::adversary::lie;
 use std::alloc::{AllocError, Global};
 use std::process::Abort;
 use std::test::*;
@@ -44,13 +45,13 @@ fn lied(alloc: Global, client: &Client, number: u64, text: &[u8], byte: u8) -> V
 {
     sent_in(
         alloc,
-        client.lie::<Suite>(alloc, number, text, &drawn(byte)),
+        lie::<Suite>(alloc, client, number, text, &drawn(byte)),
     )
 }
 
 /// How a lie goes on that isn't sent.
 fn refused_lie(alloc: Global, client: &Client, text: &[u8]) -> u8 {
-    result_in(client.lie::<Suite>(alloc, 0, text, &drawn(7)))
+    result_in(lie::<Suite>(alloc, client, 0, text, &drawn(7)))
 }
 
 /// How a step at the client went on, in one byte: 0 for nothing, 1 for a context, 2 and more by the class of an answer that opened
@@ -232,10 +233,10 @@ fn lies_and_skips(
     assert!(rt; refused_lie(alloc, client, b"\x02") == 122);
     exchanges(rt, alloc, client, server);
     assert!(rt; refused_lie(alloc, client, [0; 1152].as_slice()) == 114);
-    let lie = lied(alloc, client, 0, b"\x02\xb3log\xffb", 5);
-    assert!(rt; lie.starts_with(b"\x48\x02\x05\x05\x05"));
+    let told = lied(alloc, client, 0, b"\x02\xb3log\xffb", 5);
+    assert!(rt; told.starts_with(b"\x48\x02\x05\x05\x05"));
     let replay = asked(alloc, client, &post, 6);
-    assert!(rt; served(alloc, server, &lie).starts_with(b"\x68\x44\x05\x05\x05"));
+    assert!(rt; served(alloc, server, &told).starts_with(b"\x68\x44\x05\x05\x05"));
     assert!(rt; server.tree().len() == 1);
     let answer = served(alloc, server, &replay);
     assert!(rt; answer.starts_with(b"\x68\x81"));

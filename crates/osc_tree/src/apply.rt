@@ -5,6 +5,7 @@ ghost use Rattle.osc_model.specs.{code, etag_of, method_of, most_resources, long
 ghost use Rattle.osc_model.specs.Tree.{Tree as AnyTree};
 
 use crate::checks::accepted;
+use crate::grant::Grant;
 use crate::tagged::Tagged;
 use crate::tree::Tree;
 use osc_model::{Bytes, Code, Method, Path, Reply, Request, Resource};
@@ -17,7 +18,6 @@ impl Tree {
     /// alone. Without memory for the reply or the resource an `AllocError`, and the tree stays as it was; a refusal and
     /// a DELETE take no memory. The path is looked up once, and once more to write or to remove, or to keep the ETag of the
     /// first GET after a write, in logarithmic time; it is copied only where it is new.
-    #[tactic(auto, unfolding(osc_model::specs::Apply::apply))]
     pub fn apply(
         &mut self,
         alloc: Global,
@@ -30,10 +30,28 @@ impl Tree {
         ensures err { OnErr result (self.new ≡ self.old) }
         ensures needs_memory { OnErr result (IsTrue (takes_memory (outcome (option_map (λ path. path.now) root.entry) self.old scope.now request.now).reply)) }
     {
-        let Some(path) = &request.path else {
-            return Ok(Reply::bare(alloc, Code::FORBIDDEN));
-        };
-        match accepted(self, root, scope, path, request) {
+        match Grant::of(scope, request) {
+            Ok(grant) => self.apply_granted(alloc, root, &grant),
+            Err(code) => Ok(Reply::bare(alloc, code)),
+        }
+    }
+
+    /// The same of a request that its scope grants, which isn't asked again.
+    #[tactic(auto, unfolding(osc_model::specs::Apply::apply))]
+    pub fn apply_granted(
+        &mut self,
+        alloc: Global,
+        root: Option<&Path>,
+        grant: &Grant<'_>,
+    ) -> Result<Reply, AllocError>
+        ensures reply { IfOk result (λ reply. reply ≡ (outcome (option_map (λ path. path.now) root.entry) self.old grant.now.scope grant.now.request).reply) }
+        ensures tree { OnOk result (self.new ≡ (outcome (option_map (λ path. path.now) root.entry) self.old grant.now.scope grant.now.request).tree) }
+        ensures err { OnErr result (self.new ≡ self.old) }
+        ensures needs_memory { OnErr result (IsTrue (takes_memory (outcome (option_map (λ path. path.now) root.entry) self.old grant.now.scope grant.now.request).reply)) }
+    {
+        let path = grant.path();
+        let request = grant.request();
+        match accepted(self, root, grant, path) {
             Err(code) => Ok(Reply::bare(alloc, code)),
             Ok(found) => match Method::from_code(request.code) {
                 Some(Method::Get) => {

@@ -1,54 +1,49 @@
 //! The checks that a request must pass, in their order.
-ghost use Rattle.std.specs.Prelude.{◌≡◌, ◌==◌, ◌||◌, ◌&&◌, not, ◌∷◌, [], nat_le, ◌<◌, ◌^◌, length, bytes_eq, is_some, None, Some, IfOk, OnOk, IfErr, option_copied, option_map};
+ghost use Rattle.std.specs.Prelude.{◌≡◌, ◌==◌, ◌||◌, ◌&&◌, not, ◌∷◌, [], nat_le, ◌<◌, ◌^◌, length, true, bytes_eq, is_some, None, Some, IfOk, OnOk, IfErr, option_copied, option_map};
 ghost use Rattle.std.specs.FinMap as map;
 ghost use Rattle.std.specs.List.{list_any};
-ghost use Rattle.osc_model.specs.{code, method_of, longest_payload, payload_length as length_of, AllowsWrite, refusal as refuses, method_checks, first_failing, is_matched as matches, is_acceptable as accepts};
+ghost use Rattle.osc_model.specs.{code, allows, method_of, longest_payload, payload_length as length_of, AllowsWrite, refusal as refuses, method_checks, first_failing, is_matched as matches, is_acceptable as accepts};
 
+use crate::grant::Grant;
 use crate::tagged::Tagged;
 use crate::tree::Tree;
 use osc_model::limits::LONGEST_PAYLOAD;
 use osc_model::{Code, ETag, Method, Path, Request};
-use osc_scope::{Scope, Verdict};
 
-/// What the path has, where no check fails, and else the code of the first that does; what passes can be written. Looks the
-/// path up once, and takes no memory.
+/// What the path of a granted request has, where no check fails, and else the code of the first that does; what passes can be written.
+/// Looks the path up once, and takes no memory.
 pub fn accepted<'a>(
     tree: &'a Tree,
     root: Option<&Path>,
-    scope: &Scope,
+    grant: &Grant<'_>,
     path: &Path,
-    request: &Request,
 ) -> Result<Option<&'a Tagged>, Code>
+    requires { allows grant.now.scope path.now (method_of grant.now.request.code) ≡ true }
     ensures found { IfOk result (λ found. option_copied found ≡ map.get tree.now path.now) }
-    ensures passes { OnOk result (refuses (option_map (λ path. path.now) root.entry) tree.now scope.now path.now request.now ≡ None) }
-    ensures writes { OnOk result (AllowsWrite tree.now path.now request.now) }
-    ensures fails { IfErr result (λ code. refuses (option_map (λ path. path.now) root.entry) tree.now scope.now path.now request.now ≡ Some code) }
+    ensures passes { OnOk result (refuses (option_map (λ path. path.now) root.entry) tree.now grant.now.scope path.now grant.now.request ≡ None) }
+    ensures writes { OnOk result (AllowsWrite tree.now path.now grant.now.request) }
+    ensures fails { IfErr result (λ code. refuses (option_map (λ path. path.now) root.entry) tree.now grant.now.scope path.now grant.now.request ≡ Some code) }
 {
     osc_model::laws::what_passes_can_be_written();
-    checked(tree, root, scope, path, request)
+    checked(tree, root, grant, path)
 }
 
-// The same, without that it can be written.
+// The same, without that it can be written. The scope's two checks pass.
 #[tactic(auto, unfolding(osc_model::specs::Checks::refusal))]
 fn checked<'a>(
     tree: &'a Tree,
     root: Option<&Path>,
-    scope: &Scope,
+    grant: &Grant<'_>,
     path: &Path,
-    request: &Request,
 ) -> Result<Option<&'a Tagged>, Code>
+    requires { allows grant.now.scope path.now (method_of grant.now.request.code) ≡ true }
     ensures found { IfOk result (λ found. option_copied found ≡ map.get tree.now path.now) }
-    ensures passes { OnOk result (refuses (option_map (λ path. path.now) root.entry) tree.now scope.now path.now request.now ≡ None) }
-    ensures fails { IfErr result (λ code. refuses (option_map (λ path. path.now) root.entry) tree.now scope.now path.now request.now ≡ Some code) }
+    ensures passes { OnOk result (refuses (option_map (λ path. path.now) root.entry) tree.now grant.now.scope path.now grant.now.request ≡ None) }
+    ensures fails { IfErr result (λ code. refuses (option_map (λ path. path.now) root.entry) tree.now grant.now.scope path.now grant.now.request ≡ Some code) }
 {
     osc_model::laws::allowed_is_named();
-    match scope.verdict(Some(path), request.code) {
-        Verdict::NoPath => return Err(Code::FORBIDDEN),
-        Verdict::NoMethod => return Err(Code::METHOD_NOT_ALLOWED),
-        Verdict::Granted => {}
-    }
     let found = tree.find(path);
-    match refusal(found, tree.is_full_at(root, path), request) {
+    match refusal(found, tree.is_full_at(root, path), grant.request()) {
         Some(code) => Err(code),
         None => Ok(found),
     }

@@ -24,4 +24,5 @@ mod StillHeld
 mod MayAsk
 mod Premises
 mod Minting
+mod Lies
 mod Beginnings

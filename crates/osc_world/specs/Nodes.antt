@@ -9,10 +9,11 @@ use Rattle.osc_model.specs.{same_peer}
 use Rattle.osc_run.specs.{Cause, Came, Due}
 use Rattle.osc_run.specs.declared.noted.Actor.{Actor}
 use Rattle.osc_run.specs.declared.noted.Actor.TheVariants as actor
-use Rattle.osc_client.specs.{Asked, Lie, skipped_to}
+use Rattle.osc_client.specs.{Asked, skipped_to}
 use Rattle.osc_client.specs.State.{State as Client}
 use Rattle.osc_server.specs.State.{State as Server}
 use Rattle.osc_proxy.specs.State.{State as Proxy}
+use Rattle.osc_world.specs.Adversary.{Lie}
 use Rattle.osc_world.specs.declared.event.Event.{Event}
 use Rattle.osc_world.specs.declared.event.What.{What}
 use Rattle.osc_world.specs.declared.event.What.TheVariants as what

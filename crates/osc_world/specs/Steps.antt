@@ -7,12 +7,13 @@ use Rattle.osc_ccm.specs.{Sealings, Tags}
 use Rattle.osc_run.specs.{Cause, Noted, by_server, by_client, by_proxy}
 use Rattle.osc_server.specs.State.{State as Server}
 use Rattle.osc_server.specs.Steps as of_server
-use Rattle.osc_client.specs.{Begins, Requests, TellsLie, restarted}
+use Rattle.osc_client.specs.{Begins, Requests, restarted}
 use Rattle.osc_client.specs.State.{State as Client}
 use Rattle.osc_client.specs.Steps as of_client
 use Rattle.osc_proxy.specs.{restarted as proxy_again}
 use Rattle.osc_proxy.specs.State.{State as Proxy}
 use Rattle.osc_proxy.specs.Steps as of_proxy
+use Rattle.osc_world.specs.Adversary.{TellsLie}
 use Rattle.osc_world.specs.Nodes.{NodeStates, Task, Take, StartAgain, ClientTask, Begin, Ask, TellLie, Do, Deed, Nothing, OfServer, OfClient, OfProxy}
 use Rattle.osc_world.specs.declared.nodes.Placed.{Placed}
 use Rattle.osc_world.specs.declared.nodes.Taken.{Taken}

@@ -6,6 +6,7 @@ ghost use Rattle.osc_world.specs.Inner.Tasks.{MayBeDone, client_task_of, task_of
 ghost use Rattle.osc_world.specs.Steps.{ClientDoes, Does, is_lie};
 ghost use Rattle.osc_world.specs.declared.event.Event.{Event as AnyEvent};
 
+use crate::adversary::lie;
 use crate::event::Event;
 use osc_ccm::Ciphers;
 use osc_client::Client;
@@ -91,7 +92,7 @@ pub(crate) fn client_does<A: Ciphers>(
     match job {
         ClientJob::Begin => client.exchange(alloc, event.moment, &event.draw),
         ClientJob::Ask(request) => client.ask::<A>(alloc, event.moment, request, &event.draw),
-        ClientJob::TellLie { number, text } => client.lie::<A>(alloc, number, text, &event.draw),
+        ClientJob::TellLie { number, text } => lie::<A>(alloc, client, number, text, &event.draw),
         ClientJob::Do(job) => does::<A, Client>(alloc, client, event, job),
     }
 }

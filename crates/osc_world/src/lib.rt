@@ -2,6 +2,7 @@
 //! any order, and forges others. What it keeps of its steps is a run, so what holds of every run holds of every world.
 #![tactic(auto)]
 
+pub mod adversary;
 mod draws;
 mod error;
 mod event;

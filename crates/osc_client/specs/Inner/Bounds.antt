@@ -52,7 +52,6 @@ size_for tag context plain = record { plaintext = length (plain_bytes plain); me
 abbrev pub room_for : (tag : Tags) → ContextName → ℕ → Message → AskRoom
 room_for tag name number plain = record {
   seal = record { name = name; number = number; most = length (plain_bytes plain) };
-  plaintext = length (plain_bytes plain);
   datagram = request_length tag name number plain;
 }
 

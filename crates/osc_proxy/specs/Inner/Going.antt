@@ -1,5 +1,5 @@
 -- Messages that a proxy makes, by their bytes: the way from the code to the definitions.
-use Rattle.std.specs.Prelude.{◌≡◌, ℕ, ◌<◌, Bool, true, false, List, [], if◌then◌else◌, Some, option_map}
+use Rattle.std.specs.Prelude.{◌≡◌, ℕ, ◌<◌, Bool, true, false, List, [], if◌then◌else◌, Option, None, Some, option_map}
 use Rattle.osc_model.specs.Arrival.{Arrival}
 use Rattle.osc_model.specs.declared.node.Draw.{Draw}
 use Rattle.osc_model.specs.declared.node.Moment.{Moment}
@@ -8,7 +8,7 @@ use Rattle.osc_model.specs.declared.step.Datagram.{Datagram}
 use Rattle.osc_coap.specs.{is_request_code, HasSpelling, spelling}
 use Rattle.osc_coap.specs.Message.{Message}
 use Rattle.osc_model.specs.{same_peer}
-use Rattle.osc_message.specs.{EndpointState, FitsDatagram, IsSendableReply, acknowledgement, sent_to}
+use Rattle.osc_message.specs.{EndpointState, FitsDatagram, IsSendableReply, OutboxState, acknowledgement, sent_to}
 use Rattle.osc_proxy.specs.Exchanges.{get}
 use Rattle.osc_proxy.specs.Own.{goes_now, has_room, sends_own, with_own}
 use Rattle.osc_proxy.specs.State.{State}
@@ -17,10 +17,20 @@ use Rattle.osc_proxy.specs.declared.exchanges.Exchange.{Exchange}
 use Rattle.osc_proxy.specs.declared.sending.Acknowledged.{Acknowledged}
 use Rattle.osc_proxy.specs.declared.sending.Own.{Own}
 
+-- what is sent already
+abbrev pub sent_in : Option OutboxState → List Datagram
+sent_in None = []
+sent_in (Some out) = out.sent
+
+-- a place for one datagram more; where nothing is sent, it needs none
+abbrev pub HasPlace : Option OutboxState → Type 0
+HasPlace None = Unit {0}
+HasPlace (Some out) = 0 < out.places
+
 -- the acknowledgement of a message of this peer, where it is confirmable, with a place for one datagram more
 pub record Acknowledges (from : Peer) (message : Message) (made : Acknowledged) : Type 0 where
-  pub sent : made.out.sent ≡ sent_to from (acknowledgement message)
-  pub place : 0 < made.out.places
+  pub sent : sent_in made.out ≡ sent_to from (acknowledgement message)
+  pub place : HasPlace made.out
   pub noted : made.reply ≡ option_map spelling (acknowledgement message)
   pub short : IsSendableReply made.reply
 

@@ -27,10 +27,11 @@ use Rattle.osc_message.specs.declared.heard.Heard.TheVariants as heard
 use Rattle.osc_ccm.specs.{Sealings, Tags}
 use Rattle.osc_protect.specs.{SealedRequest, IsProtectedResponse}
 use Rattle.osc_run.specs.{opening_note, Replies as AppliesTo}
-use Rattle.osc_options.specs.{read_request, IsWithinRanges}
-use Rattle.osc_server.specs.Table.{IsOpened, Met, notes_of_request, reply_to}
+use Rattle.osc_options.specs.{oscore, read_request, value, IsWithinRanges}
+use Rattle.osc_server.specs.State.{State}
+use Rattle.osc_server.specs.Table.{IsOpened, Met, answered, notes_of_request, reply_to}
 use Rattle.osc_server.specs.declared.case.Case.{Case}
-use Rattle.osc_server.specs.declared.case.Case.TheVariants.{OpenGet}
+use Rattle.osc_server.specs.declared.case.Case.TheVariants.{OpenGet, Protected}
 use Rattle.osc_server.specs.declared.serving.Served.{Served}
 use Rattle.osc_server.specs.declared.serving.Taken.{Taken}
 
@@ -63,10 +64,6 @@ text_beside_payload = 14
 -- the most bytes of a protected reply beside what is sealed in it: header, token, an empty OSCORE option, and the payload marker
 abbrev pub message_beside_sealed : ℕ
 message_beside_sealed = 14
-
--- the most bytes of a reply's plaintext, where it has no more payload than a resource may have
-abbrev pub longest_text : ℕ
-longest_text = text_beside_payload + longest_payload
 
 -- What was taken once a request had opened, beside the note of its opening: what it asks, what its entry says, and, with these
 -- tags, room for the longest reply that it may get of this tree.
@@ -117,8 +114,13 @@ pub record IsQuiet (endpoint : EndpointState) : Type 0 where
 
 -- what goes to the tree is a GET
 abbrev pub AsksGet : Case → Type 0
-AsksGet (OpenGet request) = request.code.0 ≡ method_number Get
+AsksGet (OpenGet granted) = granted.request.code.0 ≡ method_number Get
 AsksGet case = Unit {0}
+
+-- what goes to a context has this value of OSCORE's option
+abbrev pub HasValue : Message → Case → Type 0
+HasValue message (Protected bytes) = value oscore message.options ≡ Some bytes
+HasValue message case = Unit {0}
 
 -- at most one datagram, a message for this peer
 pub record SendsTo (peer : Peer) (out : List Datagram) : Type 0 where
@@ -139,6 +141,12 @@ pub record IsSentAs (peer : Peer) (message : Message) (out : List Datagram) (rep
   pub kept : reply ≡ spelling message
   pub fits : FitsDatagram reply
   pub sendable : SendsTo peer out
+
+-- a new request is answered once, by this message, which goes out so
+pub record AnswersBy (before : State) (came : Arrival Message) (answer : Message) (out : List Datagram) (new : State) : Type 0 where
+  pub sent : out ≡ datagram came.from answer ∷ []
+  pub spelled : Spells (spelling answer) answer
+  pub kept : new ≡ record before { endpoint = answered before.endpoint came answer }
 
 -- the message layer once a request is answered by these bytes
 abbrev pub noted_by : EndpointState → Arrival Message → Bytes → EndpointState

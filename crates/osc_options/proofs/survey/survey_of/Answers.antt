@@ -1,18 +1,21 @@
-use Rattle.std.proofs.Common.{◌≡◌, ◌≤◌, ℕ, List, length, Option, rules, sym, ap, subst, ◌∙◌, arith}
-use Rattle.std.specs.Prelude.{IfSome, is_some}
-use Rattle.std.specs.Option.{option_map}
-use Rattle.osc_options.specs.{recognised, value}
-use Rattle.osc_options.proofs.OnePassLaws.{shown_some, shown_within, value_there}
-use Rattle.osc_options.proofs.RecognisedLaws.{value_within}
+use Rattle.std.proofs.Common.{◌==◌, ◌||◌, List, ap, sym, ◌∙◌}
+use Rattle.std.specs.List.{list_any}
+use Rattle.std.specs.Option.{option_map, option_or}
+use Rattle.osc_coap.specs.{NumberAndValue}
+use Rattle.osc_options.specs.{unrecognised_critical, value}
 use Rattle.osc_options.proofs.survey.survey_of.Goals as goal
 
-pub returns-clause-has_oscore : goal.returns-clause-has_oscore
-returns-clause-has_oscore c =
-    let found : option_map (λ v. v.now) c.loop-number.standing.oscore ≡ value 9 c.args.message.now.options = search rules in
-    sym (shown_some (λ v. v.now) c.loop-number.standing.oscore) ∙ ap is_some found ∙ value_there 9 c.args.message.now.options
-
-pub returns-clause-port_length : goal.returns-clause-port_length
-returns-clause-port_length c =
-    let found : option_map (λ v. v.now) c.loop-number.named.uri_port ≡ value 7 (recognised 0 c.args.message.now.options) = search rules in
-    shown_within (λ v. v.now) c.loop-number.named.uri_port
-    (subst (λ (found : Option (List ℕ)). IfSome found (λ bytes. length bytes ≤ 2)) (sym found) (value_within 7 2 0 c.args.message.now.options (omega arith)))
+pub loop-number-preserved : goal.loop-number-preserved
+loop-number-preserved c =
+    let before = c.loop-number in
+    let steps = c.in-Some.ensures.steps in
+    record {
+      critical = c.first_critical-critical.ensures c.next.new.self
+          ∙ ap (λ (options : List NumberAndValue). option_or before.critical (unrecognised_critical before.behind options)) (sym steps) ∙ before.invariant.critical;
+      oscore = c.first_of-oscore.ensures c.next.new.self
+          ∙ ap (λ (options : List NumberAndValue). option_or (option_map (λ v. v.now) before.oscore) (value 9 options)) (sym steps) ∙ before.invariant.oscore;
+      has_uri = c.any_of-has_uri.ensures c.in-Some.value.now c.next.new.self
+          ∙ ap (λ (options : List NumberAndValue). before.has_uri || list_any (λ option. option.0 == 35) options) (sym steps) ∙ before.invariant.has_uri;
+      has_scheme = c.any_of-has_scheme.ensures c.in-Some.value.now c.next.new.self
+          ∙ ap (λ (options : List NumberAndValue). before.has_scheme || list_any (λ option. option.0 == 39) options) (sym steps) ∙ before.invariant.has_scheme;
+    }

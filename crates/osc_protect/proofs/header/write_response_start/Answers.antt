@@ -1,7 +1,6 @@
-use Rattle.std.proofs.Common.{◌≡◌, ◌≤◌, ◌++◌, List, ℕ, [], length, refl, sym, ap, subst, ◌∙◌, arith}
-use Rattle.osc_coap.specs.{bare, option_spelling, spelling, with_option}
+use Rattle.std.proofs.Common.{◌++◌, List, ℕ, [], refl, sym, ap, ◌∙◌, arith}
+use Rattle.osc_coap.specs.{bare, option_spelling, spelling}
 use Rattle.osc_coap.specs.Message.{Message}
-use Rattle.osc_protect.specs.Inner.Outside.{outer_response}
 use Rattle.osc_protect.proofs.OuterLaws.{one_empty_option, start_length}
 use Rattle.osc_protect.proofs.header.write_response_start.Goals as goal
 

@@ -1,9 +1,8 @@
-use Rattle.std.proofs.Common.{◌≡◌, ◌+◌, ◌≤◌, List, ℕ, [], length, ap, subst, ◌∙◌, arith}
+use Rattle.std.proofs.Common.{◌≡◌, ◌+◌, ◌≤◌, List, ℕ, length, ap, subst, ◌∙◌, arith}
 use Rattle.std.specs.Option.{IfSome, IsSome}
 use Rattle.osc_coap.specs.{plaintext_spelling}
 use Rattle.osc_context.specs.{algorithm_of}
 use Rattle.osc_protect.specs.{length_of_request, longest_message, plain_bytes, request_length, request_value}
-use Rattle.osc_protect.specs.declared.request.RequestSize.{RequestSize}
 use Rattle.osc_protect.proofs.LengthLemmas.{least_protected}
 use Rattle.osc_protect.proofs.SealLaws.{drafted, request_size, request_text, text_of, whole}
 use Rattle.osc_protect.proofs.request.draft_request.Goals as goal

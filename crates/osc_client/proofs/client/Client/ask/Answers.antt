@@ -53,10 +53,10 @@ returns-clause-asked g c =
     } = ap₂ (λ (o : List Datagram) (n : StepNotes). record { out = o; notes = n }) out notes in
     let taken : c.sealed-note.new.context ≡ record free.0 { next = free.0.next + 1 } =
     c.sealed-note.ensures.next ∙ ap (λ (x : ClientContextState). record x { next = x.next + 1 }) (sym same) in
-    let ask : c.sealed-note.result.ask ≡ record { number = free.0.next; plaintext = plain_bytes asked } =
-    c.sealed-note.ensures.ask asked drafted ∙ ap (λ (x : ClientContextState). record { number = x.next; plaintext = plain_bytes asked }) (sym same) in
+    let ask : c.sealed-note.result.ask ≡ record { number = free.0.next } =
+    c.sealed-note.ensures.ask ∙ ap (λ (x : ClientContextState). record { number = x.next }) (sym same) in
     let kept : c.open-out.new.self ≡ opened (record c.args.self.now { context = Some (record free.0 { next = free.0.next + 1 }) }) c.args.now c.args.draw.now message
-    (Ask (record { number = free.0.next; plaintext = plain_bytes asked })) =
+    (Ask (record { number = free.0.next })) =
     c.open-out.ensures.opened
     ∙ ap (λ (s : State). opened (record s { context = Some c.sealed-note.new.context }) c.args.now c.args.draw.now message (Ask c.sealed-note.result.ask)) c.self.view_is
     ∙ ap₂ (λ (k : ClientContextState) (a : OpenAsk). opened (record c.args.self.now { context = Some k }) c.args.now c.args.draw.now message (Ask a)) taken ask in
@@ -82,10 +82,10 @@ returns-clause-kind g c =
     c.with_seal.ensures ∙ ap₂ (λ (q : StepNotes) (n : Note). record q { seals = Some n }) c.quiet.ensures note in
     let taken : c.sealed-note.new.context ≡ record free.0 { next = free.0.next + 1 } =
     c.sealed-note.ensures.next ∙ ap (λ (x : ClientContextState). record x { next = x.next + 1 }) (sym same) in
-    let ask : c.sealed-note.result.ask ≡ record { number = free.0.next; plaintext = plain_bytes plain } =
-    c.sealed-note.ensures.ask plain drafted ∙ ap (λ (x : ClientContextState). record { number = x.next; plaintext = plain_bytes plain }) (sym same) in
+    let ask : c.sealed-note.result.ask ≡ record { number = free.0.next } =
+    c.sealed-note.ensures.ask ∙ ap (λ (x : ClientContextState). record { number = x.next }) (sym same) in
     let kept : c.open-out.new.self ≡ opened (record c.args.self.now { context = Some (record free.0 { next = free.0.next + 1 }) }) c.args.now c.args.draw.now c.sealed-note.new.draft.message
-    (Ask (record { number = free.0.next; plaintext = plain_bytes plain })) =
+    (Ask (record { number = free.0.next })) =
     c.open-out.ensures.opened
     ∙ ap (λ (s : State). opened (record s { context = Some c.sealed-note.new.context }) c.args.now c.args.draw.now c.sealed-note.new.draft.message (Ask c.sealed-note.result.ask)) c.self.view_is
     ∙ ap₂ (λ (k : ClientContextState) (a : OpenAsk). opened (record c.args.self.now { context = Some k }) c.args.now c.args.draw.now c.sealed-note.new.draft.message (Ask a)) taken ask in

@@ -5,7 +5,8 @@ use Rattle.osc_client.proofs.client.Client.refuse.Goals as goal
 
 pub invariant_of-self : goal.invariant_of-self
 invariant_of-self c =
-    let own = own_acknowledged c.args.from c.args.message.kind c.args.message.id c.self.inside.next_hop c.self.inside.waiting c.self.inside.endpoint.sending c.self.invariant.0 in (
+    let came = c.came.inside in
+    let own = own_acknowledged came.from came.message.kind came.message.id c.self.inside.next_hop c.self.inside.waiting c.self.inside.endpoint.sending c.self.invariant.0 in (
       subst (KeepsOwn c.self.inside.next_hop c.self.inside.waiting) (ap (λ e. e.sending) (sym c.settle.ensures)) own,
       c.self.invariant.1,
       c.self.invariant.2,

@@ -8,7 +8,7 @@ use Rattle.osc_coap.specs.Message.{Message}
 use Rattle.osc_model.specs.Arrival.{Arrival}
 use Rattle.osc_model.specs.{sends}
 use Rattle.osc_proxy.specs.{EachHasItsExchange, is_request, Changes, count, get, Counts, answer_for, back_kept, back_sends, counted}
-use Rattle.osc_proxy.specs.Inner.Going.{Acknowledges, CanClose, back_kept_by, back_sends_by}
+use Rattle.osc_proxy.specs.Inner.Going.{Acknowledges, CanClose, back_kept_by, back_sends_by, sent_in}
 use Rattle.osc_proxy.specs.State.{State}
 use Rattle.osc_proxy.proofs.Codes.{no_request}
 use Rattle.osc_proxy.proofs.Its.{each_at, each_back, each_closed, each_fewer_by, its_named}
@@ -39,27 +39,24 @@ returns-clause-counted c =
     ∙ ap (λ r. settled inside.endpoint now from (heard.Message message) (handling.Counted exchange.id r)) acknowledged.noted
     ∙ ap (λ (s : State). counted s it exchange) view in
     let here : get inside.exchanges key ≡ Some exchange = ap (λ (s : State). get s.exchanges key) view ∙ asked.is in
-    let fewer : count c.close.new.self + 1 ≡ count inside.exchanges =
-    subst (λ r. OnSome r (count c.close.new.self + 1 ≡ count inside.exchanges)) (c.close.ensures.value ∙ here) c.close.ensures.count in
-    let new : State = record { targets = inside.targets; exchanges = c.close.new.self; endpoint = c.send_back.new.endpoint } in
+    let new : State = record { targets = inside.targets; exchanges = c.close_answered.new.self; endpoint = c.send_back-sent.new.endpoint } in
     subst (λ (a : Arrival Message). Counts key old a c.sending.result new) c.came.view_is (record {
       exchange = exchange;
       closes = record {
         was = asked.is;
-        closed = subst (λ (s : State). Changes s.exchanges c.close.new.self key None) view c.close.ensures.closed;
-        fewer = fewer ∙ ap (λ (s : State). count s.exchanges) view;
-        next = subst (λ r. OnSome r (c.close.new.self.next ≡ key)) (c.close.ensures.value ∙ here) c.close.ensures.next;
+        closed = subst (λ (s : State). Changes s.exchanges c.close_answered.new.self key None) view c.close_answered.ensures.closed;
+        fewer = c.close_answered.ensures.count ∙ ap (λ (s : State). count s.exchanges) view;
+        next = c.close_answered.ensures.next;
       };
       lawful = asked.lawful;
       told = c.sending.ensures
           ∙ ap sends
-          (c.into_datagrams.ensures
-          ∙ c.put.ensures
-          ∙ ap (λ xs. xs ++ option_to_list c.send_back.result) acknowledged.sent
+          (c.going.ensures
+          ∙ ap (λ xs. xs ++ option_to_list c.send_back-sent.result) acknowledged.sent
           ∙ ap (λ xs. sent_to from (acknowledgement message) ++ xs)
-          (c.send_back.ensures.sent ∙ back_sends_is exchange answer own c.settle.new.self asked.answer ∙ ap (λ (e : EndpointState). back_sends e exchange answer) heard_by));
+          (c.send_back-sent.ensures.sent ∙ back_sends_is exchange answer own c.settle.new.self asked.answer ∙ ap (λ (e : EndpointState). back_sends e exchange answer) heard_by));
       targets = ap (λ (s : State). s.targets) view;
-      endpoint = c.send_back.ensures.made ∙ back_kept_is exchange answer own c.settle.new.self now draw asked.answer
+      endpoint = c.send_back-sent.ensures.made ∙ back_kept_is exchange answer own c.settle.new.self now draw asked.answer
           ∙ ap (λ (e : EndpointState). back_kept e now draw exchange answer) heard_by;
     })
 
@@ -79,23 +76,29 @@ invariant_of-self c =
     let exchange = asked.exchange in
     let here : get inside.exchanges key ≡ Some exchange = ap (λ (s : State). get s.exchanges key) c.self.view_is ∙ asked.is in
     let by = acknowledged_by from message.kind message.id inside.endpoint.sending in
-    let left : EachHasItsExchange c.close.new.self c.settle.new.self.sending =
-    subst (λ (e : EndpointState). EachHasItsExchange c.close.new.self e.sending) (sym c.settle.ensures)
-    (each_closed inside.exchanges c.close.new.self key exchange (names_message from named) by here c.close.ensures.closed
+    let left : EachHasItsExchange c.close_answered.new.self c.settle.new.self.sending =
+    subst (λ (e : EndpointState). EachHasItsExchange c.close_answered.new.self e.sending) (sym c.settle.ensures)
+    (each_closed inside.exchanges c.close_answered.new.self key exchange (names_message from named) by here c.close_answered.ensures.closed
     (λ m. its_named from named exchange m asked.target asked.named)
     (each_fewer_by inside.exchanges from message.kind message.id inside.endpoint.sending c.self.invariant)) in
     let other : own.confirmable ≡ true → is_request own.kept ≡ false = λ confirmable.
     ap is_request (asked.answer.kept (sym asked.answer.kind ∙ confirmable)) ∙ no_request (answer_for old it exchange) asked.response in
-    each_at c.close.new.self c.close.new.self c.send_back.new.endpoint (back_kept_by own.confirmable c.settle.new.self now draw own.to own.kept)
-    refl c.send_back.ensures.made
-    (each_back c.close.new.self own.confirmable c.settle.new.self now draw own.to own.kept other left)
+    each_at c.close_answered.new.self c.close_answered.new.self c.send_back-sent.new.endpoint (back_kept_by own.confirmable c.settle.new.self now draw own.to own.kept)
+    refl c.send_back-sent.ensures.made
+    (each_back c.close_answered.new.self own.confirmable c.settle.new.self now draw own.to own.kept other left)
 
 pub returns-clause-fits : goal.returns-clause-fits
 returns-clause-fits c =
     let own = c.args.own in
     let is = c.requires.exchange.answer in
     let back = back_sends_by own.confirmable c.settle.new.self own.to own.sent in
-    sendable_step c.sending.result (c.args.acknowledged.out.sent ++ back) (c.sending.ensures ∙ ap sends (c.into_datagrams.ensures ∙ c.put.ensures ∙ ap (λ xs. c.args.acknowledged.out.sent ++ xs) c.send_back.ensures.sent))
-    (sendable_both c.args.acknowledged.out.sent back
+    let first = sent_in c.args.acknowledged.out in
+    sendable_step c.sending.result (first ++ back) (c.sending.ensures ∙ ap sends (c.going.ensures ∙ ap (λ xs. first ++ xs) c.send_back-sent.ensures.sent))
+    (sendable_both first back
     (subst AreSendable (sym c.requires.acknowledged.sent) (sendable_acknowledgement (λ id. (c.what_nodes_send.ensures.short id).1) c.args.came.from c.args.came.what))
     (sendable_back own.confirmable c.settle.new.self own.to own.sent (subst FitsDatagram (sym is.sent) is.short)))
+
+pub close_answered-requires : goal.close_answered-requires
+close_answered-requires c =
+    let here : get c.self.inside.exchanges c.args.key ≡ Some c.requires.exchange.exchange = ap (λ (s : State). get s.exchanges c.args.key) c.self.view_is ∙ c.requires.exchange.is in
+    rw here refl

@@ -35,7 +35,6 @@ returns-clause-ended c =
     let message : failure (code 5 2) c.own_id.result exchange ≡ answer = ap (λ i. failure (code 5 2) i exchange) own_is in
     let is : IsOwn exchange.client exchange.confirmable (spelling answer) own =
     subst (λ (m : Message). IsOwn exchange.client exchange.confirmable (spelling m) own) message c.failing-own.ensures.own in
-    let empty : c.in_ok-out.out.sent ≡ [] = ap (λ (o : OutboxState). o.sent) c.in_ok-out.ensures in
     let fewer : count c.close.new.self + 1 ≡ count inside.exchanges =
     subst (λ r. OnSome r (count c.close.new.self + 1 ≡ count inside.exchanges)) (c.close.ensures.value ∙ there) c.close.ensures.count in
     record {
@@ -49,13 +48,11 @@ returns-clause-ended c =
       lawful = subst HasSpelling message c.failing-own.ensures.lawful;
       told = c.sending.ensures
           ∙ ap sends
-          (c.into_datagrams.ensures
-          ∙ c.put.ensures
-          ∙ ap (λ xs. xs ++ option_to_list c.send_back.result) empty
-          ∙ c.send_back.ensures.sent ∙ back_sends_is exchange answer own c.settle_empty.new.self is
+          (c.alone.ensures
+          ∙ c.send_back-sent.ensures.sent ∙ back_sends_is exchange answer own c.settle_empty.new.self is
           ∙ ap (λ (e : EndpointState). back_sends e exchange answer) heard_by);
       targets = ap (λ (s : State). s.targets) view;
-      endpoint = c.send_back.ensures.made ∙ back_kept_is exchange answer own c.settle_empty.new.self now draw is
+      endpoint = c.send_back-sent.ensures.made ∙ back_kept_is exchange answer own c.settle_empty.new.self now draw is
           ∙ ap (λ (e : EndpointState). back_kept e now draw exchange answer) heard_by;
     }
 
@@ -81,6 +78,6 @@ invariant_of-self c =
     let other : own.confirmable ≡ true → is_request own.kept ≡ false = λ confirmable.
     ap is_request (c.failing-own.ensures.own.kept (sym c.failing-own.ensures.own.kind ∙ confirmable))
     ∙ no_request (failure (code 5 2) c.own_id.result failed) refl in
-    each_at c.close.new.self c.close.new.self c.send_back.new.endpoint (back_kept_by own.confirmable c.settle_empty.new.self now draw own.to own.kept)
-    refl c.send_back.ensures.made
+    each_at c.close.new.self c.close.new.self c.send_back-sent.new.endpoint (back_kept_by own.confirmable c.settle_empty.new.self now draw own.to own.kept)
+    refl c.send_back-sent.ensures.made
     (each_back c.close.new.self own.confirmable c.settle_empty.new.self now draw own.to own.kept other left)

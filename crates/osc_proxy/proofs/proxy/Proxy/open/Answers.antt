@@ -9,7 +9,7 @@ use Rattle.osc_model.specs.Arrival.{Arrival}
 use Rattle.osc_model.specs.{token_drawn, sends}
 use Rattle.osc_proxy.specs.{EachHasItsExchange, Changes, count, get, goes_now, sends_own, with_own, IsForwarded, exchange_of, forwarded_by, key_for, next_own, taken_up}
 use Rattle.osc_proxy.specs.Inner.Bounds.{names_one}
-use Rattle.osc_proxy.specs.Inner.Going.{Acknowledges, IsOwn}
+use Rattle.osc_proxy.specs.Inner.Going.{Acknowledges, IsOwn, sent_in}
 use Rattle.osc_proxy.specs.Passage.{Passage}
 use Rattle.osc_proxy.specs.State.{State}
 use Rattle.osc_proxy.specs.declared.exchanges.Exchange.{Exchange}
@@ -40,7 +40,7 @@ returns-clause-forwarded c =
     let is_own : IsOwn to kind (spelling (forwarded_by old it)) own =
     subst (λ (a : Arrival Message). IsOwn to (is_confirmable a.what.kind) (spelling (forwarded_by old (record { came = a; to = to; key = key }))) own)
     (sym seen_as) c.requires.own in
-    let new : State = record { targets = inside.targets; exchanges = c.open.new.self; endpoint = c.send_own.new.endpoint } in
+    let new : State = record { targets = inside.targets; exchanges = c.open.new.self; endpoint = c.send_own-sent.new.endpoint } in
     let bytes = spelling (forwarded_by old it) in
     let view = c.self.view_is in
     let taken : c.settle.new.self ≡ taken_up old came =
@@ -56,14 +56,13 @@ returns-clause-forwarded c =
       lawful = subst (λ (a : Arrival Message). HasSpelling (forwarded_by old (record { came = a; to = to; key = key }))) (sym seen_as) c.requires.lawful;
       told = c.sending.ensures
           ∙ ap sends
-          (c.into_datagrams.ensures
-          ∙ c.put.ensures
-          ∙ ap (λ xs. xs ++ option_to_list c.send_own.result) acknowledged.sent
+          (c.going.ensures
+          ∙ ap (λ xs. xs ++ option_to_list c.send_own-sent.result) acknowledged.sent
           ∙ ap (λ xs. sent_to from (acknowledgement message) ++ xs)
-          (c.send_own.ensures.sent ∙ sent_is to kind bytes own c.settle.new.self is_own
+          (c.send_own-sent.ensures.sent ∙ sent_is to kind bytes own c.settle.new.self is_own
           ∙ ap (λ (e : EndpointState). sends_own (goes_now kind to e) to bytes) taken));
       targets = ap (λ (s : State). s.targets) view;
-      endpoint = c.send_own.ensures.made ∙ made_is to kind bytes own c.settle.new.self now draw is_own
+      endpoint = c.send_own-sent.ensures.made ∙ made_is to kind bytes own c.settle.new.self now draw is_own
           ∙ ap (λ (e : EndpointState). with_own kind e now draw to bytes) taken;
       was_free = ap (λ (s : State). get s.exchanges key) (sym view) ∙ ap (get inside.exchanges) (sym next) ∙ c.open.ensures.was_free;
       opened = subst (λ (s : State). Changes s.exchanges c.open.new.self key (Some (exchange_of (next_own old draw) it))) view
@@ -87,7 +86,7 @@ invariant_of-self c =
     ap (λ (e : EndpointState). e.sending) c.settle.ensures ∙ none_named from message.kind message.id inside.endpoint.sending apart in
     let id : c.opened-exchange.result.id ≡ own_id draw before.next_id =
     ap (λ (e : Exchange). e.id) is ∙ c.own_id-id.ensures ∙ sym (ap (λ (e : EndpointState). own_id draw e.next_id) c.settle.ensures) in
-    each_at c.open.new.self c.open.new.self c.send_own.new.endpoint (with_own own.confirmable before now draw own.to own.kept) refl c.send_own.ensures.made
+    each_at c.open.new.self c.open.new.self c.send_own-sent.new.endpoint (with_own own.confirmable before now draw own.to own.kept) refl c.send_own-sent.ensures.made
     (each_opened inside.exchanges c.open.new.self inside.exchanges.next c.opened-exchange.result own.confirmable before now draw own.to own.kept
     c.open.ensures.was_free c.open.ensures.opened (ap (λ (e : Exchange). e.confirmable) is ∙ sym c.requires.own.kind) (ap (λ (e : Exchange). e.target) is) id
     (subst (EachHasItsExchange inside.exchanges) (sym same) c.self.invariant))
@@ -106,8 +105,9 @@ pub returns-clause-fits : goal.returns-clause-fits
 returns-clause-fits c =
     let own = c.args.own in
     let goes = goes_now own.confirmable own.to c.settle.new.self in
-    sendable_step c.sending.result (c.args.acknowledged.out.sent ++ sends_own goes own.to own.sent)
-    (c.sending.ensures ∙ ap sends (c.into_datagrams.ensures ∙ c.put.ensures ∙ ap (λ xs. c.args.acknowledged.out.sent ++ xs) c.send_own.ensures.sent))
-    (sendable_both c.args.acknowledged.out.sent (sends_own goes own.to own.sent)
+    let first = sent_in c.args.acknowledged.out in
+    sendable_step c.sending.result (first ++ sends_own goes own.to own.sent)
+    (c.sending.ensures ∙ ap sends (c.going.ensures ∙ ap (λ xs. first ++ xs) c.send_own-sent.ensures.sent))
+    (sendable_both first (sends_own goes own.to own.sent)
     (subst AreSendable (sym c.requires.acknowledged.sent) (sendable_acknowledgement (λ id. (c.what_nodes_send.ensures.short id).1) c.args.came.from c.args.came.what))
     (sendable_own goes own.to own.sent (subst FitsDatagram (sym c.requires.own.sent) c.requires.own.short)))

@@ -17,7 +17,7 @@ returns-in_default-clause-answered g c =
     IfOk-weaker c.complain.result _ _
     (λ step sends. refused Malformed (λ request is. absurd (cc (
       c.in_default.is,
-      c.read_request.ensures.only request
+      c.sealed_request.ensures.only request
           (subst (λ (came : Arrival Message). IsRequest came.what request) (sym c.came.view_is) is),
     ))) sends)
     c.complain.ensures.sends

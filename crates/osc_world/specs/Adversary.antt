@@ -5,6 +5,7 @@ use Rattle.osc_model.specs.{method_number, message_id_drawn, token_drawn, quiet}
 use Rattle.osc_model.specs.declared.code.Method.TheVariants.{Post}
 use Rattle.osc_model.specs.declared.context.ContextName.{ContextName}
 use Rattle.osc_model.specs.declared.node.Draw.{Draw}
+use Rattle.osc_model.specs.declared.node.Moment.{Moment}
 use Rattle.osc_model.specs.declared.step.Step.{Step}
 use Rattle.osc_coap.specs.{bare, Spells, spelling}
 use Rattle.osc_coap.specs.Message.{Message}
@@ -14,10 +15,9 @@ use Rattle.osc_ccm.specs.{Sealings, Tags}
 use Rattle.osc_protect.specs.{IsRequestOf, length_of_request, longest_message}
 use Rattle.osc_authz.specs.{ClientContextState}
 use Rattle.osc_run.specs.{request_note}
-use Rattle.osc_message.specs.{datagram}
-use Rattle.osc_client.specs.Sending.{refusing}
+use Rattle.osc_message.specs.{AreSendable, datagram}
+use Rattle.osc_client.specs.{AreTold, HostAndPort, refusing, through}
 use Rattle.osc_client.specs.State.{State}
-use Rattle.osc_client.specs.Route.{HostAndPort, through}
 
 -- what goes around a lie: a confirmable POST, with a message ID and a token that are drawn (RFC 8613 section 4.2)
 abbrev pub outside_of : Option HostAndPort → Draw → Message
@@ -50,3 +50,9 @@ module _ (is_sealing : Sealings) (tag : Tags) where
           notes = record quiet { seals = Some (request_note context.name lie.number lie.text) };
         }
         → Lies client lie draw step
+
+  -- a lie is told, or refused; the client stays as it is
+  pub record TellsLie (tag : Tags) (old : State) (lie : Lie) (draw : Draw) (step : Step) : Type 0 where
+    pub lies : Lies is_sealing tag old lie draw step
+    pub told : (now : Moment) → AreTold is_sealing old now None step
+    pub fits : AreSendable step.out
