@@ -4,9 +4,10 @@
 use osc_lab::lab;
 use osc_log::{AtOnce, Faults, Form, Lines};
 use osc_programs::{
-    Ended, Kept, Noted, TraceForm, ask, check_client, check_proxy, check_server, draw, ended_by,
-    ended_by_io, filled, forward, issue_key, issue_token, list_store, running_fault, serve, sim,
-    started_by_io, status, token_fault, token_warning, with_payload, write_capture,
+    Ended, FaultKeeper, KeepingReader, TraceForm, ask, check_client, check_proxy, check_server,
+    draw, ended_by, ended_by_io, filled, forward, issue_key, issue_token, list_store,
+    running_fault, serve, sim, started_by_io, status, token_fault, token_warning, with_payload,
+    write_capture,
 };
 use osc_script::form_of;
 use osc_words::{
@@ -88,8 +89,8 @@ fn awaited_settings(config: &Option<FileName>) -> Option<&'static str> {
 
 /// A script's trace, or its diagram, goes to the standard output, and then its datagrams to their file where that is wanted.
 fn run_sim(rt: &HostRuntime, words: &SimWords) -> Ended {
-    let mut input = Kept::new(rt.alloc(), Noted::new(rt.reader()));
-    let mut output = Noted::new(io::writer(rt));
+    let mut input = KeepingReader::new(rt.alloc(), FaultKeeper::new(rt.reader()));
+    let mut output = FaultKeeper::new(io::writer(rt));
     let ended = match words.diagram {
         Some(form) => draw(rt.alloc(), &mut input, &mut output, form),
         None => {
@@ -144,8 +145,8 @@ fn capture_to(rt: &HostRuntime, script: &[u8], name: &str, keys_name: &str) -> E
 }
 
 fn capture_in(rt: &HostRuntime, script: &[u8], file: (&str, File), keys: (&str, File)) -> Ended {
-    let mut datagrams = Noted::new(file.1);
-    let mut lines = Noted::new(keys.1);
+    let mut datagrams = FaultKeeper::new(file.1);
+    let mut lines = FaultKeeper::new(keys.1);
     let ended = write_capture(rt.alloc(), script, &mut datagrams, &mut lines);
     if ended == Ended::OutOfMemory {
         notice(rt, "out of memory");
@@ -162,8 +163,8 @@ fn unwritten(rt: &HostRuntime, name: &str, error: &io::Error) -> Ended {
 }
 
 fn run_lab(rt: &HostRuntime, turns: u64) -> Ended {
-    let mut input = Kept::new(rt.alloc(), Noted::new(rt.reader()));
-    let mut output = Noted::new(io::writer(rt));
+    let mut input = KeepingReader::new(rt.alloc(), FaultKeeper::new(rt.reader()));
+    let mut output = FaultKeeper::new(io::writer(rt));
     let ended = lab(rt.alloc(), rt, &mut input, &mut output, turns);
     tell_line(rt, ended, input.kept());
     tell_streams(
@@ -207,9 +208,9 @@ fn line_text(rt: &HostRuntime, number: u64, line: &[u8]) -> Result<String, Alloc
 /// A server, by the settings of its file or of the standard input.
 fn run_server(rt: &HostRuntime, words: &NodeWords) -> Ended {
     match &words.config {
-        None => server_from(rt, words, Noted::new(rt.reader()), STANDARD_INPUT),
+        None => server_from(rt, words, FaultKeeper::new(rt.reader()), STANDARD_INPUT),
         Some(name) => match File::open(rt, name.as_str()) {
-            Ok(file) => server_from(rt, words, Noted::new(file), CONFIG),
+            Ok(file) => server_from(rt, words, FaultKeeper::new(file), CONFIG),
             Err(error) => unopened(rt, &error),
         },
     }
@@ -219,12 +220,12 @@ fn run_server(rt: &HostRuntime, words: &NodeWords) -> Ended {
 fn server_from<I: Read + Drop>(
     rt: &HostRuntime,
     words: &NodeWords,
-    settings: Noted<I>,
+    settings: FaultKeeper<I>,
     name: &str,
 ) -> Ended {
     let alloc = rt.alloc();
     let mut input = settings;
-    let mut output = Noted::new(io::writer(rt));
+    let mut output = FaultKeeper::new(io::writer(rt));
     let mut faults = Faults::new(AtOnce::new(rt.stderr()));
     let ended = if words.check {
         check_server(alloc, &mut input, &mut faults, &mut output)
@@ -247,7 +248,7 @@ fn log_form(form: LogForm) -> Form {
 
 /// What a store holds goes to the standard output, and to a new file where one is named.
 fn store(rt: &HostRuntime, words: &StoreWords) -> Ended {
-    let mut output = Noted::new(io::writer(rt));
+    let mut output = FaultKeeper::new(io::writer(rt));
     let ended = list_store(rt.alloc(), rt, words, &mut output);
     tell_streams(rt, ended, STANDARD_INPUT, None, output.fault())
 }
@@ -255,9 +256,9 @@ fn store(rt: &HostRuntime, words: &StoreWords) -> Ended {
 /// A proxy likewise.
 fn run_proxy(rt: &HostRuntime, words: &NodeWords) -> Ended {
     match &words.config {
-        None => proxy_from(rt, words, Noted::new(rt.reader()), STANDARD_INPUT),
+        None => proxy_from(rt, words, FaultKeeper::new(rt.reader()), STANDARD_INPUT),
         Some(name) => match File::open(rt, name.as_str()) {
-            Ok(file) => proxy_from(rt, words, Noted::new(file), CONFIG),
+            Ok(file) => proxy_from(rt, words, FaultKeeper::new(file), CONFIG),
             Err(error) => unopened(rt, &error),
         },
     }
@@ -266,12 +267,12 @@ fn run_proxy(rt: &HostRuntime, words: &NodeWords) -> Ended {
 fn proxy_from<I: Read + Drop>(
     rt: &HostRuntime,
     words: &NodeWords,
-    settings: Noted<I>,
+    settings: FaultKeeper<I>,
     name: &str,
 ) -> Ended {
     let alloc = rt.alloc();
     let mut input = settings;
-    let mut output = Noted::new(io::writer(rt));
+    let mut output = FaultKeeper::new(io::writer(rt));
     let mut faults = Faults::new(AtOnce::new(rt.stderr()));
     let ended = if words.check {
         check_proxy(alloc, &mut input, &mut faults, &mut output)
@@ -305,9 +306,9 @@ fn payload_file(rt: &HostRuntime, words: &ClientWords) -> Option<File> {
 
 fn run_asking(rt: &HostRuntime, words: &ClientWords) -> Ended {
     match &words.config {
-        None => client_from(rt, words, Noted::new(rt.reader()), STANDARD_INPUT),
+        None => client_from(rt, words, FaultKeeper::new(rt.reader()), STANDARD_INPUT),
         Some(name) => match File::open(rt, name.as_str()) {
-            Ok(file) => client_from(rt, words, Noted::new(file), CONFIG),
+            Ok(file) => client_from(rt, words, FaultKeeper::new(file), CONFIG),
             Err(error) => unopened(rt, &error),
         },
     }
@@ -316,12 +317,12 @@ fn run_asking(rt: &HostRuntime, words: &ClientWords) -> Ended {
 fn client_from<I: Read + Drop>(
     rt: &HostRuntime,
     words: &ClientWords,
-    settings: Noted<I>,
+    settings: FaultKeeper<I>,
     name: &str,
 ) -> Ended {
     let alloc = rt.alloc();
     let mut input = settings;
-    let mut output = Noted::new(io::writer(rt));
+    let mut output = FaultKeeper::new(io::writer(rt));
     let mut faults = Faults::new(AtOnce::new(rt.stderr()));
     let ended = if words.check {
         check_client(alloc, &mut input, &mut faults, &mut output)
@@ -335,7 +336,7 @@ fn client_from<I: Read + Drop>(
 
 /// A key goes to the standard output.
 fn key(rt: &HostRuntime) -> Ended {
-    let mut output = Noted::new(io::writer(rt));
+    let mut output = FaultKeeper::new(io::writer(rt));
     let ended = issue_key(rt.alloc(), rt, &mut output);
     if ended == Ended::OutOfMemory {
         notice(rt, "out of memory");
@@ -374,7 +375,7 @@ fn opened<T>(rt: &HostRuntime, source: &Source<T>) -> Option<File> {
 
 /// The token goes to the standard output, and the one line of a fault or a warning to the standard error.
 fn print_token(rt: &HostRuntime, words: &TokenWords, now: u64) -> Ended {
-    let mut output = Noted::new(io::writer(rt));
+    let mut output = FaultKeeper::new(io::writer(rt));
     let ended = issue_token(rt.alloc(), rt, words, &mut output);
     let line = match ended {
         Ended::Done => token_warning(words, now),
@@ -463,7 +464,7 @@ fn stopped(rt: &HostRuntime, error: &io::Error) -> Ended {
     ended
 }
 
-/// One line on the standard error. One that can't be written is nobody's failure.
+/// One line on the standard error. One that can't be written is no failure.
 fn notice(rt: &HostRuntime, line: &str) {
     let _written = rt.eprintln(line);
 }

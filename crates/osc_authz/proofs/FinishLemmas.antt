@@ -1,4 +1,4 @@
--- What an exchange comes to.
+-- The outcome of an exchange.
 use Rattle.std.proofs.Common.{◌≡◌, ℕ, Bool, true, false, not, nat_eq, eqb-true, List, [], ◌∷◌, sym, ap, ◌∙◌}
 use Rattle.std.specs.Prelude.{Result, Ok}
 use Rattle.std.proofs.lemmas.Bool.{false≢true}
@@ -21,7 +21,7 @@ pub code_is : (came : Code) (b : Bool) → b ≡ not (nat_eq came.0 65) → b �
 unfolding with_number
 code_is came b e h = ap with_number (code_if came.0 (nat_eq came.0 65) (λ i. nat_eq came.0 65) (sym h ∙ e))
 
--- ---- it comes to one thing
+-- ---- it has one outcome
 
 module _ (one_answer : (payload nonce2 server_id nonces ids : List ℕ) → IsAnswer payload nonce2 server_id → IsAnswer payload nonces ids → (nonce2 ≡ nonces) × (server_id ≡ ids)) where
   pub finishes_once : (desk : ClientDesk) (begun : Begun) (came : Code) (payload : List ℕ) (result other : Result ClientContextState FinishError)

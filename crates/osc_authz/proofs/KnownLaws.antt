@@ -1,4 +1,4 @@
--- Posts that are known change nothing, and where none is remembered none is known.
+-- Posts that are known change nothing, and where no post is remembered, no post is known.
 use Rattle.std.proofs.Common.{◌≡◌, ℕ, Bool, true, false, cond, List, [], ◌∷◌, length, Some, None, option_map, Result, Ok, Err, refl, sym, ap, ◌∙◌, arith, option_and_then, ◌≤◌}
 use Rattle.std.specs.List.{AllByRecursion, find}
 use Rattle.std.specs.Str.{bytes_eq}

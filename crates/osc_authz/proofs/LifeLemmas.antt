@@ -129,7 +129,7 @@ unmarked [] = refl
 unmarked (byte ∷ []) = replicated 256 byte
 unmarked (byte ∷ next ∷ rest) = refl
 
--- where there are no resources, none is marked
+-- where there are no resources, nothing is marked
 pub none_marked : (table : List TokenEntry) → AreMarked map.empty table (replicate 256 false)
 none_marked table held m = unmarked held.name.client_id ∙ sym (nowhere held.revocation)
   where

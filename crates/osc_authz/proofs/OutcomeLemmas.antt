@@ -1,4 +1,4 @@
--- A post comes to one outcome.
+-- A post has one outcome.
 use Rattle.std.proofs.Common.{◌≡◌, ◌⊎◌, ℕ, Bool, true, false, List, Option, Some, None, Result, Ok, Err, refl, sym, ap, ap₂, subst, ◌∙◌, arith, inl, inr}
 use Rattle.std.proofs.lemmas.Bool.{cases_lt}
 use Rattle.osc_model.specs.{is_revoked}
@@ -36,7 +36,7 @@ least_once taken a b p q =
 made_of : List ℕ → ℕ → PostAnswer
 made_of nonce2 byte = record { nonce2 = nonce2; recipient_id = byte }
 
--- whose token it is, by what its text comes to
+-- whose token it is, by what its text gives
 abbrev holder_by : Result (Claims × Scope) TokenError → Result PostReply PostError → Option (List ℕ)
 holder_by (Err error) answer = None
 holder_by (Ok granted) (Err error) = None
@@ -60,7 +60,7 @@ module _ (before : DeskState) (offer : Offer) where
 
   -- ---- what is answered to claims
 
-  -- the cases of a post whose text comes to these claims
+  -- the cases of a post whose text gives these claims
   data AnswersTo (claims : Claims) (scope : Scope) (answer : Result PostReply PostError) (after : DeskState) : Type 0 where
     to_revoked : is_revoked before.rules.revoked offer.on.tree claims.material.id ≡ true → answer ≡ Err post_error.Revoked → after ≡ before → AnswersTo claims scope answer after
     to_full : is_revoked before.rules.revoked offer.on.tree claims.material.id ≡ false → IsFull before.rules.reserved claims.material.id (alive offer.on before.table)
@@ -75,7 +75,7 @@ module _ (before : DeskState) (offer : Offer) where
         → known_of before offer claims ≡ None → Agrees before offer claims scope made after
         → answer ≡ Ok (reply.New made) → AnswersTo claims scope answer after
 
-  -- what a post comes to whose text comes to something
+  -- the outcome of a post, by what its text gives
   abbrev AnswersBy : Result (Claims × Scope) TokenError → Result PostReply PostError → DeskState → Type 0
   AnswersBy (Err error) answer after = (answer ≡ Err (post_error.Token error)) × (after ≡ before)
   AnswersBy (Ok granted) answer after =
@@ -182,7 +182,7 @@ module _ (before : DeskState) (offer : Offer) where
       either (inl below) = below.2
       either (inr allowed) = by allowed.1
 
--- ---- what a post comes to
+-- ---- the outcome of a post
 
 one_some : (a b : List ℕ) → Some a ≡ Some b → a ≡ b
 one_some a b e = cc

@@ -1,4 +1,4 @@
--- What a post comes to, case by case.
+-- The outcome of a post, case by case.
 use Rattle.std.proofs.Common.{◌≡◌, ℕ, Bool, true, false, not, List, Option, Some, None, Result, Ok, Err, inl, inr, refl, sym, ap, subst, ◌∙◌}
 use Rattle.osc_model.specs.{is_revoked, revocation_of, stands}
 use Rattle.osc_model.specs.Scope.{Scope}

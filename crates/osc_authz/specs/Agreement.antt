@@ -1,4 +1,4 @@
--- What a post whose token opened comes to.
+-- The outcome of a post whose token opened.
 use Rattle.std.specs.Prelude.{◌≡◌, ℕ, ◌+◌, ◌/◌, Bool, true, false, not, ◌||◌, Option, Some, None, option_map, List, [], ◌∷◌, Result, Ok, Err}
 use Rattle.osc_model.specs.Scope.{Scope}
 use Rattle.osc_model.specs.{has_subtrees, is_revoked, nonce_drawn, revocation_of}
@@ -80,7 +80,7 @@ MadeIsHeld before offer claims answer = IsStillHeld offer.on (name_by claims.mat
 abbrev pub is_allowed : ContextRules → Scope → Bool
 is_allowed rules scope = rules.subtrees || not (has_subtrees scope)
 
--- its text comes to these claims, whose scope is taken and whose id isn't revoked
+-- its text gives these claims, whose scope is taken and whose id isn't revoked
 pub record IsGranted (before : DeskState) (offer : Offer) (text : List ℕ) (claims : Claims) (scope : Scope) : Type 0 where
   pub comes : ComesTo text before.audience offer.on.at (Ok (claims, scope))
   pub allowed : is_allowed before.rules scope ≡ true

@@ -26,7 +26,7 @@ made_name desk begun nonce2 server_id = record {
   alg = desk.alg;
 }
 
--- what an exchange comes to by an answer of this code and payload
+-- the outcome of an exchange with an answer of this code and payload
 pub data Finishes (desk : ClientDesk) (begun : Begun) (came : Code) (payload : List ℕ) (result : Result ClientContextState FinishError) : Type 0 where
   another_code : came ≢ code 2 1 → result ≡ Err Fields → Finishes desk begun came payload result
   no_answer : came ≡ code 2 1 → ((nonce2 server_id : List ℕ) → ¬ IsAnswer payload nonce2 server_id)

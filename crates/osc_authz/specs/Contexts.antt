@@ -52,7 +52,7 @@ pub record IsLive (on : Standing) (held : SecurityContext) : Type 0 where
   pub unrevoked : stands on.tree held.revocation ≡ false
   pub young : IsNotOver held.ends on.at
 
--- None is added, and none changes. Each that lives stays.
+-- No context is added, and none changes. Each that lives stays.
 pub record AreKept (on : Standing) (old new : List OfToken) : Type 0 where
   pub only : (c : OfToken) → In c new → In c old
   pub live : (c : OfToken) → In c old → IsLive on c.held → In c new

@@ -25,10 +25,10 @@ pub record IsStillHeld (on : Standing) (name : ContextName) (table : List TokenE
   pub is_named : held.name ≡ name
   pub live : is_live on held ≡ true
 
--- the post before the older ones, of which so many are kept in all
+-- the post before the older ones; at most `most` are kept in all
 abbrev pub remembering : ℕ → AgreedPost → List AgreedPost → List AgreedPost
 remembering most post older = take most (post ∷ older)
 
--- each token id has so many posts at most
+-- each token id has at most `most` posts
 abbrev pub AreFew : ℕ → List TokenEntry → Type 0
 AreFew most table = All (λ entry. length entry.posts ≤ most) table

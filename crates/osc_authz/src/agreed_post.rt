@@ -93,7 +93,7 @@ pub(crate) struct PostRoom {
 }
 
 impl PostRoom {
-    /// The post with these fields and this answer, in room for so many; takes no memory where that is 0.
+    /// The post with these fields and this answer, in room for `most` posts; takes no memory where that is 0.
     pub fn new(
         alloc: Global,
         most: u8,

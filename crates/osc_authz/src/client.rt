@@ -167,7 +167,7 @@ impl ClientDesk {
     /// # Errors
     ///
     /// `Fields` where the answer isn't 2.01 with a readable nonce and recipient ID, `EqualIds` where that is the client's
-    /// own. Want of memory alone hands the open exchange back; it is no answer where the code isn't 2.01 or the payload is no whole item
+    /// own. Lack of memory alone hands the open exchange back; it is no answer where the code isn't 2.01 or the payload is no whole item
     /// of CBOR.
     pub fn finish(
         &self,
@@ -186,7 +186,7 @@ impl ClientDesk {
         }
     }
 
-    /// What the exchange comes to by an answer of this code and payload. An error is lack of memory.
+    /// The outcome of the exchange with an answer of this code and payload. An error is lack of memory.
     fn outcome_of(
         &self,
         alloc: Global,
@@ -206,7 +206,7 @@ impl ClientDesk {
         }
     }
 
-    /// What the exchange comes to by an answer 2.01 whose payload is this item. An error is lack of memory.
+    /// The outcome of the exchange with an answer 2.01 whose payload is this item. An error is lack of memory.
     fn made(
         &self,
         alloc: Global,

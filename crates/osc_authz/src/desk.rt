@@ -59,7 +59,7 @@ pub struct DeskParts {
 /// The desk at authz-info: it judges tokens, and keeps the contexts that they made. For each token id it has at most one
 /// context that a request has opened under, and one of the newest post; at most 64 token ids have one, with the one whose place is
 /// reserved. A look-up takes the
-/// same time however many there are, and no memory. Of each token id it knows so many of the newest posts as it is told.
+/// same time however many there are, and no memory. Of each token id it knows as many of the newest posts as it is told.
 pub struct ServerDesk {
     key: [u8; 16],
     old_key: Option<[u8; 16]>,
@@ -102,7 +102,7 @@ impl Model for ServerDesk {
         × KeepsPlace desk.rules.reserved desk.table.items };
 }
 
-/// What a post comes to whose token opened.
+/// The outcome of a post whose token opened.
 #[derive(Drop)]
 struct Judged {
     /// What is answered.
@@ -199,7 +199,7 @@ impl ServerDesk {
         posted
     }
 
-    /// What a post of this payload comes to. Without memory nothing is changed.
+    /// The outcome of a post of this payload. Without memory nothing is changed.
     fn post_bytes<A: Aead>(
         &mut self,
         alloc: Global,
@@ -219,7 +219,7 @@ impl ServerDesk {
         }
     }
 
-    /// What a post of this item comes to. Without memory nothing is changed.
+    /// The outcome of a post of this item. Without memory nothing is changed.
     fn post_item<A: Aead>(
         &mut self,
         alloc: Global,

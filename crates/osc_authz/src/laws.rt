@@ -85,7 +85,7 @@ pub fn meant_contexts()
         × IsLive on held × (held.name.client_id ≡ kid) × (holder_at kid table ≡ Some context.token) }
 {}
 
-/// SecurityContext contexts with one recipient ID are one context, of one token id, and either confirmed or pending.
+/// Security contexts with one recipient ID are one context, of one token id, and either confirmed or pending.
 pub fn one_context()
     ensures held { (table : List TokenEntry) (context other : SecurityContext)
         → IsTable table → In context (contexts table) → In other (contexts table)
@@ -169,7 +169,7 @@ pub fn a_kept_place_is_free()
     ensures { (on : Standing) (id : List ℕ) (table : List TokenEntry) → KeepsPlace (Some id) table → ¬ IsFull (Some id) id (alive on table) }
 {}
 
-/// Where no post is remembered, none is known.
+/// Where no post is remembered, no post is known.
 pub fn no_known_posts()
     ensures { (token nonce1 client_id : List ℕ) (table : List TokenEntry) → AreFew 0 table → known token nonce1 client_id table ≡ None }
 {}
@@ -216,7 +216,7 @@ pub fn one_name<A: Aead>()
     osc_token::laws::one_token::<A>();
 }
 
-/// A post comes to one outcome at most: one answer, and one table afterwards.
+/// A post has one outcome at most: one answer, and one table afterwards.
 pub fn one_outcome<A: Aead>()
     ensures { (before after afters : DeskState) (posting : Posting) (post posts : AnyPost)
         → Posts A.is_sealing before posting post after → Posts A.is_sealing before posting posts afters

@@ -1,4 +1,4 @@
-//! What a post to authz-info comes to.
+//! The outcome of a post to authz-info.
 
 ghost use Rattle.std.specs.Prelude.{◌≡◌, [], ◌∷◌, None, Err};
 ghost use Rattle.osc_authz.specs.Exchange.{answer_item};

@@ -20,7 +20,7 @@ pub extern "C" fn osc_bench_client(alloc: Global, posts: u8) -> u64 {
     }
 }
 
-/// Forwards so many non-confirmable GETs, each from a peer of its own. Answers how many exchanges are open then; 0 for lack of memory.
+/// Forwards this number of non-confirmable GETs, each from a peer of its own. Answers how many exchanges are open then; 0 for lack of memory.
 #[unsafe(no_mangle)]
 pub extern "C" fn osc_bench_forward(alloc: Global, requests: u8) -> u64 {
     match proxy(alloc) {

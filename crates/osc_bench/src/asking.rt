@@ -10,7 +10,7 @@ use osc_fixtures::{POST, SERVER, empty_server, request, sent, straight};
 use osc_model::{Bytes, Draw, Moment, Request, Step};
 use std::alloc::{AllocError, Global};
 
-/// A client makes a context by an exchange with a server, and then asks so many times: a POST of 64 bytes on `/log`, confirmable and
+/// A client makes a context by an exchange with a server, and then asks `rounds` times: a POST of 64 bytes on `/log`, confirmable and
 /// protected under the next number. What each opens is ended by a Reset of its message, so that the client may ask again. Answers how
 /// many bytes it sent in all; 0 for lack of memory.
 #[unsafe(no_mangle)]
@@ -35,7 +35,7 @@ pub(crate) fn client_of(alloc: Global) -> Result<Client, AllocError> {
     osc_fixtures::client(alloc, right_of(1), straight())
 }
 
-// Makes a context, and asks so many times. How many bytes the requests have.
+// Makes a context, and asks `rounds` times. How many bytes the requests have.
 fn ask_often(alloc: Global, client: &mut Client, rounds: u64) -> Result<u64, AllocError> {
     make_context(alloc, client)?;
     let request = request_of(alloc)?;
@@ -83,7 +83,7 @@ pub(crate) fn request_of(alloc: Global) -> Result<Request, AllocError>
     request(alloc, b"/log", POST, &[b'p'; PAYLOAD])
 }
 
-// Asks so many times. How many bytes the requests have.
+// Asks `rounds` times. How many bytes the requests have.
 fn ask_all(
     alloc: Global,
     client: &mut Client,

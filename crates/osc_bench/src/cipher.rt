@@ -9,7 +9,7 @@ const NONCE: [u8; 13] = [5; 13];
 
 const AAD: [u8; 8] = [3; 8];
 
-/// Encrypts a block so many times, each time what came out last, and answers its first byte.
+/// Encrypts a block `rounds` times, each time what came out last, and answers its first byte.
 #[unsafe(no_mangle)]
 pub extern "C" fn osc_bench_encrypt(rounds: u64) -> u8 {
     let cipher = Aes128::new(&KEY);
@@ -20,7 +20,7 @@ pub extern "C" fn osc_bench_encrypt(rounds: u64) -> u8 {
     block[0]
 }
 
-/// Seals the text so many times into `out`, and answers how many bytes it sealed in all.
+/// Seals the text `rounds` times into `out`, and answers how many bytes it sealed in all.
 #[unsafe(no_mangle)]
 pub extern "C" fn osc_bench_seal(text: &[u8], out: &mut [u8], rounds: u64) -> u64 {
     let cipher = Ccm::<8>::from_key(&KEY);
@@ -33,7 +33,7 @@ pub extern "C" fn osc_bench_seal(text: &[u8], out: &mut [u8], rounds: u64) -> u6
     sealed
 }
 
-/// Opens the sealed bytes so many times into `out`, and answers how many bytes it opened in all.
+/// Opens the sealed bytes `rounds` times into `out`, and answers how many bytes it opened in all.
 #[unsafe(no_mangle)]
 pub extern "C" fn osc_bench_open(sealed: &[u8], out: &mut [u8], rounds: u64) -> u64 {
     let cipher = Ccm::<8>::from_key(&KEY);

@@ -41,7 +41,7 @@ const MANY: u16 = 65535;
 
 const SUBTREES: u8 = 163;
 
-// A tick comes after so many datagrams: once in a second.
+// A tick comes after this number of datagrams: once in a second.
 const EACH_TICK: u32 = 10_000;
 
 /// Whether a tick comes before the datagram of this place.
@@ -182,7 +182,7 @@ fn claims_of(alloc: Global, number: u16) -> Result<Claims, AllocError> {
     Ok(claims)
 }
 
-// GET on a path of two letters and on each below it, once for each of so many paths.
+// GET on a path of two letters and on each below it, once for each of `SUBTREES` paths.
 fn many_subtrees(alloc: Global) -> Result<Bytes, AllocError> {
     let mut scope = Vec::from_slice(alloc, &[0x98, SUBTREES])?;
     for number in 0..SUBTREES {

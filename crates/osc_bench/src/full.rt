@@ -11,7 +11,7 @@ use osc_tree::{MOST_RESOURCES, Tree};
 use std::alloc::{AllocError, Global};
 
 /// A server with a revocation path of four segments of 32 bytes, 1,024 resources below it, and two contexts of each of 64 token ids, those of the posts
-/// 1 to 64 of `osc_bench_flood_valid`, hears the datagram so many times, as at `osc_bench_hear_server`.
+/// 1 to 64 of `osc_bench_flood_valid`, hears the datagram `rounds` times, as at `osc_bench_hear_server`.
 #[unsafe(no_mangle)]
 pub extern "C" fn osc_bench_hear_full(alloc: Global, datagram: &[u8], rounds: u32) -> u64 {
     full_hears(alloc, datagram, rounds).unwrap_or(WANTING)

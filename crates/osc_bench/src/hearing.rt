@@ -13,7 +13,7 @@ use osc_proxy::Proxy;
 use osc_server::Server;
 use std::alloc::{AllocError, Global};
 
-/// A server of one resource, `/r000`, which is open, has a context, that of the client of `osc_bench_flood_server`. It hears the datagram so many times, each
+/// A server of one resource, `/r000`, which is open, has a context, that of the client of `osc_bench_flood_server`. It hears the datagram `rounds` times, each
 /// time under a message ID of its own, and when all that it noted of those before is dead. Answers the code of what it sent the last time;
 /// 256 where it sent nothing, and 1,000 where there was no memory.
 ///
@@ -23,7 +23,7 @@ pub extern "C" fn osc_bench_hear_server(alloc: Global, datagram: &[u8], rounds: 
     server_hears(alloc, datagram, rounds).unwrap_or(WANTING)
 }
 
-/// A client, of which a message waits for its answer, hears the datagram so many times from its server, as at `osc_bench_hear_server`; before each it
+/// A client, of which a message waits for its answer, hears the datagram `rounds` times from its server, as at `osc_bench_hear_server`; before each it
 /// starts again. What waits is its post of a token where `asks` is 0, and else a protected request; the message's token is the byte 1, 8 times.
 #[unsafe(no_mangle)]
 pub extern "C" fn osc_bench_hear_client(
@@ -35,7 +35,7 @@ pub extern "C" fn osc_bench_hear_client(
     client_hears(alloc, asks != 0, datagram, rounds).unwrap_or(WANTING)
 }
 
-/// A proxy of one target, `s`, with so many exchanges open, hears the datagram so many times, as at `osc_bench_hear_server`; before each it starts again, and
+/// A proxy of one target, `s`, with `open` exchanges open, hears the datagram `rounds` times, as at `osc_bench_hear_server`; before each it starts again, and
 /// the exchanges are opened again. The datagram comes from the target where `from` is 255, and else from the peer of that number; those below `open` have
 /// the exchanges. To the target, the token of the first exchange is the byte 0, 8 times, and that of the next one the byte 1.
 #[unsafe(no_mangle)]
@@ -55,7 +55,7 @@ const NOTHING: u64 = 256;
 // More than what is answered else.
 pub(crate) const WANTING: u64 = 1000;
 
-// What was noted so many ms ago is dead.
+// What was noted this number of ms ago is dead.
 const LIFETIME: u64 = 247_000;
 
 // ---- what they have in common
@@ -117,7 +117,7 @@ fn server_hears_all(
     hears_again(alloc, server, datagram, rounds)
 }
 
-/// The server hears the datagram so many times, as `osc_bench_hear_server` says.
+/// The server hears the datagram `rounds` times, as `osc_bench_hear_server` says.
 pub(crate) fn hears_again(
     alloc: Global,
     server: &mut Server,
@@ -242,7 +242,7 @@ fn proxy_hears_all(
     Ok(told)
 }
 
-// Opens so many exchanges.
+// Opens this number of exchanges.
 fn open_all(alloc: Global, proxy: &mut Proxy, open: u8) -> Result<(), AllocError> {
     for number in 0..open {
         forward(alloc, proxy, Moment::START, place(number), number)?;

@@ -12,7 +12,7 @@ use osc_server::Server;
 use osc_world::adversary::lie;
 use std::alloc::{AllocError, Global};
 
-/// A server of one resource, `/r000`, hears so many times a request in which this text is sealed, at number 0 under a client's context; before each it starts
+/// A server of one resource, `/r000`, hears `rounds` times a request in which this text is sealed, at number 0 under a client's context; before each it starts
 /// again, and the client's token, which grants GET, POST and DELETE on `/log`, is posted again. Answers the code of what it sent the last time; 256 where it
 /// sent nothing, and 1,000 where there was no memory.
 ///

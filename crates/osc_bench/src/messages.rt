@@ -24,8 +24,8 @@ pub extern "C" fn osc_bench_parse(datagram: &[u8]) -> u64
     }
 }
 
-/// Serves the datagram so many times, each time with a message ID of its own, so that each is new, and so many milliseconds
-/// after the one before, by a server of so many resources, `/r000` and so on up to 1024 of them, each open. Answers how many
+/// Serves the datagram `rounds` times, each time with a message ID of its own, so that each is new, and `apart` milliseconds
+/// after the one before, by a server of `resources` resources, `/r000` and so on up to 1024 of them, each open. Answers how many
 /// bytes it sent in all; 0 for lack of memory, and for a datagram that isn't 4 to 64 bytes long. Where 64 of them come within
 /// 247,000 ms, the duplicate table is full from the 64th round on; where they are as far apart as that, none that was
 /// noted lives when the next one comes.
@@ -50,7 +50,7 @@ pub extern "C" fn osc_bench_serve(
     }
 }
 
-/// Serves the datagram so many times by a server of one resource, `/r000`, which served it before, and 63 others before
+/// Serves the datagram `rounds` times by a server of one resource, `/r000`, which served it before, and 63 others before
 /// that: each time the full duplicate table answers. Answers how many bytes it sent in all; 0 for lack of memory, and for a
 /// datagram that isn't 4 to 64 bytes long.
 #[unsafe(no_mangle)]
@@ -74,7 +74,7 @@ const ROOM: usize = 64;
 // The most rounds.
 const MOST_ROUNDS: u64 = 1 << 30;
 
-// The moment of a round, where each is so many milliseconds after the one before.
+// The moment of a round, where each is `apart` milliseconds after the one before.
 fn moment_of(round: u64, apart: u32) -> Moment
     requires { round < MOST_ROUNDS }
 {
@@ -89,7 +89,7 @@ fn fits(datagram: &[u8]) -> bool
     4 <= datagram.len() && datagram.len() <= ROOM
 }
 
-// A server of so many resources, each with four bytes and open.
+// A server of this number of resources, each with four bytes and open.
 pub(crate) fn server_of(alloc: Global, resources: u16) -> Result<Server, AllocError> {
     let mut tree = Tree::new(alloc);
     let mut open_scope = Scope::new(alloc);
@@ -97,7 +97,7 @@ pub(crate) fn server_of(alloc: Global, resources: u16) -> Result<Server, AllocEr
     server(alloc, tree, open_scope)
 }
 
-// Puts and opens so many resources, as many as there is room for.
+// Puts and opens this number of resources, or as many as there is room for.
 fn fill(
     alloc: Global,
     tree: &mut Tree,
@@ -114,7 +114,7 @@ fn fill(
     Ok(())
 }
 
-// Serves so many datagrams, which are this one but for their message IDs: those that come after its own.
+// Serves `rounds` datagrams, which are this one but for their message IDs: those that come after its own.
 fn serve_new(
     alloc: Global,
     server: &mut Server,
@@ -139,7 +139,7 @@ fn serve_new(
     Ok(sent)
 }
 
-// Serves 63 other datagrams and this one, and then this one so many times again.
+// Serves 63 other datagrams and this one, and then this one `rounds` times again.
 fn serve_again(
     alloc: Global,
     server: &mut Server,

@@ -3,7 +3,7 @@
 use osc_cbor::read;
 use std::alloc::Global;
 
-/// Reads the item at the beginning of the bytes so many times, and answers how many bytes it read in all.
+/// Reads the item at the beginning of the bytes `rounds` times, and answers how many bytes it read in all.
 #[unsafe(no_mangle)]
 pub extern "C" fn osc_bench_read_item(alloc: Global, bytes: &[u8], rounds: u64) -> u64 {
     let mut taken = 0u64;

@@ -17,8 +17,8 @@ use osc_server::Server;
 use osc_tree::Tree;
 use std::alloc::{AllocError, Global};
 
-/// Serves so many protected GETs of a resource of 64 bytes, at most 4,608, by a server that holds so many contexts, at most 64:
-/// tokens of so many ids were posted to it, and the requests are under the context of the last one. Answers how many bytes
+/// Serves `rounds` protected GETs of a resource of 64 bytes, at most 4,608, by a server that holds `contexts` contexts, at most 64:
+/// tokens of that number of ids were posted to it, and the requests are under the context of the last one. Answers how many bytes
 /// the protected replies have in all; 0 for lack of memory, and where the resource doesn't have 64 bytes in the end.
 ///
 /// Whatever `rounds` is, 4,609 requests are protected first, and the first one, a POST that makes the resource, is served.
@@ -35,7 +35,7 @@ pub extern "C" fn osc_bench_serve_posts(alloc: Global, contexts: u8, rounds: u16
     bytes_served(alloc, contexts, Method::Post, rounds)
 }
 
-/// Serves so many forged requests, at most 4,608, by a server that holds one context: POSTs of 64 bytes and DELETEs, as
+/// Serves `rounds` forged requests, at most 4,608, by a server that holds one context: POSTs of 64 bytes and DELETEs, as
 /// `osc_bench_serve_posts` asks, each under a number of its own and with a bit of its tag turned over. Answers how many bytes the
 /// refusals have in all, which aren't protected; 0 for lack of memory, and where the resource doesn't have 64 bytes in the end.
 ///
@@ -69,7 +69,7 @@ fn bytes_served(alloc: Global, contexts: u8, asked: Method, rounds: u16) -> u64 
     }
 }
 
-// Posts so many tokens, protects the requests under the context of the last one, and serves so many of them.
+// Posts `contexts` tokens, protects the requests under the context of the last one, and serves `rounds` of them.
 fn serve_under_last(
     alloc: Global,
     server: &mut Server,
@@ -210,7 +210,7 @@ fn plain_request(alloc: Global, method: Method, id: u16) -> Result<Vec<u8>, Allo
     Ok(datagram)
 }
 
-// Serves the first request, and so many of those after it. How many bytes the protected replies to those have; 0 where the
+// Serves the first request, and `rounds` of those after it. How many bytes the protected replies to those have; 0 where the
 // resource doesn't have what was asked in the end.
 fn serve_some(
     alloc: Global,
@@ -249,7 +249,7 @@ fn serve_places(
     Ok(sent)
 }
 
-// Posts a token, protects the requests under its context, and serves the first one and so many forged ones.
+// Posts a token, protects the requests under its context, and serves the first one and `rounds` forged ones.
 fn refuse_under_first(alloc: Global, server: &mut Server, rounds: u16) -> Result<u64, AllocError> {
     post(alloc, server, 1)?;
     let requests = requests_under(alloc, 1, Method::Post)?;
@@ -258,7 +258,7 @@ fn refuse_under_first(alloc: Global, server: &mut Server, rounds: u16) -> Result
     sent
 }
 
-// Serves the first request, and so many forgeries of those after it. How many bytes the refusals have; 0 where the resource doesn't
+// Serves the first request, and `rounds` forgeries of those after it. How many bytes the refusals have; 0 where the resource doesn't
 // have the payload of the first one in the end.
 fn refuse_some(
     alloc: Global,
@@ -298,7 +298,7 @@ fn forgery_of(alloc: Global, request: &[u8]) -> Result<Bytes, AllocError> {
     Ok(Bytes::from_vec(forgery))
 }
 
-// Serves so many of the forgeries, from the second on, a millisecond after one another. How many bytes the refusals have.
+// Serves `rounds` of the forgeries, from the second on, a millisecond after one another. How many bytes the refusals have.
 fn refuse_places(
     alloc: Global,
     server: &mut Server,
@@ -359,7 +359,7 @@ fn length_at(tree: &Tree, path: &Path) -> usize {
     }
 }
 
-// How many bytes the resource has once so many requests after the first one are served; 0 where there is none.
+// How many bytes the resource has once `rounds` requests after the first one are served; 0 where there is none.
 fn length_after(asked: Method, rounds: u16) -> usize
     requires { rounds ≤ MOST_ROUNDS }
 {

@@ -16,7 +16,7 @@ use osc_protect::{
 };
 use std::alloc::{AllocError, Global};
 
-/// Protects the request so many times, each time under the next number, and answers how many bytes it made in all; 0 where
+/// Protects the request `rounds` times, each time under the next number, and answers how many bytes it made in all; 0 where
 /// it is no message or there is no memory. The room of each seal is taken in the same time.
 #[unsafe(no_mangle)]
 pub extern "C" fn osc_bench_protect(alloc: Global, request: &[u8], rounds: u64) -> u64 {
@@ -26,7 +26,7 @@ pub extern "C" fn osc_bench_protect(alloc: Global, request: &[u8], rounds: u64) 
     }
 }
 
-/// Protects the request once and opens it so many times, and answers how many bytes of plaintext came out in all; 0 where
+/// Protects the request once and opens it `rounds` times, and answers how many bytes of plaintext came out in all; 0 where
 /// it is no message or there is no memory.
 #[unsafe(no_mangle)]
 pub extern "C" fn osc_bench_unprotect(alloc: Global, request: &[u8], rounds: u64) -> u64 {
@@ -96,7 +96,7 @@ fn bytes_protected_under(
     }
 }
 
-// Protects the request so many times, each time under the next number.
+// Protects the request `rounds` times, each time under the next number.
 fn protect_again(
     alloc: Global,
     name: &SharedName,
@@ -175,7 +175,7 @@ fn seal_once(
     }
 }
 
-// Opens the protected request so many times, where it is one of this name.
+// Opens the protected request `rounds` times, where it is one of this name.
 fn open_protected(
     alloc: Global,
     name: &SharedName,
@@ -221,7 +221,7 @@ fn open_once(
     }
 }
 
-// Opens the request so many times.
+// Opens the request `rounds` times.
 fn open_again(
     alloc: Global,
     name: &SharedName,

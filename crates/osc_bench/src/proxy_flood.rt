@@ -6,7 +6,7 @@ use osc_model::{Draw, Moment, Peer};
 use osc_proxy::Proxy;
 use std::alloc::{AllocError, Global};
 
-/// So many exchanges open at a proxy of one target, the first 16 of them for confirmable GETs, each from a peer of its own; then comes the flood, as at
+/// `open` exchanges open at a proxy of one target, the first 16 of them for confirmable GETs, each from a peer of its own; then comes the flood, as at
 /// `osc_bench_flood_server`, the byte 255 for the target; then the proxy ticks at each of its deadlines until it has none. Answers how
 /// many exchanges were open after the flood; 1,000 for lack of memory, and where the proxy has anything open in the end, or doesn't
 /// forward the next request.

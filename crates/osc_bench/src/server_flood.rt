@@ -10,7 +10,7 @@ use osc_model::{Bytes, Method, Moment};
 use osc_server::Server;
 use std::alloc::{AllocError, Global};
 
-/// A server of one resource, `/r000`, which is open, serves a client under the context of its token; then comes the flood, so many
+/// A server of one resource, `/r000`, which is open, serves a client under the context of its token; then comes the flood: a number of
 /// datagrams, each after a byte that says who sends and its length in two bytes, ten in a millisecond, and a tick each second; and after
 /// it the client asks again. Answers how many datagrams of the flood were answered, and one more; 0 for lack of memory, and where
 /// the client isn't served.

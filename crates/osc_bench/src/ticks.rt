@@ -5,7 +5,7 @@ use osc_message::{Endpoint, MOST_OPEN};
 use osc_model::{Bytes, Draw, Moment, Peer};
 use std::alloc::{AllocError, Global};
 
-/// Ticks so many times beside so many open messages of 64 bytes, at most 1,008, at the moment at which they were sent: nothing is due.
+/// Ticks `rounds` times beside `open` open messages of 64 bytes, at most 1,008, at the moment at which they were sent: nothing is due.
 /// They were sent to one peer after the other: one to each is outstanding, and 15 wait, fewer for the last. Two endpoints have them, and
 /// take turns. Answers how many messages are open at both in the end; 0 for lack of memory.
 #[unsafe(no_mangle)]
@@ -20,7 +20,7 @@ pub extern "C" fn osc_bench_tick(alloc: Global, open: u16, rounds: u64) -> u64 {
     }
 }
 
-/// Asks so many times for the next deadline beside so many open messages, by turns of the two endpoints that `osc_bench_tick` has.
+/// Asks `rounds` times for the next deadline beside `open` open messages, by turns of the two endpoints that `osc_bench_tick` has.
 /// Answers the sum of the deadlines, in ms; 0 for lack of memory.
 #[unsafe(no_mangle)]
 pub extern "C" fn osc_bench_deadline(alloc: Global, open: u16, rounds: u64) -> u64 {
@@ -52,7 +52,7 @@ fn endpoints_with(alloc: Global, open: u16) -> Result<Vec<Endpoint<MOST_OPEN>>, 
     Ok(endpoints)
 }
 
-// An endpoint to which so many messages were given at the first moment, as far as it took them.
+// An endpoint to which this number of messages was given at the first moment, as far as it took them.
 fn endpoint_with(alloc: Global, open: u16) -> Result<Endpoint<MOST_OPEN>, AllocError> {
     let mut endpoint = Endpoint::<MOST_OPEN>::new(alloc)?;
     let filled = fill(alloc, &mut endpoint, open.min(EACH * PEERS));
@@ -79,7 +79,7 @@ fn send(alloc: Global, endpoint: &mut Endpoint<MOST_OPEN>, number: u16) -> Resul
     Ok(())
 }
 
-// How many messages are open at all of them after so many ticks.
+// How many messages are open at all of them after this number of ticks.
 fn open_behind(
     alloc: Global,
     endpoints: &mut [Endpoint<MOST_OPEN>],
@@ -107,7 +107,7 @@ fn open_at(endpoints: &[Endpoint<MOST_OPEN>]) -> u64 {
     open
 }
 
-// The sum of so many deadlines.
+// The sum of this number of deadlines.
 fn sum_of_deadlines(endpoints: &[Endpoint<MOST_OPEN>], rounds: u64) -> u64 {
     let mut sum = 0u64;
     for round in 0..rounds {

@@ -12,13 +12,13 @@ use std::alloc::{AllocError, Global};
 /// GET, POST and DELETE on `/log`.
 const SCOPE: &[u8] = b"\x81\x82\x64/log\x0b";
 
-/// Reads a token so many times, and answers how often it was granted; 0 for lack of memory.
+/// Reads a token `rounds` times, and answers how often it was granted; 0 for lack of memory.
 #[unsafe(no_mangle)]
 pub extern "C" fn osc_bench_read_token(alloc: Global, rounds: u64) -> u64 {
     tokens_read(alloc, rounds).unwrap_or(0)
 }
 
-/// Posts a token so many times to a desk that has contexts of so many other token ids, and answers how often that made a
+/// Posts a token `rounds` times to a desk that has contexts of `others` other token ids, and answers how often that made a
 /// context; 0 for lack of memory.
 #[unsafe(no_mangle)]
 pub extern "C" fn osc_bench_post(alloc: Global, others: u8, rounds: u64) -> u64 {
@@ -76,7 +76,7 @@ fn contexts_made(alloc: Global, others: u8, rounds: u64) -> Result<u64, AllocErr
     made
 }
 
-// How many posts made a context, after those of so many other token ids.
+// How many posts made a context, after those of `others` other token ids.
 fn posts_behind(
     alloc: Global,
     desk: &mut ServerDesk,
@@ -101,7 +101,7 @@ fn post_token(alloc: Global, desk: &mut ServerDesk, id: u8) -> Result<(), AllocE
     Ok(())
 }
 
-// How many of so many posts made a context.
+// How many of this number of posts made a context.
 fn posts_made(
     alloc: Global,
     desk: &mut ServerDesk,

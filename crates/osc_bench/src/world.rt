@@ -7,10 +7,10 @@ use osc_model::{Draw, Moment, Request};
 use osc_scope::Scope;
 use osc_token::Audience;
 use osc_tree::Tree;
-use osc_world::{Draws, Event, Holder, Start, What, World};
+use osc_world::{Draws, Event, NewHolder, Start, What, World};
 use std::alloc::{AllocError, Global};
 
-/// Four clients begin an exchange each, and then so many requests are asked by them in turn, with a quiet round after each
+/// Four clients begin an exchange each, and then `requests` requests are asked by them in turn, with a quiet round after each
 /// exchange and each request: the first is a POST of 64 bytes, which makes the resource, the others are GETs of it. Answers
 /// how many events that were; 0 for lack of memory, and unless each request's reply is accepted.
 #[unsafe(no_mangle)]
@@ -58,9 +58,9 @@ fn enroll(alloc: Global, start: &mut Start, client: u8) -> Result<(), AllocError
 }
 
 // The client's token has its number as its id.
-fn holder_of(alloc: Global, client: u8) -> Result<Holder, AllocError> {
+fn holder_of(alloc: Global, client: u8) -> Result<NewHolder, AllocError> {
     let right = right_of(client);
-    Ok(Holder {
+    Ok(NewHolder {
         at: place(client),
         way: straight(),
         claims: claims(alloc, right)?,

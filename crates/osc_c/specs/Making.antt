@@ -80,7 +80,7 @@ IsOwnToken scope draw own =
 
 -- ---- why there is none
 
--- a text says no scope, or what it says is none
+-- a text says no scope, or what it says isn't one
 abbrev pub SaysNoScope : List ℕ → Type 0
 SaysNoScope text = IsNoScopeText text ⊎ ((bytes : List ℕ) × IsScopeOf text bytes × ((entries : List Entry) → ¬ (IsScope bytes entries)))
 

@@ -45,7 +45,7 @@ IsRefusal outcome.Exhausted = ⊤
 IsRefusal outcome.TooLong = ⊤
 IsRefusal other = ⊥
 
--- It comes to a round of this kind, of which the caller is told so; where nothing was begun, nothing changes. Or it takes memory, of which there was
+-- It gives a round of this kind, of which the caller is told so; where nothing was begun, nothing changes. Or it takes memory, of which there was
 -- none, and nothing changes.
 abbrev pub ComesAs : (Told → Told) → DeviceNode → Told → DeviceNode → Type 0 → (Round → Type 0) → Type 0
 ComesAs as_told old told new Takes Does =

@@ -28,7 +28,7 @@ abbrev pub TellsValue : Option Resource → ValueRoom → Outcome → ValueRoom 
 TellsValue found room outcome filled =
     MatchOption found ((outcome ≡ Nothing) × TellsNoValue room filled) (λ resource. HasValue resource room outcome filled)
 
--- What is at a path is told, or there was no memory for the path; of a text that is none nothing is, whatever memory there is.
+-- What is at a path is told, or there was no memory for the path; of a text that isn't one nothing is, whatever memory there is.
 abbrev pub TellsValueAt : DeviceNode → List ℕ → ValueRoom → Outcome → ValueRoom → Type 0
 TellsValueAt node path room outcome filled =
     (IsPath path × (TellsValue (map.get node.device.server.tree path) room outcome filled ⊎ ((outcome ≡ NoMemory) × TellsNoValue room filled)))

@@ -39,7 +39,7 @@ pub extern "C" fn nzf_client_new(
 
 /// Posts the token. Where it isn't begun, `nzf_client_result` tells why.
 ///
-/// Answers 0; or 9 without memory, 34 where the moment is none, and 33 where nothing is held: then what was held is held. Heap: the post, while
+/// Answers 0; or 9 without memory, 34 where the moment isn't one, and 33 where nothing is held: then what was held is held. Heap: the post, while
 /// it is open.
 #[unsafe(no_mangle)]
 pub extern "C" fn nzf_client_exchange(
@@ -86,7 +86,7 @@ pub extern "C" fn nzf_client_ask(
 
 /// These bytes came from this peer at this moment as one datagram.
 ///
-/// Answers 0; or 9 without memory, 34 where the moment is none, and 33 where nothing is held: then what was held is held. Heap: for the step.
+/// Answers 0; or 9 without memory, 34 where the moment isn't one, and 33 where nothing is held: then what was held is held. Heap: for the step.
 #[unsafe(no_mangle)]
 pub extern "C" fn nzf_client_on_datagram(
     alloc: Global,
@@ -110,7 +110,7 @@ pub extern "C" fn nzf_client_on_datagram(
 
 /// What is due by now is done, whatever memory there is.
 ///
-/// Answers 0, or 35 where what should have gone out was lost for lack of memory; or 34 where the moment is none, and 33 where nothing is held: then
+/// Answers 0, or 35 where what should have gone out was lost for lack of memory; or 34 where the moment isn't one, and 33 where nothing is held: then
 /// what was held is held. Heap: for what is sent.
 #[unsafe(no_mangle)]
 pub extern "C" fn nzf_client_on_tick(alloc: Global, client: &mut ClientHandle, now: u64) -> i32

@@ -18,7 +18,7 @@ use std::alloc::Global;
 
 /// Makes a device without resources, in the place of one that is held. Its server takes tokens that are sealed under `key` and for `audience`.
 /// GETs that `unprotected` grants need no protection. The device itself may do what `own` grants. Tokens under a former key are taken, too, a context counts
-/// for so many seconds, and resources below the path of the text `revoked`, which is empty for none, revoke tokens.
+/// for this number of seconds, and resources below the path of the text `revoked`, which is empty for none, revoke tokens.
 ///
 /// Answers 0; or 9 without memory, 14 where its token is too long to be posted in a datagram, 24 where a text is no scope, and 34 where `size` isn't
 /// that of the struct, the audience is no UTF-8, the flag isn't 0 or 1, or `revoked` is no path, or one of more than 4 segments. Then what was held is
@@ -43,7 +43,8 @@ pub extern "C" fn nzf_device_new(
 
 /// These bytes came from this peer at this moment as one datagram.
 ///
-/// Answers 0; or 9 without memory to answer them, 34 where the moment is none or the peer is 0.0.0.0, and 33 where nothing is held: then what was held is held. Heap: for the step.
+/// Answers 0; or 9 without memory to answer them, 34 where the moment isn't one or the peer is 0.0.0.0, and 33 where nothing is held: then what was held
+/// is held. Heap: for the step.
 #[unsafe(no_mangle)]
 pub extern "C" fn nzf_device_on_datagram(
     alloc: Global,
@@ -68,7 +69,7 @@ pub extern "C" fn nzf_device_on_datagram(
 
 /// What is due by now is done, whatever memory there is.
 ///
-/// Answers 0, or 35 where what should have gone out was lost for lack of memory; or 34 where the moment is none, and 33 where nothing is held: then
+/// Answers 0, or 35 where what should have gone out was lost for lack of memory; or 34 where the moment isn't one, and 33 where nothing is held: then
 /// what was held is held. Heap: for what is sent.
 #[unsafe(no_mangle)]
 pub extern "C" fn nzf_device_on_tick(

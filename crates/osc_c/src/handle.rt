@@ -105,7 +105,7 @@ impl<T: Drop> Handle<T> {
 }
 
 /// A struct of C that holds a node, or nothing. The compiler takes no generic struct from C, so there is one for each kind of node.
-pub(crate) trait Holds: Drop {
+pub(crate) trait NodeStruct: Drop {
     /// What it holds.
     type Node: Drop;
 
@@ -121,7 +121,7 @@ pub(crate) trait Holds: Drop {
 }
 
 /// Takes out what is held, and leaves nothing.
-pub(crate) fn taken<H: Holds>(alloc: Global, handle: &mut H) -> Option<Box<H::Node>>
+pub(crate) fn taken<H: NodeStruct>(alloc: Global, handle: &mut H) -> Option<Box<H::Node>>
     ensures taken { option_map (λ b. b.value) result ≡ H.held handle.old }
     ensures left { H.held handle.new ≡ None }
 {
@@ -130,15 +130,15 @@ pub(crate) fn taken<H: Holds>(alloc: Global, handle: &mut H) -> Option<Box<H::No
         .into_box()
 }
 
-/// Holds this in the place of what is held.
-pub(crate) fn put_back<H: Holds>(handle: &mut H, node: Box<H::Node>)
+/// NodeStruct this in the place of what is held.
+pub(crate) fn put_back<H: NodeStruct>(handle: &mut H, node: Box<H::Node>)
     ensures { H.held handle.new ≡ Some node.value }
 {
     *handle = H::of_handle(Handle::holding(node));
 }
 
-/// Holds what was made, in the place of what was held. Where nothing was made, or without memory for its box, what was held is held.
-pub(crate) fn hold<H: Holds>(
+/// NodeStruct what was made, in the place of what was held. Where nothing was made, or without memory for its box, what was held is held.
+pub(crate) fn hold<H: NodeStruct>(
     alloc: Global,
     handle: &mut H,
     made: Result<H::Node, Outcome>,
@@ -158,7 +158,7 @@ pub(crate) fn hold<H: Holds>(
 }
 
 /// Lends what is held to `call`, and answers what that does. Where nothing is held it is `Nothing`, and nothing is called.
-pub(crate) fn with<H: Holds, F: FnMut(&mut H::Node) -> Outcome>(
+pub(crate) fn with<H: NodeStruct, F: FnMut(&mut H::Node) -> Outcome>(
     alloc: Global,
     handle: &mut H,
     call: &mut F,

@@ -5,7 +5,7 @@ ghost use Rattle.std.specs.declared.option.Option.{Option};
 ghost use Rattle.osc_c.specs.Nodes.{ClientType, DeviceType, ProxyType};
 
 use crate::calls::{ClientNode, DeviceNode, ProxyNode};
-use crate::handle::{Handle, Holds};
+use crate::handle::{Handle, NodeStruct};
 use std::alloc::Global;
 use std::marker::Model;
 
@@ -30,7 +30,7 @@ impl Drop for DeviceHandle {
     }
 }
 
-impl Holds for DeviceHandle {
+impl NodeStruct for DeviceHandle {
     type Node = DeviceNode;
 
     ghost held = { λ h. h.held };
@@ -77,7 +77,7 @@ impl Drop for ClientHandle {
     }
 }
 
-impl Holds for ClientHandle {
+impl NodeStruct for ClientHandle {
     type Node = ClientNode;
 
     ghost held = { λ h. h.held };
@@ -124,7 +124,7 @@ impl Drop for ProxyHandle {
     }
 }
 
-impl Holds for ProxyHandle {
+impl NodeStruct for ProxyHandle {
     type Node = ProxyNode;
 
     ghost held = { λ h. h.held };

@@ -28,7 +28,7 @@ fn tell(told: Told, code: &mut u8) -> Outcome
 
 /// Gives the device a security context with its server. `code` is that of an unprotected answer where 36 is answered, and else 0.
 ///
-/// Answers 0; or 9 without memory, 17 where something is open, 34 where the moment is none, 33 where nothing is held: then what was held is held;
+/// Answers 0; or 9 without memory, 17 where something is open, 34 where the moment isn't one, 33 where nothing is held: then what was held is held;
 /// or 35 or 36. Heap: some 2 KiB, while the context lives.
 #[unsafe(no_mangle)]
 pub extern "C" fn nzf_device_open(

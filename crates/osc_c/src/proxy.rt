@@ -47,7 +47,7 @@ pub extern "C" fn nzf_proxy_add_target(
 
 /// These bytes came from this peer at this moment as one datagram.
 ///
-/// Answers 0; or 9 without memory, 34 where the moment is none, and 33 where nothing is held: then what was held is held. Heap: for the step, and
+/// Answers 0; or 9 without memory, 34 where the moment isn't one, and 33 where nothing is held: then what was held is held. Heap: for the step, and
 /// for what is forwarded; at the first event some 137 KiB.
 #[unsafe(no_mangle)]
 pub extern "C" fn nzf_proxy_on_datagram(
@@ -73,7 +73,7 @@ pub extern "C" fn nzf_proxy_on_datagram(
 
 /// What is due by now is done.
 ///
-/// Answers 0, or 35 where what should have gone out was lost for lack of memory; or 9 without memory, 34 where the moment is none, and 33 where
+/// Answers 0, or 35 where what should have gone out was lost for lack of memory; or 9 without memory, 34 where the moment isn't one, and 33 where
 /// nothing is held: then what was held is held. Heap: for the step; at the first event some 137 KiB.
 #[unsafe(no_mangle)]
 pub extern "C" fn nzf_proxy_on_tick(

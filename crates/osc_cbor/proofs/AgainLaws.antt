@@ -11,7 +11,7 @@ use Rattle.osc_cbor.proofs.HeadLaws.{argument_again, major_again, major_none, ma
 use Rattle.osc_cbor.proofs.KeyLaws.{join_items, join_items-push, join_items-none, join_pairs, join_pairs-push, join_pairs-none, own_middle, key_missing}
 use Rattle.osc_cbor.proofs.ReadSteps.{item_simple, item_behind}
 
--- `inner` reads what is spelled with so many levels
+-- `inner` reads what is spelled with `left` levels
 abbrev pub ReadsAgain : (List ℕ → Found) → ℕ → Type 0
 ReadsAgain inner left = (d : DataItem) (front rest : List ℕ) → Spells front d → nesting d < left → inner (front ++ rest) ≡ Ok (d, rest)
 

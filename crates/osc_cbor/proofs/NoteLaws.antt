@@ -11,7 +11,7 @@ use Rattle.osc_cbor.proofs.RowLaws.{times-cons, times-append, times-here, times-
 
 -- ---- pieces stay where they are
 
--- each key ends within so many bytes
+-- each key ends within the first `n` bytes
 abbrev pub Within : ℕ → List Key → Type 0
 Within n [] = Unit {0}
 Within n (k ∷ ks) = (k.end ≤ n) × Within n ks

@@ -52,7 +52,7 @@ byte_number left first argument rest lt bits long fits =
           (negative argument, rw (major, bits, argument_of_a_byte argument rest fits) refl, head_of_a_byte 1 argument long fits ∙ ap (λ (x : ℕ). x ∷ argument ∷ []) whole)
     ]
 
--- what was passed with so many levels left
+-- what was passed with `left` levels left
 pub number_passed : (left first : ℕ) (rest bytes after old new : List ℕ) → bytes ≡ first ∷ rest → 0 < left
     → ((inner : ℕ) → (d : DataItem) × (item_at (suc inner) (first ∷ rest) ≡ Ok (d, after)) × (new ≡ old ++ spelling d))
     → (d : DataItem) × (item_at left bytes ≡ Ok (d, after)) × (new ≡ old ++ spelling d)

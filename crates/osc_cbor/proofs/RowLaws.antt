@@ -14,8 +14,8 @@ use Rattle.std.proofs.lemmas.Map.Text.{is_eq-slice_cmp}
 use Rattle.std.proofs.lemmas.Slice.Eq.{bytes_eq-Decides}
 use Rattle.osc_cbor.specs.Inner.Notes.{times, AreApart, Repeats, Says, piece, pieces}
 use Rattle.osc_cbor.specs.declared.keys.Key.{Key}
-use Rattle.osc_cbor.specs.declared.keys.Verdict.{Verdict}
-use Rattle.osc_cbor.specs.declared.keys.Verdict.TheVariants.{Apart, Repeated, Unordered}
+use Rattle.osc_cbor.specs.declared.keys.KeyOrder.{KeyOrder}
+use Rattle.osc_cbor.specs.declared.keys.KeyOrder.TheVariants.{Apart, Repeated, Unordered}
 
 -- ---- how often
 
@@ -94,7 +94,7 @@ compared_end last rows c = c.ascends tt
 
 -- ---- the order of keys doesn't matter
 
-pub says_sorted : (v : Verdict) (spelled : List ℕ) (keys sorted : List Key) → IsPermutation keys sorted → Says v (pieces spelled sorted) → Says v (pieces spelled keys)
+pub says_sorted : (v : KeyOrder) (spelled : List ℕ) (keys sorted : List Key) → IsPermutation keys sorted → Says v (pieces spelled sorted) → Says v (pieces spelled keys)
 says_sorted Apart spelled keys sorted p h = λ x. let e = same_times spelled keys sorted p x in omega (arith, h x, e)
   where
     same_times : (spelled : List ℕ) (keys sorted : List Key) → IsPermutation keys sorted → (x : List ℕ) → times x (pieces spelled sorted) ≡ times x (pieces spelled keys)

@@ -386,7 +386,7 @@ rows_end a b d e left (y ∷ ys) is_a is_b x none =
     cons_or_nil : (y : ℕ) (ys : List ℕ) → (y ∷ ys) ≡ [] → ⊥
     cons_or_nil y ys e = cc
 
--- ---- items passed over
+-- ---- items skipped
 
 spelled_some : (bytes : List ℕ) (d : DataItem) → Spells bytes d → 1 ≤ length bytes
 spelled_some [] d s = let o = opened [] d s in absurd (ok_or_err (o.token, o.inner ++ []) Truncated (sym (o.reads []) ∙ token_none))
@@ -467,7 +467,7 @@ pending_none (item d ds) bytes front rest s counted whole = absurd (omega arith)
 pub pending_done : (count : ℕ) (bytes rest : List ℕ) → Pending count bytes rest → count ≡ 0 → bytes ≡ rest
 pending_done count bytes rest p none = pending_none p.items bytes p.front rest p.spelled (p.counted ∙ none) p.whole
 
--- ---- pairs passed over
+-- ---- pairs skipped
 
 pub keys_start : (k : DataItem) (ps : Pairs) (front bytes rest : List ℕ) (count : ℕ) → SpellsPairs front ps → pair_count ps ≡ count → bytes ≡ front ++ rest → Keys k ps count bytes rest
 keys_start k ps front bytes rest count s counted whole = record { more = ps; front = front; spelled = s; counted = counted; whole = whole; same = refl }

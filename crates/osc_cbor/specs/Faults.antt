@@ -81,7 +81,7 @@ pub data TooDeepFails (bytes : List ℕ) (fault : ReadError) : Type 0 where
   no_byte : bytes ≡ [] → fault ≡ Truncated → TooDeepFails bytes fault
   too_deep : bytes ≢ [] → fault ≡ TooDeep → TooDeepFails bytes fault
 
--- The fault in which an item ends that has so many levels left: one is needed for itself.
+-- The fault in which an item ends that has this number of levels left: one is needed for itself.
 unfoldable pub Fails : ℕ → List ℕ → ReadError → Type 0
 Fails zero bytes fault = TooDeepFails bytes fault
 Fails (suc left) bytes fault = ItemFails left (Fails left) bytes fault

@@ -17,12 +17,12 @@ rest_of (Err e) = []
 abbrev pub item_in : List ℕ → DataItem
 item_in bytes = item_of (item_at 9 bytes)
 
--- so many items, one after the other
+-- this number of items, one after the other
 abbrev pub items_in : ℕ → List ℕ → List DataItem
 items_in zero bytes = []
 items_in (suc n) bytes = item_in bytes ∷ items_in n (rest_of (item_at 9 bytes))
 
--- so many keys, each with its value
+-- this number of keys, each with its value
 abbrev pub pairs_in : ℕ → List ℕ → List (DataItem × DataItem)
 pairs_in zero bytes = []
 pairs_in (suc n) bytes =
@@ -38,14 +38,14 @@ pub record Stands (bytes : List ℕ) : Type 0 where
   pub shallow : nesting first ≤ most_nesting
   pub whole : bytes ≡ front ++ rest
 
--- the bytes are so many items
+-- the bytes are `count` items
 pub record AreItems (count : ℕ) (bytes : List ℕ) : Type 0 where
   pub items : Items
   pub spelled : SpellsItems bytes items
   pub counted : item_count items ≡ count
   pub shallow : items_nesting items ≤ most_nesting
 
--- the bytes are so many keys, each with its value
+-- the bytes are `count` keys, each with its value
 pub record ArePairs (count : ℕ) (bytes : List ℕ) : Type 0 where
   pub pairs : Pairs
   pub spelled : SpellsPairs bytes pairs

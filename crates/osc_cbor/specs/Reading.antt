@@ -87,7 +87,7 @@ abbrev pub push_pair : Pairs → DataItem → DataItem → Pairs
 push_pair no_pairs k v = pair k v no_pairs
 push_pair (pair l w ps) k v = pair l w (push_pair ps k v)
 
--- so many items, each read by `inner`, after those before
+-- this number of items, each read by `inner`, after those before
 unfoldable pub items_from : (List ℕ → Found) → Items → ℕ → List ℕ → Result (Items × List ℕ) ReadError
 items_from inner before zero bytes = Ok (before, bytes)
 items_from inner before (suc n) bytes = do
@@ -113,7 +113,7 @@ abbrev pub behind_first : (List ℕ → Found) → Option Major → ℕ → List
 behind_first inner None bits bytes = simple_at bits bytes
 behind_first inner (Some major) bits bytes = argument_at bits bytes >>= λ n. content_at inner major n.0 n.1
 
--- an item for which so many levels are left: one is needed for itself
+-- an item for which this number of levels is left: one is needed for itself
 unfoldable pub item_at : ℕ → List ℕ → Found
 item_at left [] = Err Truncated
 item_at zero (first ∷ bytes) = Err TooDeep

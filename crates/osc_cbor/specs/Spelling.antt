@@ -39,7 +39,7 @@ abbrev mutual
   SpellsPairs bytes (pair k v ps) =
       (key value rest : List ℕ) × Spells key k × Spells value v × SpellsPairs rest ps × (bytes ≡ key ++ value ++ rest)
 
--- a beginning of the bytes, so many of them, spells this item, and it isn't nested too deep
+-- the first `count` bytes spell this item, and it isn't nested too deep
 pub record Begins (bytes : List ℕ) (d : DataItem) (count : ℕ) : Type 0 where
   pub within : count ≤ length bytes
   pub spelled : Spells (take count bytes) d

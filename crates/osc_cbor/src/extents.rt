@@ -1,4 +1,4 @@
-//! Where items end, and the first fault where none is. No memory is taken.
+//! Where items end, and the first fault where there is no item. No memory is taken.
 
 ghost use Rattle.std.specs.Prelude.{◌≡◌, ◌↔◌, ◌≤◌, ◌++◌, List, ℕ, length, IfOk, Ok, Err};
 ghost use Rattle.osc_cbor.specs.Data.{DataItem, nesting, most_nesting, no_items, no_pairs};
@@ -16,7 +16,7 @@ use crate::reader::{MOST_LEVELS, argument_of, major_of, simple_of, string_of, te
 use crate::tokens::{has_spelled_key, taken};
 use arrayvec::ArrayVec;
 
-/// The bytes after so many items, each with so many levels left.
+/// The bytes after `count` items, each with `left` levels left.
 #[cycle(extent)]
 fn behind_items(left: u8, count: u64, bytes: &[u8]) -> Result<&[u8], ReadError>
     ensures { Ends (λ x. x.now) result (items_from (item_at left) no_items count bytes.now) }
@@ -28,7 +28,7 @@ fn behind_items(left: u8, count: u64, bytes: &[u8]) -> Result<&[u8], ReadError>
     Ok(rest)
 }
 
-/// The bytes after so many keys, each with its value. No key comes twice.
+/// The bytes after `count` keys, each with its value. No key comes twice.
 #[cycle(extent)]
 fn behind_pairs(left: u8, count: u64, bytes: &[u8]) -> Result<&[u8], ReadError>
     ensures { Ends (λ x. x.now) result (pairs_from (item_at left) no_pairs count bytes.now) }
@@ -44,7 +44,7 @@ fn behind_pairs(left: u8, count: u64, bytes: &[u8]) -> Result<&[u8], ReadError>
     Ok(rest)
 }
 
-/// The bytes after so many bytes.
+/// The bytes after the first `size`.
 fn behind_bytes(size: u64, bytes: &[u8]) -> Result<&[u8], ReadError>
     ensures { Ends (λ x. x.now) result (string_at size bytes.now) }
 {
@@ -52,7 +52,7 @@ fn behind_bytes(size: u64, bytes: &[u8]) -> Result<&[u8], ReadError>
     Ok(rest)
 }
 
-/// The bytes after so many bytes of text.
+/// The bytes after `size` bytes of text.
 fn behind_text(size: u64, bytes: &[u8]) -> Result<&[u8], ReadError>
     ensures { Ends (λ x. x.now) result (text_at size bytes.now) }
 {
@@ -68,7 +68,7 @@ fn behind_simple(bits: u8, bytes: &[u8]) -> Result<&[u8], ReadError>
     Ok(rest)
 }
 
-/// The bytes after what follows a head. Items inside have so many levels left.
+/// The bytes after what follows a head. Items inside have `left` levels left.
 #[cycle(extent)]
 #[tactic(auto, unfolding(crate::specs::Reading::content_at))]
 fn behind_content(left: u8, major: Major, argument: u64, bytes: &[u8]) -> Result<&[u8], ReadError>
@@ -85,7 +85,7 @@ fn behind_content(left: u8, major: Major, argument: u64, bytes: &[u8]) -> Result
     }
 }
 
-/// The bytes after the item at their beginning, with so many levels left.
+/// The bytes after the item at their beginning, with `left` levels left.
 #[cycle(extent)]
 #[tactic(auto, unfolding(crate::specs::Reading::item_at))]
 fn behind(left: u8, bytes: &[u8]) -> Result<&[u8], ReadError>

@@ -45,7 +45,7 @@ pub(crate) enum Stop {
 
 /// What the keys of a map are.
 #[derive(Clone, Copy)]
-pub(crate) enum Verdict {
+pub(crate) enum KeyOrder {
     /// No two are equal.
     Apart,
     /// Two are equal.
@@ -126,7 +126,7 @@ pub(crate) fn note_key(start: usize, spelled: &[u8], keys: &mut Keys) -> Result<
     }
 }
 
-/// The bytes after so many, if there are any.
+/// The bytes after the first `count`, if there are any.
 fn bytes_after(count: usize, bytes: &[u8]) -> &[u8] {
     &bytes[count.min(bytes.len())..]
 }
@@ -186,31 +186,31 @@ fn compare(a: &[u8], b: &[u8]) -> Ordering
 }
 
 /// Whether keys in the order of their spellings are apart.
-fn neighbours_say(keys: &[Key], spelled: &[u8]) -> Verdict
+fn neighbours_say(keys: &[Key], spelled: &[u8]) -> KeyOrder
     ensures { Says result (spec.pieces spelled.now keys.now) }
 {
     let Some((first, others)) = keys.split_first() else {
-        return Verdict::Apart;
+        return KeyOrder::Apart;
     };
     let mut last = piece(first, spelled);
     for key in others {
         let this = piece(key, spelled);
         match compare(last, this) {
             Ordering::Less => last = this,
-            Ordering::Equal => return Verdict::Repeated,
-            Ordering::Greater => return Verdict::Unordered,
+            Ordering::Equal => return KeyOrder::Repeated,
+            Ordering::Greater => return KeyOrder::Unordered,
         }
     }
-    Verdict::Apart
+    KeyOrder::Apart
 }
 
 /// Whether the keys from an index on are apart. Their order may change.
-fn judge_from(first: usize, spelled: &[u8], keys: &mut [Key]) -> Verdict
+fn judge_from(first: usize, spelled: &[u8], keys: &mut [Key]) -> KeyOrder
     ensures says { Says result (spec.pieces spelled.now (drop first keys.old)) }
     ensures front { take first keys.new ≡ take first keys.old }
 {
     if keys.len() < first {
-        return Verdict::Unordered;
+        return KeyOrder::Unordered;
     }
     let own = &mut keys[first..];
     sort(own, spelled);
@@ -218,7 +218,7 @@ fn judge_from(first: usize, spelled: &[u8], keys: &mut [Key]) -> Verdict
 }
 
 /// Takes away the keys from an index on, and tells whether they were apart.
-pub(crate) fn judge(first: usize, spelled: &[u8], keys: &mut Keys) -> Verdict
+pub(crate) fn judge(first: usize, spelled: &[u8], keys: &mut Keys) -> KeyOrder
     ensures says { Says result (spec.pieces spelled.now (drop first keys.old.items)) }
     ensures front { keys.new.items ≡ take first keys.old.items }
 {

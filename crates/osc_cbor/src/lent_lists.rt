@@ -33,7 +33,7 @@ impl<'a> Model for ItemRefs<'a> {
 }
 
 impl<'a> ItemRefs<'a> {
-    /// So many items, one after the other.
+    /// The `count` items of the bytes, one after the other.
     pub(crate) fn new(count: u64, bytes: &'a [u8]) -> ItemRefs<'a>
         requires { AreItems count bytes.now }
         ensures { result ≡ items_in count bytes.now }
@@ -106,7 +106,7 @@ impl<'a> Model for PairRefs<'a> {
 }
 
 impl<'a> PairRefs<'a> {
-    /// So many pairs, one after the other.
+    /// The `count` pairs of the bytes, one after the other.
     pub(crate) fn new(count: u64, bytes: &'a [u8]) -> PairRefs<'a>
         requires { ArePairs count bytes.now }
         ensures { result ≡ pairs_in count bytes.now }

@@ -14,10 +14,10 @@ ghost use Rattle.osc_cbor.specs.Spelling.{spelling, items_spelling, pairs_spelli
 
 use crate::error::ReadError;
 use crate::heads::Major;
-use crate::keys::{Keys, Spelled, Stop, Verdict, judge, note, note_head, note_key};
+use crate::keys::{KeyOrder, Keys, Spelled, Stop, judge, note, note_head, note_key};
 use crate::reader::{argument_of, major_of, string_of, text_of};
 
-/// Passes so many bytes.
+/// Passes `size` bytes.
 fn pass_bytes<'a>(size: u64, bytes: &'a [u8], spelled: &mut Spelled) -> Result<&'a [u8], Stop>
     ensures passed { Passes (λ content. content) (λ x. x.now) spelled.old.items spelled.new.items result (string_at size bytes.now) }
     ensures grown { Grows spelled.old.items spelled.new.items }
@@ -31,7 +31,7 @@ fn pass_bytes<'a>(size: u64, bytes: &'a [u8], spelled: &mut Spelled) -> Result<&
     }
 }
 
-/// Passes so many bytes of text.
+/// Passes `size` bytes of text.
 fn pass_text<'a>(size: u64, bytes: &'a [u8], spelled: &mut Spelled) -> Result<&'a [u8], Stop>
     ensures passed { Passes (λ content. content) (λ x. x.now) spelled.old.items spelled.new.items result (text_at size bytes.now) }
     ensures grown { Grows spelled.old.items spelled.new.items }
@@ -81,7 +81,7 @@ fn pass_number<'a>(first: u8, rest: &'a [u8], spelled: &mut Spelled) -> Option<&
     }
 }
 
-/// Passes so many items.
+/// Passes `count` items.
 #[cycle(pass)]
 fn pass_items<'a>(
     left: u8,
@@ -101,7 +101,7 @@ fn pass_items<'a>(
     Ok(rest)
 }
 
-/// Passes so many keys, each with its value, and notes the keys. They aren't compared.
+/// Passes `count` keys, each with its value, and notes the keys. They aren't compared.
 #[cycle(pass)]
 fn pass_each_pair<'a>(
     left: u8,
@@ -124,7 +124,7 @@ fn pass_each_pair<'a>(
     Ok(rest)
 }
 
-/// Passes so many keys, each with its value. No key comes twice.
+/// Passes `count` keys, each with its value. No key comes twice.
 #[cycle(pass)]
 fn pass_pairs<'a>(
     left: u8,
@@ -140,13 +140,13 @@ fn pass_pairs<'a>(
     let first = keys.len();
     let end = pass_each_pair(left, count, bytes, spelled, keys);
     match judge(first, spelled.as_slice(), keys) {
-        Verdict::Apart => end,
-        Verdict::Repeated => Err(Stop::Fault(ReadError::DuplicateKey)),
-        Verdict::Unordered => Err(Stop::Unsure),
+        KeyOrder::Apart => end,
+        KeyOrder::Repeated => Err(Stop::Fault(ReadError::DuplicateKey)),
+        KeyOrder::Unordered => Err(Stop::Unsure),
     }
 }
 
-/// Passes what follows a head. Items inside have so many levels left.
+/// Passes what follows a head. Items inside have `left` levels left.
 #[cycle(pass)]
 #[tactic(auto, unfolding(crate::specs::Reading::content_at))]
 fn pass_content<'a>(
@@ -172,7 +172,7 @@ fn pass_content<'a>(
     }
 }
 
-/// Passes the item that begins with this byte. Items inside have so many levels left.
+/// Passes the item that begins with this byte. Items inside have `left` levels left.
 #[inline(never)]
 #[cycle(pass)]
 #[tactic(auto, unfolding(crate::specs::Reading::item_at))]
@@ -199,7 +199,7 @@ fn pass_behind<'a>(
     }
 }
 
-/// Passes the item at the beginning of the bytes, with so many levels left. Numbers are passed in place.
+/// Passes the item at the beginning of the bytes, with `left` levels left. Numbers are passed in place.
 #[inline(always)]
 #[cycle(pass)]
 #[tactic(auto, unfolding(crate::specs::Reading::item_at))]

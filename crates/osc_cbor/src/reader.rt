@@ -108,7 +108,7 @@ pub(crate) fn simple_of(bits: u8, bytes: &[u8]) -> Result<(Item, &[u8]), ReadErr
     }
 }
 
-/// So many bytes, and those after them.
+/// The first `size` bytes, and those after them.
 #[tactic(auto, unfolding(crate::specs::Reading::string_at))]
 pub(crate) fn string_of(size: u64, bytes: &[u8]) -> Result<(&[u8], &[u8]), ReadError>
     ensures { Reads (λ x. (x.0.now, x.1.now)) result (string_at size bytes.now) }
@@ -119,7 +119,7 @@ pub(crate) fn string_of(size: u64, bytes: &[u8]) -> Result<(&[u8], &[u8]), ReadE
     Ok(bytes.split_at(size as usize))
 }
 
-/// So many bytes of text, and those after them.
+/// The first `size` bytes as text, and those after them.
 #[tactic(auto, unfolding(crate::specs::Reading::text_at))]
 pub(crate) fn text_of(size: u64, bytes: &[u8]) -> Result<(&str, &[u8]), ReadError>
     ensures { Reads (λ x. (x.0.now, x.1.now)) result (text_at size bytes.now) }
@@ -131,7 +131,7 @@ pub(crate) fn text_of(size: u64, bytes: &[u8]) -> Result<(&str, &[u8]), ReadErro
     }
 }
 
-/// So many items, each with so many levels left.
+/// The first `count` items, each with `left` levels left.
 #[cycle(read)]
 fn items_of(
     alloc: Global,
@@ -152,7 +152,7 @@ fn items_of(
     Ok((items, rest))
 }
 
-/// So many keys, each with its value.
+/// The first `count` keys, each with its value.
 #[cycle(read)]
 fn pairs_of(
     alloc: Global,
@@ -174,7 +174,7 @@ fn pairs_of(
     Ok((pairs, rest))
 }
 
-/// What follows a head. Items inside have so many levels left.
+/// What follows a head. Items inside have `left` levels left.
 #[cycle(read)]
 #[tactic(auto, unfolding(crate::specs::Reading::any_content_at))]
 fn content_of(
@@ -212,7 +212,7 @@ fn content_of(
     }
 }
 
-/// The item at the beginning of the bytes, with so many levels left, and the bytes after it. The keys of maps aren't compared.
+/// The item at the beginning of the bytes, with `left` levels left, and the bytes after it. The keys of maps aren't compared.
 #[cycle(read)]
 #[tactic(auto, unfolding(crate::specs::Reading::any_item_at))]
 pub(crate) fn item_of(alloc: Global, left: u8, bytes: &[u8]) -> Result<(Item, &[u8]), ReadError>

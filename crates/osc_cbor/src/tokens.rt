@@ -1,4 +1,4 @@
-//! Items passed over and compared in their bytes, by their heads and strings. No memory is taken.
+//! Items skipped and compared in their bytes, by their heads and strings. No memory is taken.
 
 ghost use Rattle.std.specs.Prelude.{◌≡◌, ◌⊎◌, ◌↔◌, ◌^◌, ◌/◌, ◌%◌, ◌<◌, ◌-◌, ◌∷◌, ◌++◌, [], List, ℕ, length, min, IsTrue, IfSome, Ok};
 ghost use Rattle.osc_cbor.specs.Data.{DataItem, Pairs, pair_count, map as spelled_map};
@@ -224,7 +224,7 @@ pub(crate) fn taken<'a>(bytes: &'a [u8], rest: &[u8]) -> &'a [u8]
     &bytes[..bytes.len() - rest.len()]
 }
 
-/// Whether one of so many pairs at the beginning of the bytes has this key.
+/// Whether one of the `count` pairs at the beginning of the bytes has this key.
 pub(crate) fn has_spelled_key(key: &[u8], count: u64, bytes: &[u8]) -> bool
     ensures { (k : DataItem) (ps : Pairs) (front rest : List ℕ) → Spells key.now k → SpellsPairs front ps → pair_count ps ≡ count
         → bytes.now ≡ front ++ rest → result ≡ equality.has_key k ps }

@@ -25,7 +25,7 @@ flagged flags nonce n = flags ∷ nonce ++ two_bytes n
 unfoldable pub filled : List ℕ → List ℕ
 filled bytes = bytes ++ replicate (16 - length bytes) 0
 
--- how many blocks hold so many bytes
+-- how many blocks hold `n` bytes
 abbrev pub block_count : ℕ → ℕ
 block_count n = (n + 15) / 16
 

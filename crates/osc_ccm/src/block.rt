@@ -3,7 +3,7 @@
 ghost use Rattle.std.specs.Prelude.{◌≡◌, ◌+◌, ◌*◌, ◌<◌, ◌≤◌, ◌↔◌, IsTrue, length};
 ghost use Rattle.osc_ccm.specs.Ccm.{xor, flagged, filled, block_count, piece};
 
-/// How many blocks hold so many bytes.
+/// How many blocks hold `length` bytes.
 pub fn block_count(length: usize) -> usize
     requires { length ≤ 65535 }
     ensures { result ≡ block_count length }

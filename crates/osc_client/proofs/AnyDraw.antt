@@ -7,10 +7,10 @@ use Rattle.osc_ccm.specs.{Sealings}
 use Rattle.osc_coap.specs.Message.{Message}
 use Rattle.osc_client.specs.{AnswersNew}
 use Rattle.osc_client.specs.State.{State}
-use Rattle.osc_client.specs.declared.case.Case.{Case}
-use Rattle.osc_client.specs.declared.case.Case.TheVariants.{Refused, Unused, Counted}
+use Rattle.osc_client.specs.declared.case.Case.{ResponseCase}
+use Rattle.osc_client.specs.declared.case.ResponseCase.TheVariants.{Refused, Unused, Counted}
 
-pub any_draw : (is_sealing : Sealings) (old : State) (came : Arrival Message) (draw : Draw) (case : Case) (step : Step) (new : State)
+pub any_draw : (is_sealing : Sealings) (old : State) (came : Arrival Message) (draw : Draw) (case : ResponseCase) (step : Step) (new : State)
     → AnswersNew is_sealing old came case step new → AnswersNew is_sealing old (record came { draw = draw }) case step new
 any_draw is_sealing old came draw Refused step new answers = answers
 any_draw is_sealing old came draw Unused step new answers = answers

@@ -1,4 +1,4 @@
--- What was opened of a protected response comes to this.
+-- What was opened of a protected response has this result.
 use Rattle.std.proofs.Common.{◌≡◌, ◌∙◌, ℕ, true, List, Option, Some, ap, subst}
 use Rattle.std.specs.Prelude.{IfSome, IfNone}
 use Rattle.osc_model.specs.declared.step.Note.{Note}
@@ -10,8 +10,8 @@ use Rattle.osc_authz.specs.{ClientContextState}
 use Rattle.osc_run.specs.{response_note}
 use Rattle.osc_client.specs.{AskComes, IsSealedFor, answered, no_response, not_genuine}
 use Rattle.osc_client.specs.Inner.Opened.{ComesOf, a_reply, no_reply, nothing}
-use Rattle.osc_client.specs.declared.answering.Outcome.{Outcome}
-use Rattle.osc_client.specs.declared.answering.Outcome.TheVariants.{Stays, Answers}
+use Rattle.osc_client.specs.declared.answering.AnswerEffect.{AnswerEffect}
+use Rattle.osc_client.specs.declared.answering.AnswerEffect.TheVariants.{Stays, Answers}
 use Rattle.osc_client.specs.declared.waiting.OpenAsk.{OpenAsk}
 
 module _ (is_sealing : Sealings) (context : ClientContextState) (ask : OpenAsk) (message : Message) (response : SealedResponse) where
@@ -24,7 +24,7 @@ module _ (is_sealing : Sealings) (context : ClientContextState) (ask : OpenAsk) 
   abbrev IsNotGenuine : Option Note → Type 0
   IsNotGenuine opened = IfNone opened ((text : List ℕ) → ¬ IsSealedFor is_sealing context ask response text)
 
-  pub opened_comes : (opened : Option Note) (outcome : Outcome) → has_oscore message.options ≡ true → IsResponse message response
+  pub opened_comes : (opened : Option Note) (outcome : AnswerEffect) → has_oscore message.options ≡ true → IsResponse message response
       → IsGenuine opened → IsNoted opened → IsNotGenuine opened → ComesOf opened outcome → AskComes is_sealing context ask message outcome
   opened_comes opened outcome protected says genuine noted none (nothing e is) =
       not_genuine response protected says (subst IsNotGenuine e none) is

@@ -1,4 +1,4 @@
--- What an answer comes to, by its cases.
+-- The result of an answer, by its cases.
 use Rattle.std.proofs.Common.{◌≡◌, ◌∙◌, sym, ap, ℕ, false, List, Option, Some, None, Result, Ok, Err, refl, subst}
 use Rattle.osc_model.specs.{quiet}
 use Rattle.osc_model.specs.declared.code.Code.{Code}
@@ -18,8 +18,8 @@ use Rattle.osc_options.specs.{IsReplyIn}
 use Rattle.osc_client.specs.{AskComes, Comes, ExchangeComes, code_of, context_after, ended_by, notes_of, waits_after, outstanding, outstanding_of}
 use Rattle.osc_client.specs.Answering as comes
 use Rattle.osc_client.specs.Inner.Bounds.{IsOfGrant, NeedsContext}
-use Rattle.osc_client.specs.declared.answering.Outcome.{Outcome}
-use Rattle.osc_client.specs.declared.answering.Outcome.TheVariants.{Stays, Makes, Answers, Ends}
+use Rattle.osc_client.specs.declared.answering.AnswerEffect.{AnswerEffect}
+use Rattle.osc_client.specs.declared.answering.AnswerEffect.TheVariants.{Stays, Makes, Answers, Ends}
 use Rattle.osc_client.specs.declared.waiting.Awaited.{Awaited}
 use Rattle.osc_client.specs.declared.waiting.Awaited.TheVariants.{Exchange, Ask}
 use Rattle.osc_client.specs.declared.waiting.OpenAsk.{OpenAsk}
@@ -27,7 +27,7 @@ use Rattle.osc_client.specs.declared.waiting.Waiting.{Waiting}
 use Rattle.osc_client.proofs.Own.{same_grant}
 
 -- what holds of each outcome
-pub record OfEach (desk : ClientDesk) (context : Option ClientContextState) (what : Awaited) (P : Outcome → Type 0) : Type 0 where
+pub record OfEach (desk : ClientDesk) (context : Option ClientContextState) (what : Awaited) (P : AnswerEffect → Type 0) : Type 0 where
   pub stays : (opened : Option Note) → P (Stays opened)
   pub ends : (ending : ClientResult) → IsEnding ending → P (Ends ending)
   pub makes : (begun : Begun) (came : Code) (payload : List ℕ) (made : ClientContextState) → what ≡ Exchange begun → Finishes desk begun came payload (Ok made) → P (Makes made)
@@ -41,23 +41,23 @@ something (Some held) (Ask ask) has e = let wrong : AskOf (record { context = he
 something None (Ask ask) has e = has refl
 
 module _ (is_sealing : Sealings) (desk : ClientDesk) (message : Message) where
-  finishing : (context : Option ClientContextState) (begun : Begun) (P : Outcome → Type 0) → OfEach desk context (Exchange begun) P
+  finishing : (context : Option ClientContextState) (begun : Begun) (P : AnswerEffect → Type 0) → OfEach desk context (Exchange begun) P
       → (came : Result ClientContextState FinishError) (code : Code) (payload : List ℕ) → Finishes desk begun code payload came → P (ended_by came)
   finishing context begun P each (Ok made) code payload finishes = each.makes begun code payload made refl finishes
   finishing context begun P each (Err Fields) code payload finishes = each.ends (result.Refused 30) tt
   finishing context begun P each (Err EqualIds) code payload finishes = each.ends (result.Refused 20) tt
   finishing context begun P each (Err (Memory back)) code payload finishes = each.stays None
 
-  of_exchange : (context : Option ClientContextState) (begun : Begun) (outcome : Outcome) → ExchangeComes desk begun message outcome
-      → (P : Outcome → Type 0) → OfEach desk context (Exchange begun) P → P outcome
+  of_exchange : (context : Option ClientContextState) (begun : Begun) (outcome : AnswerEffect) → ExchangeComes desk begun message outcome
+      → (P : AnswerEffect → Type 0) → OfEach desk context (Exchange begun) P → P outcome
   of_exchange context begun outcome (comes.protected plain is) P each = subst P (sym is) (each.stays None)
   of_exchange context begun outcome (comes.ExchangeComes.other plain a b is) P each = subst P (sym is) (each.stays None)
   of_exchange context begun outcome (comes.ExchangeComes.failed plain error is) P each = subst P (sym is) (each.ends (result.Unverified (code_of message)) tt)
   of_exchange context begun outcome (comes.finished plain a b finish) P each =
       subst P (sym finish.is) (finishing context begun P each finish.came _ _ finish.finishes)
 
-  of_ask : (held : ClientContextState) (ask : OpenAsk) (outcome : Outcome) → AskComes is_sealing held ask message outcome
-      → (P : Outcome → Type 0) → OfEach desk (Some held) (Ask ask) P → P outcome
+  of_ask : (held : ClientContextState) (ask : OpenAsk) (outcome : AnswerEffect) → AskComes is_sealing held ask message outcome
+      → (P : AnswerEffect → Type 0) → OfEach desk (Some held) (Ask ask) P → P outcome
   of_ask held ask outcome (comes.AskComes.failed plain error is) P each = subst P (sym is) (each.ends (result.Unverified (code_of message)) tt)
   of_ask held ask outcome (comes.AskComes.other plain error is) P each = subst P (sym is) (each.stays None)
   of_ask held ask outcome (comes.malformed plain none is) P each = subst P (sym is) (each.stays None)
@@ -67,14 +67,14 @@ module _ (is_sealing : Sealings) (desk : ClientDesk) (message : Message) where
   of_ask held ask outcome (comes.answered response text reply plain says sealed reads is) P each =
       subst P (sym is) (each.answers held ask response.own text reply refl refl reads)
 
-  pub of_each : (context : Option ClientContextState) (what : Awaited) (outcome : Outcome) → Comes is_sealing desk context what message outcome
-      → (P : Outcome → Type 0) → OfEach desk context what P → P outcome
+  pub of_each : (context : Option ClientContextState) (what : Awaited) (outcome : AnswerEffect) → Comes is_sealing desk context what message outcome
+      → (P : AnswerEffect → Type 0) → OfEach desk context what P → P outcome
   of_each context (Exchange begun) outcome came P each = of_exchange context begun outcome came P each
   of_each (Some held) (Ask ask) outcome came P each = of_ask held ask outcome came P each
   of_each None (Ask ask) outcome came P each = absurd came
 
   -- the context is of what was granted
-  pub grant_after : (context : Option ClientContextState) (what : Awaited) (outcome : Outcome) → Comes is_sealing desk context what message outcome
+  pub grant_after : (context : Option ClientContextState) (what : Awaited) (outcome : AnswerEffect) → Comes is_sealing desk context what message outcome
       → IsOfGrant desk context → IsOfGrant desk (context_after outcome context)
   grant_after context what outcome came grant =
       of_each context what outcome came (λ o. IsOfGrant desk (context_after o context)) (record {
@@ -85,7 +85,7 @@ module _ (is_sealing : Sealings) (desk : ClientDesk) (message : Message) where
       })
 
   -- which kind of step it is
-  pub kind_after : (context : Option ClientContextState) (waiting : Waiting) (outcome : Outcome) → Comes is_sealing desk context waiting.what message outcome
+  pub kind_after : (context : Option ClientContextState) (waiting : Waiting) (outcome : AnswerEffect) → Comes is_sealing desk context waiting.what message outcome
       → NeedsContext context waiting.what
       → ((begun : Begun) (came : Code) (payload : List ℕ) (made : ClientContextState) (old : ClientState) → old.outstanding ≡ OpenExchange begun
       → Finishes old.desk begun came payload (Ok made)

@@ -17,8 +17,8 @@ use Rattle.osc_authz.specs.declared.error.FinishError.TheVariants.{Fields, Equal
 use Rattle.osc_authz.specs.declared.granted.ClientDesk.{ClientDesk}
 use Rattle.osc_client.specs.{context_after, waits_after, counts, is_ended, is_reset}
 use Rattle.osc_client.specs.Inner.Bounds.{HasContext, KeepsOwn}
-use Rattle.osc_client.specs.declared.answering.Outcome.{Outcome}
-use Rattle.osc_client.specs.declared.answering.Outcome.TheVariants.{Stays, Makes, Answers, Ends}
+use Rattle.osc_client.specs.declared.answering.AnswerEffect.{AnswerEffect}
+use Rattle.osc_client.specs.declared.answering.AnswerEffect.TheVariants.{Stays, Makes, Answers, Ends}
 use Rattle.osc_client.specs.declared.waiting.Waiting.{Waiting}
 
 all_filtered : {X : Type 0} (P : X → Type 0) (test : X → Bool) (xs : List X) → AllByRecursion P xs → AllByRecursion P (filter test xs)
@@ -97,7 +97,7 @@ counted_gone next_hop from message waiting sending counted own =
     (gone next_hop waiting.id (acknowledged_by from message.kind message.id sending) left)
 
 -- what waits then has its context
-pub has_after : (outcome : Outcome) (context : Option ClientContextState) (waiting : Waiting) → HasContext context (Some waiting)
+pub has_after : (outcome : AnswerEffect) (context : Option ClientContextState) (waiting : Waiting) → HasContext context (Some waiting)
     → HasContext (context_after outcome context) (waits_after outcome waiting)
 has_after (Stays opened) context waiting has = has
 has_after (Makes made) context waiting has = tt

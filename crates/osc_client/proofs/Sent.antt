@@ -17,8 +17,8 @@ use Rattle.osc_model.specs.declared.node.Moment.{Moment}
 use Rattle.osc_ccm.specs.{Sealings}
 use Rattle.osc_client.specs.{case_of, is_ended, Answers, AnswersNew, SendsOne, Settles, refusal}
 use Rattle.osc_client.specs.State.{State}
-use Rattle.osc_client.specs.declared.case.Case.{Case}
-use Rattle.osc_client.specs.declared.case.Case.TheVariants.{Refused, Unused, Counted}
+use Rattle.osc_client.specs.declared.case.Case.{ResponseCase}
+use Rattle.osc_client.specs.declared.case.ResponseCase.TheVariants.{Refused, Unused, Counted}
 
 sent_by : (from : Peer) (step : Step) (out : List Datagram) → step.out ≡ out → SendsOne from out → SendsOne from step.out
 sent_by from step out is one = subst (SendsOne from) (sym is) one
@@ -47,7 +47,7 @@ alone_one seen now from out (ignores is) = rw is tt
 alone_one seen now from out (rejects id spelled is) = rw is refl
 alone_one seen now from out (repeats id is) = rw is (again_one from (noted_reply seen now from id))
 
-new_one : (is_sealing : Sealings) (old : State) (came : Arrival Message) (case : Case) (step : Step) (new : State) → AnswersNew is_sealing old came case step new
+new_one : (is_sealing : Sealings) (old : State) (came : Arrival Message) (case : ResponseCase) (step : Step) (new : State) → AnswersNew is_sealing old came case step new
     → SendsOne came.from step.out
 new_one is_sealing old came Refused step new answers =
     sent_by came.from step (datagram came.from (refusal came.what) ∷ []) (ap (λ (s : Step). s.out) answers.0) refl

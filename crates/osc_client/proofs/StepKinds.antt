@@ -22,8 +22,8 @@ use Rattle.osc_client.specs.{case_of, is_ended, is_reset, core, opened, outstand
 use Rattle.osc_context.specs.{greatest_number}
 use Rattle.osc_ccm.specs.{Sealings, Tags}
 use Rattle.osc_client.specs.State.{State}
-use Rattle.osc_client.specs.declared.case.Case.{Case}
-use Rattle.osc_client.specs.declared.case.Case.TheVariants.{Refused as RefusedCase, Unused, Counted}
+use Rattle.osc_client.specs.declared.case.Case.{ResponseCase}
+use Rattle.osc_client.specs.declared.case.ResponseCase.TheVariants.{Refused as RefusedCase, Unused, Counted}
 use Rattle.osc_client.specs.declared.waiting.Awaited.TheVariants.{Ask}
 use Rattle.osc_client.specs.declared.waiting.Waiting.{Waiting}
 use Rattle.osc_client.proofs.Outcomes.{kind_after, something}
@@ -76,7 +76,7 @@ Makes =
     → IsMade before (record quiet { result = Some result.Made }) (record before { context = Some made; outstanding = Nothing })
 
 -- a step for a new message
-new_kind : (is_sealing : Sealings) (old : State) (came : Arrival Message) (case : Case) (step : Step) (new : State) → HasContext old.context old.waiting → Makes
+new_kind : (is_sealing : Sealings) (old : State) (came : Arrival Message) (case : ResponseCase) (step : Step) (new : State) → HasContext old.context old.waiting → Makes
     → AnswersNew is_sealing old came case step new → ClientStep false (core old) step.notes (core new)
 new_kind is_sealing old came RefusedCase step new has makes answers = quietly old new step _ answers.0 (ap core answers.1)
 new_kind is_sealing old came Unused step new has makes answers = quietly old new step _ answers.0 (ap core answers.1)

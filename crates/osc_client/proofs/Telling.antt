@@ -38,10 +38,10 @@ use Rattle.osc_run.specs.{IsEnding, request_note, response_note, IsOpenOf, IsSea
 use Rattle.osc_client.specs.{AskComes, Comes, ExchangeComes, code_of, ended_by, notes_of, case_of, is_ended, Asks, asks, hindered, plain_of, refusing, Answers, AnswersNew, Counts, Settles, refusal, AreTold, IsToldOf, NeedsNoSeal, SealsNothing, needs_none, noted_before, open_before, sealed_now, unprotected}
 use Rattle.osc_client.specs.Answering as comes
 use Rattle.osc_client.specs.State.{State}
-use Rattle.osc_client.specs.declared.answering.Outcome.{Outcome}
-use Rattle.osc_client.specs.declared.answering.Outcome.TheVariants as outcome
-use Rattle.osc_client.specs.declared.case.Case.{Case}
-use Rattle.osc_client.specs.declared.case.Case.TheVariants as case
+use Rattle.osc_client.specs.declared.answering.AnswerEffect.{AnswerEffect}
+use Rattle.osc_client.specs.declared.answering.AnswerEffect.TheVariants as outcome
+use Rattle.osc_client.specs.declared.case.Case.{ResponseCase}
+use Rattle.osc_client.specs.declared.case.ResponseCase.TheVariants as case
 use Rattle.osc_client.specs.declared.waiting.Awaited.{Awaited}
 use Rattle.osc_client.specs.declared.waiting.Awaited.TheVariants.{Exchange, Ask}
 use Rattle.osc_client.specs.declared.waiting.OpenAsk.{OpenAsk}
@@ -168,7 +168,7 @@ module _ (is_sealing : Sealings) (old : State) (now : Moment) where
 
   module _ (came : List ℕ) (from : Peer) where
     -- what an outcome's notes tell of what opened
-    record Tells (o : Outcome) : Type 0 where
+    record Tells (o : AnswerEffect) : Type 0 where
       pub seals : (notes_of o).seals ≡ None
       pub opens : (note : Note) → (notes_of o).opens ≡ Some note → (bytes : List ℕ) × (Some came ≡ Some bytes) × IsOpenOf is_sealing note bytes
       pub answers : (reply : Reply) → (notes_of o).result ≡ Some (Answer reply) → (note : Note) × ((notes_of o).opens ≡ Some note) × IsReplyIn note.plaintext reply
@@ -189,13 +189,13 @@ module _ (is_sealing : Sealings) (old : State) (now : Moment) where
     finish_tells (Err EqualIds) = end_tells (result.Refused 20) tt
     finish_tells (Err (Memory back)) = stay_tells
 
-    exchange_tells : (begun : Begun) (message : Message) (o : Outcome) → ExchangeComes old.desk begun message o → Tells o
+    exchange_tells : (begun : Begun) (message : Message) (o : AnswerEffect) → ExchangeComes old.desk begun message o → Tells o
     exchange_tells begun message o (comes.protected plain is) = subst Tells (sym is) stay_tells
     exchange_tells begun message o (comes.ExchangeComes.other plain a b is) = subst Tells (sym is) stay_tells
     exchange_tells begun message o (comes.ExchangeComes.failed plain error is) = subst Tells (sym is) (end_tells (result.Unverified (code_of message)) tt)
     exchange_tells begun message o (comes.finished plain a b finish) = subst Tells (sym finish.is) (finish_tells finish.came)
 
-    ask_tells : (context : ClientContextState) (ask : OpenAsk) (message : Message) (o : Outcome) → Spells came message → AskComes is_sealing context ask message o → Tells o
+    ask_tells : (context : ClientContextState) (ask : OpenAsk) (message : Message) (o : AnswerEffect) → Spells came message → AskComes is_sealing context ask message o → Tells o
     ask_tells context ask message o spelled (comes.AskComes.failed plain error is) = subst Tells (sym is) (end_tells (result.Unverified (code_of message)) tt)
     ask_tells context ask message o spelled (comes.AskComes.other plain error is) = subst Tells (sym is) stay_tells
     ask_tells context ask message o spelled (comes.malformed plain none is) = subst Tells (sym is) stay_tells
@@ -217,7 +217,7 @@ module _ (is_sealing : Sealings) (old : State) (now : Moment) where
           answers = λ other e. (note, refl, let same : reply ≡ other = cc in subst (IsReplyIn text) same reads);
         })
 
-    comes_tells : (context : Option ClientContextState) (what : Awaited) (message : Message) (o : Outcome) → Spells came message → Comes is_sealing old.desk context what message o → Tells o
+    comes_tells : (context : Option ClientContextState) (what : Awaited) (message : Message) (o : AnswerEffect) → Spells came message → Comes is_sealing old.desk context what message o → Tells o
     comes_tells context (Exchange begun) message o spelled it = exchange_tells begun message o it
     comes_tells (Some context) (Ask ask) message o spelled it = ask_tells context ask message o spelled it
     comes_tells None (Ask ask) message o spelled it = absurd it
@@ -248,7 +248,7 @@ module _ (is_sealing : Sealings) (old : State) (now : Moment) where
     alone_silently out (rejects id spelled is) = rw is (silent_message old now from (reset id) refl)
     alone_silently out (repeats id is) = rw is (again_silent old now from id (noted_reply old.endpoint.seen now from id) refl)
 
-    new_told : (draw : Draw) (message : Message) (it : Case) (step : Step) (new : State) → Spells came message
+    new_told : (draw : Draw) (message : Message) (it : ResponseCase) (step : Step) (new : State) → Spells came message
         → AnswersNew is_sealing old (record { at = now; from = from; draw = draw; what = message }) it step new → AreTold is_sealing old now (Some came) step
     new_told draw message case.Refused step new spelled a = quietly step _ a.0 (silent_message old now from (refusal message) refl)
     new_told draw message case.Unused step new spelled a = quietly step _ a.0 (rejected_silently message.kind message.id)

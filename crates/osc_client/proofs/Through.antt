@@ -11,7 +11,8 @@ use Rattle.osc_coap.specs.declared.kind.Kind.{Kind}
 use Rattle.osc_coap.specs.declared.kind.Kind.TheVariants.{Confirmable}
 use Rattle.osc_coap.specs.Plaintext.{Plaintext}
 use Rattle.osc_options.specs.declared.table.Class.TheVariants.{E}
-use Rattle.osc_options.specs.{uint_bytes, each, none_match_options, path_options, request_options, segments_of, uint_options, with_request, request_plaintext, AreInOrder, has_oscore, inner_options, insert, merge, of_number, outer_options, plaintext_of, same_class, unprotected, class_of}
+use Rattle.osc_model.specs.{segments_of}
+use Rattle.osc_options.specs.{uint_bytes, each, none_match_options, path_options, request_options, uint_options, with_request, request_plaintext, AreInOrder, has_oscore, inner_options, insert, merge, of_number, outer_options, plaintext_of, same_class, unprotected, class_of}
 use Rattle.osc_client.specs.{plain_request, post_with, HostAndPort, proxy_options, through}
 
 -- ---- the laws that this is on

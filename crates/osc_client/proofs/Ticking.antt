@@ -40,7 +40,7 @@ pub own_after_tick : (now : Moment) (peer : Peer) (waiting : Option Waiting) (se
 own_after_tick now peer None sending own = ap (ticked now) own
 own_after_tick now peer (Some waiting) sending own = named_after_tick now peer waiting.id sending own
 
--- ---- what a tick comes to, by whether what waits is over
+-- ---- the result of a tick, by whether what waits is over
 
 pub timed_out : (old : State) (now : Moment) (lost : Bool) (out : List Datagram) (step : Step) (new : State) → GoesOut lost (tick_sends now old.endpoint.sending) out
     → is_over now old.endpoint.sending old.waiting ≡ true → step ≡ record { out = out; notes = record quiet { result = Some TimedOut; lost = lost } }

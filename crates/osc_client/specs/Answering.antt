@@ -1,4 +1,4 @@
--- What an answer that counts comes to (RFC 8613 section 8.4, RFC 9203 section 4.2).
+-- The result of an answer that counts (RFC 8613 section 8.4, RFC 9203 section 4.2).
 use Rattle.std.specs.Prelude.{◌≡◌, ℕ, ◌/◌, Bool, true, false, ◌==◌, ◌||◌, List, [], Option, Some, None, Result, Ok, Err, unwrap_or}
 use Rattle.osc_model.specs.Refusals as refusal
 use Rattle.osc_model.specs.{quiet, code}
@@ -20,8 +20,8 @@ use Rattle.osc_authz.specs.declared.error.FinishError.{FinishError}
 use Rattle.osc_authz.specs.declared.error.FinishError.TheVariants.{Fields, EqualIds, Memory}
 use Rattle.osc_authz.specs.declared.granted.ClientDesk.{ClientDesk}
 use Rattle.osc_run.specs.{response_note}
-use Rattle.osc_client.specs.declared.answering.Outcome.{Outcome}
-use Rattle.osc_client.specs.declared.answering.Outcome.TheVariants.{Stays, Makes, Answers, Ends}
+use Rattle.osc_client.specs.declared.answering.AnswerEffect.{AnswerEffect}
+use Rattle.osc_client.specs.declared.answering.AnswerEffect.TheVariants.{Stays, Makes, Answers, Ends}
 use Rattle.osc_client.specs.declared.waiting.Awaited.{Awaited}
 use Rattle.osc_client.specs.declared.waiting.Awaited.TheVariants.{Exchange, Ask}
 use Rattle.osc_client.specs.declared.waiting.OpenAsk.{OpenAsk}
@@ -39,20 +39,20 @@ code_of message = record { 0 = message.code }
 
 -- ---- the answer to an exchange
 
-abbrev pub ended_by : Result ClientContextState FinishError → Outcome
+abbrev pub ended_by : Result ClientContextState FinishError → AnswerEffect
 ended_by (Ok made) = Makes made
 ended_by (Err Fields) = Ends (result.Refused refusal.fields)
 ended_by (Err EqualIds) = Ends (result.Refused refusal.equal_ids)
 ended_by (Err (Memory begun)) = Stays None
 
 -- a success finishes it
-pub record IsFinish (desk : ClientDesk) (begun : Begun) (message : Message) (outcome : Outcome) : Type 0 where
+pub record IsFinish (desk : ClientDesk) (begun : Begun) (message : Message) (outcome : AnswerEffect) : Type 0 where
   pub came : Result ClientContextState FinishError
   pub finishes : Finishes desk begun (code_of message) (unwrap_or message.payload []) came
   pub is : outcome ≡ ended_by came
 
 -- One that is protected, or of another class than 2, 4 and 5, changes nothing. An error ends it, and a success finishes it.
-pub data ExchangeComes (desk : ClientDesk) (begun : Begun) (message : Message) (outcome : Outcome) : Type 0 where
+pub data ExchangeComes (desk : ClientDesk) (begun : Begun) (message : Message) (outcome : AnswerEffect) : Type 0 where
   protected : has_oscore message.options ≡ true → outcome ≡ Stays None → ExchangeComes desk begun message outcome
   other : has_oscore message.options ≡ false → is_error message.code ≡ false → is_success message.code ≡ false → outcome ≡ Stays None
       → ExchangeComes desk begun message outcome
@@ -72,7 +72,7 @@ module _ (is_sealing : Sealings) where
 
   -- An error without protection ends it, and anything else without protection changes nothing. What isn't a protected response, or
   -- doesn't open, changes nothing; what opens and is no response is noted. A response answers it.
-  pub data AskComes (context : ClientContextState) (ask : OpenAsk) (message : Message) (outcome : Outcome) : Type 0 where
+  pub data AskComes (context : ClientContextState) (ask : OpenAsk) (message : Message) (outcome : AnswerEffect) : Type 0 where
     failed : has_oscore message.options ≡ false → is_error message.code ≡ true → outcome ≡ Ends (result.Unverified (code_of message))
         → AskComes context ask message outcome
     other : has_oscore message.options ≡ false → is_error message.code ≡ false → outcome ≡ Stays None → AskComes context ask message outcome
@@ -87,8 +87,8 @@ module _ (is_sealing : Sealings) where
         → IsSealedFor context ask response text → IsReplyIn text reply
         → outcome ≡ Answers (response_note context.name ask.number response.own text) reply → AskComes context ask message outcome
 
-  -- what the answer comes to, by what waits
-  abbrev pub Comes : ClientDesk → Option ClientContextState → Awaited → Message → Outcome → Type 0
+  -- the result of the answer, by what waits
+  abbrev pub Comes : ClientDesk → Option ClientContextState → Awaited → Message → AnswerEffect → Type 0
   Comes desk context (Exchange begun) message outcome = ExchangeComes desk begun message outcome
   Comes desk (Some context) (Ask ask) message outcome = AskComes context ask message outcome
   Comes desk None (Ask ask) message outcome = ⊥
@@ -108,19 +108,19 @@ pub data CountsInMemory (waiting : Option Waiting) (message : Message) : Type 0 
 
 -- ---- what is kept then
 
-abbrev pub awaited_after : Outcome → Awaited → Option Awaited
+abbrev pub awaited_after : AnswerEffect → Awaited → Option Awaited
 awaited_after (Stays opened) awaited = Some awaited
 awaited_after outcome awaited = None
 
-abbrev pub waits_after : Outcome → Waiting → Option Waiting
+abbrev pub waits_after : AnswerEffect → Waiting → Option Waiting
 waits_after (Stays opened) waiting = Some waiting
 waits_after outcome waiting = None
 
-abbrev pub context_after : Outcome → Option ClientContextState → Option ClientContextState
+abbrev pub context_after : AnswerEffect → Option ClientContextState → Option ClientContextState
 context_after (Makes made) context = Some made
 context_after outcome context = context
 
-abbrev pub notes_of : Outcome → StepNotes
+abbrev pub notes_of : AnswerEffect → StepNotes
 notes_of (Stays opened) = record quiet { opens = opened }
 notes_of (Makes made) = record quiet { result = Some result.Made }
 notes_of (Answers note reply) = record quiet { opens = Some note; result = Some (result.Answer reply) }

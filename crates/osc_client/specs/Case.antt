@@ -8,8 +8,8 @@ use Rattle.osc_coap.specs.declared.kind.Kind.TheVariants.{Reset as ResetKind}
 use Rattle.osc_options.specs.{unrecognised_critical}
 use Rattle.osc_model.specs.{same_peer}
 use Rattle.osc_message.specs.{is_acknowledgement, is_confirmable}
-use Rattle.osc_client.specs.declared.case.Case.{Case}
-use Rattle.osc_client.specs.declared.case.Case.TheVariants.{Refused, Unused, Counted}
+use Rattle.osc_client.specs.declared.case.Case.{ResponseCase}
+use Rattle.osc_client.specs.declared.case.ResponseCase.TheVariants.{Refused, Unused, Counted}
 use Rattle.osc_client.specs.declared.waiting.Waiting.{Waiting}
 
 abbrev pub is_reset : Kind → Bool
@@ -29,7 +29,7 @@ counts next_hop from message (Some waiting) = is_for next_hop from message waiti
 
 -- A critical option that isn't recognised (section 5.4.1): a confirmable request is answered. Requests aren't served. A response
 -- counts for what waits, or for nothing.
-abbrev pub case_of : Peer → Peer → Option Waiting → CoapMessage → Case
+abbrev pub case_of : Peer → Peer → Option Waiting → CoapMessage → ResponseCase
 case_of next_hop from waiting message =
     if is_some (unrecognised_critical 0 message.options) then
     (if is_request_code message.code && is_confirmable message.kind then Refused else Unused)

@@ -17,9 +17,9 @@ use Rattle.osc_ccm.specs.{Sealings}
 use Rattle.osc_client.specs.Answering.{Comes, CountsInMemory, context_after, notes_of, waits_after}
 use Rattle.osc_client.specs.Case.{case_of, is_ended}
 use Rattle.osc_client.specs.State.{State}
-use Rattle.osc_client.specs.declared.answering.Outcome.{Outcome}
-use Rattle.osc_client.specs.declared.case.Case.{Case}
-use Rattle.osc_client.specs.declared.case.Case.TheVariants.{Refused, Unused, Counted}
+use Rattle.osc_client.specs.declared.answering.AnswerEffect.{AnswerEffect}
+use Rattle.osc_client.specs.declared.case.Case.{ResponseCase}
+use Rattle.osc_client.specs.declared.case.ResponseCase.TheVariants.{Refused, Unused, Counted}
 use Rattle.osc_client.specs.declared.waiting.Waiting.{Waiting}
 
 -- 4.02 (Bad Option), in the acknowledgement of the request (RFC 7252 section 5.4.1)
@@ -42,11 +42,11 @@ Settles true old endpoint step new =
 -- `is_sealing algorithm` is the relation of the algorithm's cipher
 module _ (is_sealing : Sealings) where
   -- A response that counts acknowledges the message that it answers, is noted, and is acknowledged where it is confirmable (RFC 7252
-  -- sections 4.2 and 5.2.2), whatever it comes to.
+  -- sections 4.2 and 5.2.2), whatever its result is.
   pub record Counts (old : State) (came : Arrival Message) (step : Step) (new : State) : Type 0 where
     pub waiting : Waiting
     pub waits : old.waiting ≡ Some waiting
-    pub outcome : Outcome
+    pub outcome : AnswerEffect
     pub comes : Comes is_sealing old.desk old.context waiting.what came.what outcome
     pub told : step ≡ record { out = sent_to came.from (acknowledgement came.what); notes = notes_of outcome }
     pub kept : new
@@ -58,7 +58,7 @@ module _ (is_sealing : Sealings) where
 
   -- A new message, in each case. What a client has no use for is rejected, where it is confirmable, and else ignored; an acknowledgement
   -- acknowledges all the same.
-  abbrev pub AnswersNew : State → Arrival Message → Case → Step → State → Type 0
+  abbrev pub AnswersNew : State → Arrival Message → ResponseCase → Step → State → Type 0
   AnswersNew old came Refused step new =
       (step ≡ sends (datagram came.from (refusal came.what) ∷ []))
       × (new ≡ record old { endpoint = settled old.endpoint came.at came.from (heard.Message came.what) (handling.Answered (Some (spelling (refusal came.what)))) })
@@ -75,7 +75,7 @@ module _ (is_sealing : Sealings) where
   Answers old came (heard.Message message) step new = AnswersNew old (read_as came message) (case_of old.next_hop came.from old.waiting message) step new
 
 -- What takes memory of a new message: what is sent, or read.
-abbrev pub NewTakesMemory : Option Waiting → Message → Case → Type 0
+abbrev pub NewTakesMemory : Option Waiting → Message → ResponseCase → Type 0
 NewTakesMemory waiting message Refused = Unit {0}
 NewTakesMemory waiting message Unused = is_confirmable message.kind ≡ true
 NewTakesMemory waiting message Counted = CountsInMemory waiting message

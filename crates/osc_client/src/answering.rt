@@ -1,4 +1,4 @@
-//! What an answer that counts comes to.
+//! The result of an answer that counts.
 ghost use Rattle.std.specs.Prelude.{◌≡◌, ◌≢◌, ◌≤◌, ℕ, List, [], true, None, Some, IfOk, IfErr, IsErr, OnErr, IsSome, IfSome, IfNone, unwrap_or};
 ghost use Rattle.osc_context.specs.{greatest_number};
 ghost use Rattle.osc_cbor.specs.{DataItem, IsWhole};
@@ -10,7 +10,7 @@ ghost use Rattle.osc_run.specs.{response_note};
 ghost use Rattle.osc_client.specs.Answering.{AskComes, Comes, ExchangeComes, IsFinish, IsRead, IsSealedFor, awaited_after, code_of, context_after, is_error as is_error_of, is_success as is_success_of, notes_of, waits_after};
 ghost use Rattle.osc_client.specs.Inner.Bounds.{IsEnd, IsLawful, NeedsContext};
 ghost use Rattle.osc_client.specs.Inner.Opened.{ComesOf};
-ghost use Rattle.osc_client.specs.declared.answering.Outcome.TheVariants as outcome;
+ghost use Rattle.osc_client.specs.declared.answering.AnswerEffect.TheVariants as outcome;
 ghost use Rattle.osc_client.specs.declared.waiting.Awaited.TheVariants as awaited;
 ghost use Rattle.osc_model.specs.declared.step.ClientResult.TheVariants as ended;
 
@@ -25,9 +25,9 @@ use osc_options::{PlaintextError, has_option, reply_of};
 use osc_protect::{SealedResponseRef, open_response, read_response};
 use std::alloc::{AllocError, Global};
 
-/// What an answer that counts comes to.
+/// The result of an answer that counts.
 #[derive(Drop)]
-pub enum Outcome {
+pub enum AnswerEffect {
     /// What waits stays open; the note is of what opened, if anything did.
     Stays(Option<Note>),
     /// The exchange made this context.
@@ -38,17 +38,17 @@ pub enum Outcome {
     Ends(ClientResult),
 }
 
-/// What an answer comes to, or lack of memory for it, and what waits then.
+/// The result of an answer, or lack of memory for it, and what waits then.
 #[derive(Drop)]
 pub(crate) struct Learnt {
-    pub outcome: Result<Outcome, AllocError>,
+    pub outcome: Result<AnswerEffect, AllocError>,
     pub waiting: Option<Waiting>,
 }
 
 /// The same of what is awaited.
 #[derive(Drop)]
 struct Judged {
-    outcome: Result<Outcome, AllocError>,
+    outcome: Result<AnswerEffect, AllocError>,
     awaited: Option<Awaited>,
 }
 
@@ -67,20 +67,20 @@ fn is_success(code: u8) -> bool
 }
 
 /// How an unprotected error ends what waits.
-fn unverified(message: &MessageRef<'_>) -> Outcome
+fn unverified(message: &MessageRef<'_>) -> AnswerEffect
     ensures { result ≡ outcome.Ends (ended.Unverified (record { 0 = message.now.code })) }
 {
-    Outcome::Ends(ClientResult::Unverified(Code(message.code())))
+    AnswerEffect::Ends(ClientResult::Unverified(Code(message.code())))
 }
 
-/// What an answer to an exchange comes to: the exchange stays, and is handed back; or it is used up. Want of memory hands it back
+/// The result of an answer to an exchange: the exchange stays, and is handed back; or it is used up. Lack of memory hands it back
 /// too.
 fn exchange_outcome(
     alloc: Global,
     desk: &ClientDesk,
     begun: OpenExchange,
     message: &MessageRef<'_>,
-) -> Result<Result<Outcome, OpenExchange>, OpenExchange>
+) -> Result<Result<AnswerEffect, OpenExchange>, OpenExchange>
     ensures comes { IfOk result (λ came. IfOk came (λ outcome. ExchangeComes desk.now begun message.now outcome × IsEnd outcome)) }
     ensures stays { IfOk result (λ came. IfErr came (λ back. ExchangeComes desk.now begun message.now (outcome.Stays None) × (back ≡ begun))) }
     ensures memory { IfErr result (λ back. back ≡ begun) }
@@ -101,33 +101,35 @@ fn exchange_outcome(
     }
 }
 
-/// What an exchange comes to by a success; lack of memory hands it back.
+/// How an exchange ends by a success; lack of memory hands it back.
 fn finish(
     alloc: Global,
     desk: &ClientDesk,
     begun: OpenExchange,
     message: &MessageRef<'_>,
-) -> Result<Outcome, OpenExchange>
+) -> Result<AnswerEffect, OpenExchange>
     ensures finished { IfOk result (λ outcome. IsFinish desk.now begun message.now outcome × IsEnd outcome) }
     ensures memory { IfErr result (λ back. back ≡ begun) }
     ensures read { IsErr result → (code_of message.now ≡ code 2 1) × ((item : DataItem) × IsWhole (unwrap_or message.now.payload []) item) }
 {
     let payload = message.payload().unwrap_or(&[]);
     match desk.finish(alloc, begun, Code(message.code()), payload) {
-        Ok(made) => Ok(Outcome::Makes(made)),
+        Ok(made) => Ok(AnswerEffect::Makes(made)),
         Err(FinishError::Memory(back)) => Err(back),
-        Err(FinishError::Fields) => Ok(Outcome::Ends(ClientResult::Refused(refusals::FIELDS))),
-        Err(FinishError::EqualIds) => Ok(Outcome::Ends(ClientResult::Refused(refusals::EQUAL_IDS))),
+        Err(FinishError::Fields) => Ok(AnswerEffect::Ends(ClientResult::Refused(refusals::FIELDS))),
+        Err(FinishError::EqualIds) => Ok(AnswerEffect::Ends(ClientResult::Refused(
+            refusals::EQUAL_IDS,
+        ))),
     }
 }
 
-/// What an answer to a protected request comes to.
+/// The result of an answer to a protected request.
 fn ask_outcome<A: Ciphers>(
     alloc: Global,
     context: &ClientContext,
     ask: &OpenAsk,
     message: &MessageRef<'_>,
-) -> Result<Outcome, AllocError>
+) -> Result<AnswerEffect, AllocError>
     requires { ask.now.number ≤ greatest_number }
     ensures comes { IfOk result (λ outcome. AskComes A.is_sealing context.now ask.now message.now outcome) }
     ensures read { IsErr result → IsRead (awaited.Ask ask.now) message.now }
@@ -136,23 +138,23 @@ fn ask_outcome<A: Ciphers>(
         return Ok(if is_error(message.code()) {
             unverified(message)
         } else {
-            Outcome::Stays(None)
+            AnswerEffect::Stays(None)
         });
     }
     match read_response(message) {
         Ok(response) => opened_outcome::<A>(alloc, context, ask, message, &response),
-        Err(_) => Ok(Outcome::Stays(None)),
+        Err(_) => Ok(AnswerEffect::Stays(None)),
     }
 }
 
-/// What a protected response comes to.
+/// The result of a protected response.
 fn opened_outcome<A: Ciphers>(
     alloc: Global,
     context: &ClientContext,
     ask: &OpenAsk,
     message: &MessageRef<'_>,
     response: &SealedResponseRef<'_>,
-) -> Result<Outcome, AllocError>
+) -> Result<AnswerEffect, AllocError>
     requires number { ask.now.number ≤ greatest_number }
     requires protected { has_oscore_in message.now.options ≡ true }
     requires response { IsResponse message.now response.now }
@@ -163,16 +165,16 @@ fn opened_outcome<A: Ciphers>(
 }
 
 /// The outcome of what was opened, or wasn't: memory is taken for a reply alone.
-fn outcome_opened(alloc: Global, opened: Option<Note>) -> Result<Outcome, AllocError>
+fn outcome_opened(alloc: Global, opened: Option<Note>) -> Result<AnswerEffect, AllocError>
     ensures comes { IfOk result (λ outcome. ComesOf opened outcome) }
     ensures memory { IsErr result → IsSome opened }
 {
     match opened {
         Some(note) => match reply_in(alloc, note.plaintext.as_slice())? {
-            Some(reply) => Ok(Outcome::Answers(note, reply)),
-            None => Ok(Outcome::Stays(Some(note))),
+            Some(reply) => Ok(AnswerEffect::Answers(note, reply)),
+            None => Ok(AnswerEffect::Stays(Some(note))),
         },
-        None => Ok(Outcome::Stays(None)),
+        None => Ok(AnswerEffect::Stays(None)),
     }
 }
 
@@ -208,7 +210,7 @@ fn reply_in(alloc: Global, plaintext: &[u8]) -> Result<Option<Reply>, AllocError
     }
 }
 
-/// What an answer to an exchange comes to, and what is awaited then.
+/// The result of an answer to an exchange, and what is awaited then.
 fn judge_exchange(
     alloc: Global,
     desk: &ClientDesk,
@@ -226,7 +228,7 @@ fn judge_exchange(
             awaited: None,
         },
         Ok(Err(back)) => Judged {
-            outcome: Ok(Outcome::Stays(None)),
+            outcome: Ok(AnswerEffect::Stays(None)),
             awaited: Some(Awaited::Exchange(back)),
         },
         Err(back) => Judged {
@@ -236,7 +238,7 @@ fn judge_exchange(
     }
 }
 
-/// What an answer to a protected request comes to, and what is awaited then.
+/// The result of an answer to a protected request, and what is awaited then.
 fn judge_ask<A: Ciphers>(
     alloc: Global,
     context: &ClientContext,
@@ -251,13 +253,13 @@ fn judge_ask<A: Ciphers>(
 {
     let outcome = ask_outcome::<A>(alloc, context, &ask, message);
     let awaited = match &outcome {
-        Ok(Outcome::Stays(_)) | Err(_) => Some(Awaited::Ask(ask)),
+        Ok(AnswerEffect::Stays(_)) | Err(_) => Some(Awaited::Ask(ask)),
         Ok(_) => None,
     };
     Judged { outcome, awaited }
 }
 
-/// What an answer that counts comes to, and what waits then: all that waited, where memory runs out.
+/// The result of an answer that counts, and what waits then: all that waited, where memory runs out.
 pub(crate) fn outcome_of<A: Ciphers>(
     alloc: Global,
     desk: &ClientDesk,
@@ -296,20 +298,20 @@ pub(crate) fn outcome_of<A: Ciphers>(
 }
 
 /// What is noted of an outcome; a context that was made takes the place of the old one.
-pub(crate) fn learn(context: &mut Option<ClientContext>, outcome: Outcome) -> StepNotes
+pub(crate) fn learn(context: &mut Option<ClientContext>, outcome: AnswerEffect) -> StepNotes
     ensures notes { result ≡ notes_of outcome }
     ensures context { context.new ≡ context_after outcome context.old }
 {
     match outcome {
-        Outcome::Stays(None) => StepNotes::quiet(),
-        Outcome::Stays(Some(note)) => StepNotes::quiet().with_open(note),
-        Outcome::Makes(made) => {
+        AnswerEffect::Stays(None) => StepNotes::quiet(),
+        AnswerEffect::Stays(Some(note)) => StepNotes::quiet().with_open(note),
+        AnswerEffect::Makes(made) => {
             *context = Some(made);
             StepNotes::quiet().with_result(ClientResult::Made)
         }
-        Outcome::Answers(note, reply) => StepNotes::quiet()
+        AnswerEffect::Answers(note, reply) => StepNotes::quiet()
             .with_open(note)
             .with_result(ClientResult::Answer(reply)),
-        Outcome::Ends(ending) => StepNotes::quiet().with_result(ending),
+        AnswerEffect::Ends(ending) => StepNotes::quiet().with_result(ending),
     }
 }

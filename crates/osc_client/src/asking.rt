@@ -106,7 +106,7 @@ impl AskRoom {
 
 /// What is kept of a request that was sealed.
 #[derive(Drop)]
-pub(crate) struct Asked {
+pub(crate) struct SealedAsk {
     /// The note of its seal.
     pub note: Note,
     /// What waits for the response.
@@ -121,7 +121,7 @@ pub(crate) fn sealed<A: Ciphers>(
     context: &mut ClientContext,
     room: AskRoom,
     draft: &mut Draft,
-) -> Asked
+) -> SealedAsk
     requires number { context.old.next ≤ greatest_number }
     requires drafted { (plain : Message) × IsDraft A.TAG context.old.name context.old.next plain draft.old
         × (room ≡ room_for A.TAG context.old.name context.old.next plain) }
@@ -140,7 +140,7 @@ pub(crate) fn sealed<A: Ciphers>(
         number: number.get(),
     };
     let note = seal_request::<A>(seal, number, draft);
-    Asked {
+    SealedAsk {
         note,
         ask,
         datagram,

@@ -11,7 +11,7 @@ use osc_options::unrecognised_critical;
 
 /// What a new message is to a client.
 #[derive(Clone, Copy, Debug, PartialEq, Eq)]
-pub enum Case {
+pub enum ResponseCase {
     /// A confirmable request with a critical option that isn't recognised: 4.02.
     Refused,
     /// The client has no use for it: it is rejected by a Reset, where it is confirmable, and else ignored.
@@ -45,21 +45,21 @@ pub(crate) fn case_of(
     from: Peer,
     waiting: &Option<Waiting>,
     message: &MessageRef<'_>,
-) -> Case
+) -> ResponseCase
     ensures asks { AsksFor next_hop from waiting.now message.now result }
     ensures case { result ≡ spec.case_of next_hop from waiting.now message.now }
 {
     let is_request = is_request_code(message.code());
     if unrecognised_critical(message).is_some() {
         if is_request && is_confirmable(message.kind()) {
-            Case::Refused
+            ResponseCase::Refused
         } else {
-            Case::Unused
+            ResponseCase::Unused
         }
     } else if !is_request && counts(next_hop, from, message, waiting) {
-        Case::Counted
+        ResponseCase::Counted
     } else {
-        Case::Unused
+        ResponseCase::Unused
     }
 }
 

@@ -26,8 +26,8 @@ ghost use Rattle.osc_client.specs.Route.{IsLawfulOrigin, through};
 
 use crate::Endpoint;
 use crate::answering::{Learnt, learn, outcome_of};
-use crate::asking::{AskRoom, Asked, fitting, sealed};
-use crate::case::{Case, case_of, is_ended};
+use crate::asking::{AskRoom, SealedAsk, fitting, sealed};
+use crate::case::{ResponseCase, case_of, is_ended};
 use crate::exchanging::{each_post_fits, post_message};
 use crate::proxied::outside_with;
 use crate::refusing::refused;
@@ -83,7 +83,7 @@ impl Model for Client {
     ghost invariant = { λ c. KeepsOwn c.next_hop c.waiting c.endpoint.sending × HasContext c.context c.waiting × IsOfGrant c.desk c.context };
 }
 
-/// Whether what waits is over, where its message was acknowledged before this tick, or none is left after it.
+/// Whether what waits is over, where its message was acknowledged before this tick, or no message is left after it.
 fn is_over(now: Moment, acknowledged: bool, none_left: bool, waiting: &Option<Waiting>) -> bool
     ensures { result ≡ is_over_by now acknowledged none_left waiting.now }
 {
@@ -253,7 +253,7 @@ impl Client {
             Err(number) => return Ok(refused(alloc, number)),
         };
         let context = self.context.as_mut().unwrap();
-        let Asked {
+        let SealedAsk {
             note,
             ask,
             datagram,
@@ -397,9 +397,9 @@ impl Client {
         ensures needs_memory { OnErr result (NewTakesMemory self.old.waiting came.entry.what (case_in self.old.next_hop came.entry.from self.old.waiting came.entry.what)) }
     {
         match case_of(self.next_hop, came.from, &self.waiting, &came.message) {
-            Case::Refused => self.refuse(alloc, came),
-            Case::Unused => self.pass_over(alloc, came),
-            Case::Counted => self.count::<A>(alloc, came),
+            ResponseCase::Refused => self.refuse(alloc, came),
+            ResponseCase::Unused => self.reject(alloc, came),
+            ResponseCase::Counted => self.count::<A>(alloc, came),
         }
     }
 
@@ -445,7 +445,7 @@ impl Client {
 
     /// Rejects a message that the client has no use for, where it is confirmable, and else ignores it; an acknowledgement acknowledges all the
     /// same.
-    fn pass_over(&mut self, alloc: Global, came: Arrival<'_>) -> Result<Step, AllocError>
+    fn reject(&mut self, alloc: Global, came: Arrival<'_>) -> Result<Step, AllocError>
         ensures sent { IfOk result (λ step. step ≡ sends (rejection came.entry.from came.entry.what.kind came.entry.what.id)) }
         ensures kept { OnOk result (self.new ≡ record self.old { endpoint = settled self.old.endpoint came.entry.at came.entry.from (heard.Message came.entry.what) handling.Dropped }) }
         ensures fits { IfOk result (λ step. AreSendable step.out) }
@@ -458,16 +458,12 @@ impl Client {
             message,
             ..
         } = came;
-        let step = self.endpoint.pass_over(alloc, at, from, message)?;
+        let step = self.endpoint.reject(alloc, at, from, message)?;
         Ok(step)
     }
 
     /// The outcome of a response that counts.
-    fn count<A: Ciphers>(
-        &mut self,
-        alloc: Global,
-        came: Arrival<'_>,
-    ) -> Result<Step, AllocError>
+    fn count<A: Ciphers>(&mut self, alloc: Global, came: Arrival<'_>) -> Result<Step, AllocError>
         requires { counts_of self.old.next_hop came.from came.what self.old.waiting ≡ true }
         ensures answered { IfOk result (λ step. Counts A.is_sealing self.old came.entry step self.new) }
         ensures fits { IfOk result (λ step. AreSendable step.out) }

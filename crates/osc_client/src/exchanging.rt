@@ -47,7 +47,7 @@ pub(crate) fn post_message(
     Ok(post)
 }
 
-/// How many bytes the head of a byte string of so many has (RFC 8949 section 3), of none that is longer than a datagram may be.
+/// How many bytes the head of a byte string of `size` bytes has (RFC 8949 section 3), which is no longer than a datagram may be.
 fn head_size(size: usize) -> usize
     requires { size ≤ datagram_limit }
     ensures size { result ≡ length (head 2 size) }

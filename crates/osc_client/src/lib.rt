@@ -15,8 +15,8 @@ mod route;
 mod sending;
 mod waiting;
 
-pub use answering::Outcome;
-pub use case::Case;
+pub use answering::AnswerEffect;
+pub use case::ResponseCase;
 pub use client::Client;
 pub use route::{Origin, Route};
 pub use waiting::{Awaited, OpenAsk, Waiting};

@@ -227,7 +227,7 @@ version_refused first code high low rest other = rw (ne_eqb (first / 64) 1 other
 abbrev failed : ParseError → Result Message ParseError
 failed e = Err e
 
--- an error of the format is none of the version
+-- an error of the format is no error of the version
 too_short : {A : Type 0} → failed Format ≡ failed Version → A
 too_short e = absurd cc
 

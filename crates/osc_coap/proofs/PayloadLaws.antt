@@ -1,4 +1,4 @@
--- A payload that is written over nought bytes.
+-- A payload that is written over bytes that are zero.
 use Rattle.std.proofs.Common.{◌≡◌, ℕ, ◌+◌, ◌-◌, ◌≤◌, List, [], ◌∷◌, ◌++◌, length, take, replicate, refl, sym, ap, ◌∙◌, append_assoc, arith}
 use Rattle.std.proofs.Math.Seq.{take-append_seam}
 use Rattle.std.proofs.lemmas.List.{append-nil, length-append, length-replicate}
@@ -15,9 +15,9 @@ pub length-before_payload : (bytes payload : List ℕ) → length bytes + length
 length-before_payload bytes payload =
     omega (arith, length-append bytes (payload_spelling (payload_of payload)), length-payload_spelling (payload_of payload), payload_length_least payload)
 
--- the same of nought bytes
-pub length-before_nought : (bytes : List ℕ) (size : ℕ) → length bytes + size ≤ length (bytes ++ payload_spelling (payload_of (replicate size 0)))
-length-before_nought bytes size =
+-- the same of bytes that are zero
+pub length-before_zeros : (bytes : List ℕ) (size : ℕ) → length bytes + size ≤ length (bytes ++ payload_spelling (payload_of (replicate size 0)))
+length-before_zeros bytes size =
     omega (arith, length-before_payload bytes (replicate size 0), length-replicate {A = ℕ} size 0)
 
 -- the marker is before the payload
@@ -41,7 +41,7 @@ written_over bytes (b ∷ bs) [] e = absurd (omega arith)
 written_over bytes (b ∷ bs) (w ∷ ws) e =
     rw (marked bytes b bs, marked bytes w ws) (ap (λ (t : List ℕ). t ++ (w ∷ ws)) (front (bytes ++ 255 ∷ []) (b ∷ bs) (length (b ∷ bs)) refl))
 
--- the same of nought bytes
+-- the same of bytes that are zero
 pub written_last : (bytes : List ℕ) (size : ℕ) (written : List ℕ) → length written ≡ size
     → take (length (bytes ++ payload_spelling (payload_of (replicate size 0))) - size) (bytes ++ payload_spelling (payload_of (replicate size 0))) ++ written ≡ bytes ++ payload_spelling (payload_of written)
 written_last bytes size written e =

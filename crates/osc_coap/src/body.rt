@@ -12,8 +12,8 @@ use crate::payload::{PayloadWriter, write_last};
 use arrayvec::ArrayVec;
 use osc_model::limits::DATAGRAM_LIMIT;
 
-/// Nought bytes, as many as a datagram may have.
-static NOUGHT: [u8; DATAGRAM_LIMIT] = [0; DATAGRAM_LIMIT];
+/// Bytes that are zero, as many as a datagram may have.
+static ZEROS: [u8; DATAGRAM_LIMIT] = [0; DATAGRAM_LIMIT];
 
 /// The four bits that stand for an option's delta or length (RFC 7252 section 3.1).
 #[tactic(auto, unfolding(crate::specs::Message::nibble))]
@@ -165,16 +165,16 @@ pub(crate) fn push_payload(
     Ok(())
 }
 
-/// So many nought bytes.
-pub(crate) fn nought(size: usize) -> &'static [u8]
+/// `size` bytes that are all zero.
+pub(crate) fn zeros(size: usize) -> &'static [u8]
     requires { size ≤ datagram_limit }
     ensures { result.now ≡ replicate size 0 }
 {
-    &NOUGHT[..size]
+    &ZEROS[..size]
 }
 
-/// Appends the marker and a payload of so many nought bytes, if there is room.
-fn push_nought(out: &mut ArrayVec<u8, DATAGRAM_LIMIT>, size: usize) -> Result<(), DatagramTooLong>
+/// Appends the marker and a payload of `size` bytes that are zero, if there is room.
+fn push_zeros(out: &mut ArrayVec<u8, DATAGRAM_LIMIT>, size: usize) -> Result<(), DatagramTooLong>
     ensures variant { IsOk result
         ↔ (length (out.old.items ++ payload_spelling (payload_of (replicate size 0))) ≤ datagram_limit) }
     ensures ok { OnOk result
@@ -184,7 +184,7 @@ fn push_nought(out: &mut ArrayVec<u8, DATAGRAM_LIMIT>, size: usize) -> Result<()
     if size > DATAGRAM_LIMIT {
         return Err(DatagramTooLong);
     }
-    push_payload(out, nought(size))
+    push_payload(out, zeros(size))
 }
 
 /// What the builders of messages and of plaintexts write: bytes, and the number of the last option, or 0.
@@ -222,7 +222,7 @@ impl Writer {
         push_payload(&mut self.bytes, payload)
     }
 
-    /// Adds the marker and a payload of so many bytes, if there is room, and has it written where it lies. No bytes are
+    /// Adds the marker and a payload of `size` bytes, if there is room, and has it written where it lies. No bytes are
     /// no payload.
     pub(crate) fn write_payload<W: PayloadWriter>(
         &mut self,
@@ -237,7 +237,7 @@ impl Writer {
             × (self.new.last ≡ self.old.last)) }
         ensures err { OnErr result (self.new ≡ self.old) }
     {
-        push_nought(&mut self.bytes, size)?;
+        push_zeros(&mut self.bytes, size)?;
         write_last(&mut self.bytes, size, writer);
         Ok(())
     }

@@ -111,7 +111,7 @@ impl MessageBuilder {
         self.written.payload(payload)
     }
 
-    /// Sets a payload of so many bytes, which is written where it is sent from. No bytes are no payload.
+    /// Sets a payload of `size` bytes, which is written where it is sent from. No bytes are no payload.
     ///
     /// # Errors
     ///

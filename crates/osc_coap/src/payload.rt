@@ -9,13 +9,13 @@ use osc_model::limits::DATAGRAM_LIMIT;
 /// What writes a payload into the datagram itself, so that nothing is copied after the message. How many bytes it
 /// has is known before.
 pub trait PayloadWriter {
-    // Whether it can write so many bytes.
+    // Whether it can write this number of bytes.
     ghost can_write: { Self → ℕ → Type 0 };
 
     // Whether these bytes may be what it writes.
     ghost is_written: { Self → List ℕ → Type 0 };
 
-    /// Writes all of the payload, over nought bytes.
+    /// Writes all of the payload, over bytes that are zero.
     fn write(&self, payload: &mut [u8])
         requires { can_write self.now (length payload.old) }
         ensures { is_written self.now payload.new };

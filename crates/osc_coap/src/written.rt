@@ -6,7 +6,7 @@ ghost use Rattle.osc_coap.specs.Message.{spelling, option_spelling, payload_spel
 ghost use Rattle.osc_coap.specs.Building.{bare, payload_of};
 ghost use Rattle.osc_coap.specs.Length.{datagram_limit, payload_length};
 
-use crate::body::nought;
+use crate::body::zeros;
 use crate::kind::Kind;
 use crate::options::PAYLOAD_MARKER;
 use crate::payload::PayloadWriter;
@@ -40,14 +40,14 @@ pub fn append_empty_option(out: &mut Vec<u8>, before: u16, number: u16)
     out.push_reserved(16 * (number - before) as u8);
 }
 
-/// Appends the marker and so many nought bytes; there is room for them. No bytes are no payload.
+/// Appends the marker and `size` bytes that are zero; there is room for them. No bytes are no payload.
 #[tactic(auto, unfolding(crate::specs::Message::payload_spelling))]
-fn append_nought(out: &mut Vec<u8>, size: usize)
+fn append_zeros(out: &mut Vec<u8>, size: usize)
     requires size { size ≤ datagram_limit }
     requires room { vec_len out.old + payload_length (payload_of (replicate size 0)) ≤ vec_capacity out.old }
     ensures written { out.new.items ≡ out.old.items ++ payload_spelling (payload_of (replicate size 0)) }
 {
-    let payload = nought(size);
+    let payload = zeros(size);
     if payload.is_empty() {
         return;
     }
@@ -67,7 +67,7 @@ fn write_last<W: PayloadWriter>(out: &mut Vec<u8>, size: usize, writer: &W)
     writer.write(&mut all[start..]);
 }
 
-/// Appends the marker and a payload of so many bytes, which is written where it lies; there is room for both. No bytes are no payload.
+/// Appends the marker and a payload of `size` bytes, which is written where it lies; there is room for both. No bytes are no payload.
 pub fn append_payload<W: PayloadWriter>(out: &mut Vec<u8>, size: usize, writer: &W)
     requires size { size ≤ datagram_limit }
     requires can { W.can_write writer.now size }
@@ -75,6 +75,6 @@ pub fn append_payload<W: PayloadWriter>(out: &mut Vec<u8>, size: usize, writer: 
     ensures { (written : List ℕ) × (length written ≡ size) × W.is_written writer.now written
         × (out.new.items ≡ out.old.items ++ payload_spelling (payload_of written)) }
 {
-    append_nought(out, size);
+    append_zeros(out, size);
     write_last(out, size, writer);
 }

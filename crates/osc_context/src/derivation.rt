@@ -22,7 +22,7 @@ use std::alloc::{AllocError, Global};
 ///
 /// # Errors
 ///
-/// Want of memory.
+/// For lack of memory.
 pub fn info_of(
     alloc: Global,
     name: &ContextName,

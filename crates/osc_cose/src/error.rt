@@ -2,9 +2,9 @@
 
 ghost use Rattle.std.specs.Prelude.{◌≡◌};
 ghost use Rattle.osc_cose.specs.Errors.{parse_number, seal_number, open_number};
-ghost use Rattle.osc_cose.specs.declared.error.ParseError.TheVariants as parse_variants;
-ghost use Rattle.osc_cose.specs.declared.error.SealError.TheVariants as seal_variants;
-ghost use Rattle.osc_cose.specs.declared.error.OpenError.TheVariants as open_variants;
+ghost use Rattle.osc_cose.specs.declared.error.ParseEncrypt0Error.TheVariants as parse_variants;
+ghost use Rattle.osc_cose.specs.declared.error.SealEncrypt0Error.TheVariants as seal_variants;
+ghost use Rattle.osc_cose.specs.declared.error.OpenEncrypt0Error.TheVariants as open_variants;
 
 use osc_model::refusals;
 use std::alloc::AllocError;
@@ -12,7 +12,7 @@ use thiserror::Error;
 
 /// Why bytes are no COSE_Encrypt0 object.
 #[derive(Clone, Copy, Debug, PartialEq, Eq, Error)]
-pub enum ParseError {
+pub enum ParseEncrypt0Error {
     /// They aren't one whole item of its form.
     #[error("not a COSE_Encrypt0 object")]
     Shape,
@@ -21,29 +21,29 @@ pub enum ParseError {
     Memory,
 }
 
-impl ParseError {
+impl ParseEncrypt0Error {
     /// The number by which programs name the refusal.
     pub fn number(self) -> u8
         ensures { result ≡ parse_number self }
     {
         match self {
-            ParseError::Shape => refusals::SHAPE,
-            ParseError::Memory => refusals::MEMORY,
+            ParseEncrypt0Error::Shape => refusals::SHAPE,
+            ParseEncrypt0Error::Memory => refusals::MEMORY,
         }
     }
 }
 
-impl From<AllocError> for ParseError {
+impl From<AllocError> for ParseEncrypt0Error {
     ghost from_gives = { λ _ e. e ≡ parse_variants.Memory };
 
-    fn from(_error: AllocError) -> ParseError {
-        ParseError::Memory
+    fn from(_error: AllocError) -> ParseEncrypt0Error {
+        ParseEncrypt0Error::Memory
     }
 }
 
 /// Why nothing is sealed.
 #[derive(Clone, Copy, Debug, PartialEq, Eq, Error)]
-pub enum SealError {
+pub enum SealEncrypt0Error {
     /// The text or the associated data is longer than the cipher takes.
     #[error("the text or the associated data is too long")]
     TooLong,
@@ -52,29 +52,29 @@ pub enum SealError {
     Memory,
 }
 
-impl SealError {
+impl SealEncrypt0Error {
     /// The number by which programs name the refusal.
     pub fn number(self) -> u8
         ensures { result ≡ seal_number self }
     {
         match self {
-            SealError::TooLong => refusals::TOO_LONG,
-            SealError::Memory => refusals::MEMORY,
+            SealEncrypt0Error::TooLong => refusals::TOO_LONG,
+            SealEncrypt0Error::Memory => refusals::MEMORY,
         }
     }
 }
 
-impl From<AllocError> for SealError {
+impl From<AllocError> for SealEncrypt0Error {
     ghost from_gives = { λ _ e. e ≡ seal_variants.Memory };
 
-    fn from(_error: AllocError) -> SealError {
-        SealError::Memory
+    fn from(_error: AllocError) -> SealEncrypt0Error {
+        SealEncrypt0Error::Memory
     }
 }
 
 /// Why an object isn't opened.
 #[derive(Clone, Copy, Debug, PartialEq, Eq, Error)]
-pub enum OpenError {
+pub enum OpenEncrypt0Error {
     /// The protected header names another algorithm than AES-CCM-16-64-128, or none.
     #[error("the algorithm is another, or isn't named")]
     Algorithm,
@@ -89,24 +89,24 @@ pub enum OpenError {
     Memory,
 }
 
-impl OpenError {
+impl OpenEncrypt0Error {
     /// The number by which programs name the refusal.
     pub fn number(self) -> u8
         ensures { result ≡ open_number self }
     {
         match self {
-            OpenError::Algorithm => refusals::ALGORITHM,
-            OpenError::TooLong => refusals::TOO_LONG,
-            OpenError::NotGenuine => refusals::NOT_GENUINE,
-            OpenError::Memory => refusals::MEMORY,
+            OpenEncrypt0Error::Algorithm => refusals::ALGORITHM,
+            OpenEncrypt0Error::TooLong => refusals::TOO_LONG,
+            OpenEncrypt0Error::NotGenuine => refusals::NOT_GENUINE,
+            OpenEncrypt0Error::Memory => refusals::MEMORY,
         }
     }
 }
 
-impl From<AllocError> for OpenError {
+impl From<AllocError> for OpenEncrypt0Error {
     ghost from_gives = { λ _ e. e ≡ open_variants.Memory };
 
-    fn from(_error: AllocError) -> OpenError {
-        OpenError::Memory
+    fn from(_error: AllocError) -> OpenEncrypt0Error {
+        OpenEncrypt0Error::Memory
     }
 }

@@ -15,7 +15,7 @@ mod structure;
 mod writing;
 
 pub use encrypt0::Encrypt0;
-pub use error::{OpenError, ParseError, SealError};
+pub use error::{OpenEncrypt0Error, ParseEncrypt0Error, SealEncrypt0Error};
 pub use opening::{open0, open0_into};
 pub use parsing::{object_of, parse0};
 pub use protected::names_algorithm;

@@ -5,7 +5,7 @@ ghost use Rattle.osc_ccm.specs.{IsInRange, IsTooLong};
 ghost use Rattle.osc_cose.specs.Encrypt0.{IsProtected, NamesAlgorithm, enc_structure as structure};
 
 use crate::encrypt0::Encrypt0;
-use crate::error::OpenError;
+use crate::error::OpenEncrypt0Error;
 use crate::protected::names_algorithm;
 use crate::structure::enc_structure;
 use osc_ccm::Aead;
@@ -27,7 +27,7 @@ pub fn open0<A: Aead>(
     key: &[u8; 16],
     nonce: &[u8; 13],
     external_aad: &[u8],
-) -> Result<Bytes, OpenError>
+) -> Result<Bytes, OpenEncrypt0Error>
     // What is opened was sealed so ..
     ensures opened { IfOk result (λ text.
         A.is_sealing key.now nonce.now (structure object.now.protected external_aad.now) text object.now.ciphertext) }
@@ -35,20 +35,20 @@ pub fn open0<A: Aead>(
     // .. and what was sealed so is opened: this text and no other.
     ensures only { (text : List ℕ) → NamesAlgorithm object.now.protected
         → A.is_sealing key.now nonce.now (structure object.now.protected external_aad.now) text object.now.ciphertext
-        → (result ≡ Ok text) ⊎ (result ≡ Err OpenError.Memory) }
-    ensures algorithm { result ≡ Err OpenError.Algorithm → ¬ NamesAlgorithm object.now.protected }
-    ensures too_long { result ≡ Err OpenError.TooLong
+        → (result ≡ Ok text) ⊎ (result ≡ Err OpenEncrypt0Error.Memory) }
+    ensures algorithm { result ≡ Err OpenEncrypt0Error.Algorithm → ¬ NamesAlgorithm object.now.protected }
+    ensures too_long { result ≡ Err OpenEncrypt0Error.TooLong
         → NamesAlgorithm object.now.protected
         × IsTooLong (length object.now.ciphertext - A.TAG) (length (structure object.now.protected external_aad.now)) }
-    ensures not_genuine { result ≡ Err OpenError.NotGenuine
+    ensures not_genuine { result ≡ Err OpenEncrypt0Error.NotGenuine
         → NamesAlgorithm object.now.protected
         × IsInRange (length object.now.ciphertext - A.TAG) (length (structure object.now.protected external_aad.now))
         × ((text : List ℕ) → ¬ A.is_sealing key.now nonce.now (structure object.now.protected external_aad.now) text object.now.ciphertext) }
-    ensures memory { result ≡ Err OpenError.Memory → IsProtected object.now.protected }
+    ensures memory { result ≡ Err OpenEncrypt0Error.Memory → IsProtected object.now.protected }
 {
     let protected = object.protected.as_slice();
     if !names_algorithm(protected) {
-        return Err(OpenError::Algorithm);
+        return Err(OpenEncrypt0Error::Algorithm);
     }
     let mut aad = Vec::new(alloc);
     enc_structure(protected, external_aad, &mut aad)?;
@@ -62,11 +62,11 @@ fn open_text<A: Aead>(
     key: &[u8; 16],
     nonce: &[u8; 13],
     aad: &[u8],
-) -> Result<Bytes, OpenError>
+) -> Result<Bytes, OpenEncrypt0Error>
     ensures opened { IfOk result (λ text. A.is_sealing key.now nonce.now aad.now text object.now.ciphertext) }
-    ensures algorithm { ¬ (result ≡ Err OpenError.Algorithm) }
-    ensures too_long { result ≡ Err OpenError.TooLong → IsTooLong (length object.now.ciphertext - A.TAG) (length aad.now) }
-    ensures not_genuine { result ≡ Err OpenError.NotGenuine
+    ensures algorithm { ¬ (result ≡ Err OpenEncrypt0Error.Algorithm) }
+    ensures too_long { result ≡ Err OpenEncrypt0Error.TooLong → IsTooLong (length object.now.ciphertext - A.TAG) (length aad.now) }
+    ensures not_genuine { result ≡ Err OpenEncrypt0Error.NotGenuine
         → IsInRange (length object.now.ciphertext - A.TAG) (length aad.now)
         × ((text : List ℕ) → ¬ A.is_sealing key.now nonce.now aad.now text object.now.ciphertext) }
 {
@@ -91,23 +91,23 @@ pub fn open0_into<A: Aead>(
     nonce: &[u8; 13],
     aad: &[u8],
     out: &mut [u8],
-) -> Result<usize, OpenError>
+) -> Result<usize, OpenEncrypt0Error>
     requires { length object.now.ciphertext - A.TAG ≤ length out.old }
     ensures opened { IfOk result (λ n. A.is_sealing key.now nonce.now aad.now (take n out.new) object.now.ciphertext) }
     ensures count { IfOk result (λ n. (n + A.TAG ≡ length object.now.ciphertext) × (n ≤ length out.new)) }
-    ensures too_long { (result ≡ Err OpenError.TooLong)
+    ensures too_long { (result ≡ Err OpenEncrypt0Error.TooLong)
         ↔ IsTooLong (length object.now.ciphertext - A.TAG) (length aad.now) }
-    ensures not_genuine { (result ≡ Err OpenError.NotGenuine)
+    ensures not_genuine { (result ≡ Err OpenEncrypt0Error.NotGenuine)
         ↔ (IsInRange (length object.now.ciphertext - A.TAG) (length aad.now)
         × ((text : List ℕ) → ¬ A.is_sealing key.now nonce.now aad.now text object.now.ciphertext)) }
-    ensures algorithm { result ≢ Err OpenError.Algorithm }
-    ensures memory { result ≢ Err OpenError.Memory }
+    ensures algorithm { result ≢ Err OpenEncrypt0Error.Algorithm }
+    ensures memory { result ≢ Err OpenEncrypt0Error.Memory }
     ensures refused { OnErr result (out.new ≡ out.old) }
 {
     match A::from_key(key).open(nonce, aad, object.ciphertext.as_slice(), out) {
         Ok(count) => Ok(count),
-        Err(osc_ccm::OpenError::TooLong) => Err(OpenError::TooLong),
-        Err(osc_ccm::OpenError::NotGenuine) => Err(OpenError::NotGenuine),
+        Err(osc_ccm::OpenError::TooLong) => Err(OpenEncrypt0Error::TooLong),
+        Err(osc_ccm::OpenError::NotGenuine) => Err(OpenEncrypt0Error::NotGenuine),
         Err(osc_ccm::OpenError::OutTooSmall) => unreachable!(),
     }
 }

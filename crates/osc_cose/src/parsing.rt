@@ -7,7 +7,7 @@ ghost use Rattle.osc_cose.specs.Inner.Parts.{object_of_parts};
 ghost use Rattle.osc_cose.specs.declared.encrypt0.Encrypt0.{Encrypt0 as AnyObject};
 
 use crate::encrypt0::Encrypt0;
-use crate::error::ParseError;
+use crate::error::ParseEncrypt0Error;
 use crate::parts::parts;
 use crate::protected::is_protected;
 use osc_cbor::{ItemRef, PairRefs, first_value};
@@ -24,18 +24,18 @@ pub(crate) const IV: u64 = 5;
 ///
 /// # Errors
 ///
-/// `Shape` where the bytes are none, `Memory` for lack of memory, which comes only where they are one whole item.
-pub fn parse0(alloc: Global, bytes: &[u8]) -> Result<Encrypt0, ParseError>
+/// `Shape` where the bytes are no object, `Memory` for lack of memory, which comes only where they are one whole item.
+pub fn parse0(alloc: Global, bytes: &[u8]) -> Result<Encrypt0, ParseEncrypt0Error>
     // What is read is such an object ..
     ensures found { IfOk result (λ object. (d : DataItem) × IsWhole bytes.now d × IsObject d object) }
     // .. and each such object is read.
     ensures only { (d : DataItem) (object : AnyObject) → IsWhole bytes.now d → IsObject d object
-        → (result ≡ Ok object) ⊎ (result ≡ Err ParseError.Memory) }
-    ensures memory { result ≡ Err ParseError.Memory → (d : DataItem) × IsWhole bytes.now d }
+        → (result ≡ Ok object) ⊎ (result ≡ Err ParseEncrypt0Error.Memory) }
+    ensures memory { result ≡ Err ParseEncrypt0Error.Memory → (d : DataItem) × IsWhole bytes.now d }
 {
     match ItemRef::whole(bytes) {
         Some(item) => object_of(alloc, &item),
-        None => Err(ParseError::Shape),
+        None => Err(ParseEncrypt0Error::Shape),
     }
 }
 
@@ -45,27 +45,27 @@ pub fn parse0(alloc: Global, bytes: &[u8]) -> Result<Encrypt0, ParseError>
 ///
 /// # Errors
 ///
-/// `Shape` where the item is none, `Memory` for lack of memory, which comes only where it is one.
-pub fn object_of(alloc: Global, item: &ItemRef<'_>) -> Result<Encrypt0, ParseError>
+/// `Shape` where the item is no object, `Memory` for lack of memory, which comes only where it is one.
+pub fn object_of(alloc: Global, item: &ItemRef<'_>) -> Result<Encrypt0, ParseEncrypt0Error>
     // What is found is such an object ..
     ensures found { IfOk result (λ object. IsObject item.now object) }
     // .. and each such object is found.
     ensures only { (object : AnyObject) → IsObject item.now object
-        → (result ≡ Ok object) ⊎ (result ≡ Err ParseError.Memory) }
-    ensures memory { result ≡ Err ParseError.Memory → (object : AnyObject) × IsObject item.now object }
+        → (result ≡ Ok object) ⊎ (result ≡ Err ParseEncrypt0Error.Memory) }
+    ensures memory { result ≡ Err ParseEncrypt0Error.Memory → (object : AnyObject) × IsObject item.now object }
 {
     let Some(parts) = parts(item) else {
-        return Err(ParseError::Shape);
+        return Err(ParseEncrypt0Error::Shape);
     };
     if !is_protected(parts.protected) {
-        return Err(ParseError::Shape);
+        return Err(ParseEncrypt0Error::Shape);
     }
     let (kid, iv) = labelled(parts.unprotected);
     let Some(kid) = parameter(kid) else {
-        return Err(ParseError::Shape);
+        return Err(ParseEncrypt0Error::Shape);
     };
     let Some(iv) = parameter(iv) else {
-        return Err(ParseError::Shape);
+        return Err(ParseEncrypt0Error::Shape);
     };
     Ok(object_with(alloc, parts.protected, kid, iv, parts.ciphertext)?)
 }

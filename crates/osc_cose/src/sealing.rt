@@ -5,7 +5,7 @@ ghost use Rattle.osc_ccm.specs.{IsTooLong};
 ghost use Rattle.osc_cose.specs.Encrypt0.{enc_structure as structure};
 
 use crate::encrypt0::Encrypt0;
-use crate::error::SealError;
+use crate::error::SealEncrypt0Error;
 use crate::structure::enc_structure;
 use osc_ccm::Aead;
 use osc_model::Bytes;
@@ -27,12 +27,12 @@ pub fn seal0<A: Aead>(
     protected: &[u8],
     external_aad: &[u8],
     text: &[u8],
-) -> Result<Encrypt0, SealError>
+) -> Result<Encrypt0, SealEncrypt0Error>
     ensures sealed { IfOk result (λ object.
         A.is_sealing key.now nonce.now (structure protected.now external_aad.now) text.now object.ciphertext) }
     ensures header { IfOk result (λ object.
         (object.protected ≡ protected.now) × (object.kid ≡ None) × (object.iv ≡ Some nonce.now)) }
-    ensures too_long { result ≡ Err SealError.TooLong
+    ensures too_long { result ≡ Err SealEncrypt0Error.TooLong
         → IsTooLong (length text.now) (length (structure protected.now external_aad.now)) }
 {
     let mut aad = Vec::new(alloc);
@@ -53,14 +53,14 @@ fn seal_text<A: Aead>(
     nonce: &[u8; 13],
     aad: &[u8],
     text: &[u8],
-) -> Result<Bytes, SealError>
+) -> Result<Bytes, SealEncrypt0Error>
     ensures sealed { IfOk result (λ sealed. A.is_sealing key.now nonce.now aad.now text.now sealed) }
-    ensures too_long { result ≡ Err SealError.TooLong → IsTooLong (length text.now) (length aad.now) }
+    ensures too_long { result ≡ Err SealEncrypt0Error.TooLong → IsTooLong (length text.now) (length aad.now) }
 {
     let mut sealed = vec![in alloc; 0; text.len() + A::TAG]?;
     match A::from_key(key).seal(nonce, aad, text, &mut sealed) {
         Ok(_) => Ok(Bytes::from_vec(sealed)),
-        Err(osc_ccm::SealError::TooLong) => Err(SealError::TooLong),
+        Err(osc_ccm::SealError::TooLong) => Err(SealEncrypt0Error::TooLong),
         Err(osc_ccm::SealError::OutTooSmall) => unreachable!(),
     }
 }

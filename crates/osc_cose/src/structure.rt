@@ -11,7 +11,7 @@ use std::alloc::AllocError;
 const CONTEXT: [u8; 10] = *b"\x83\x68Encrypt0";
 
 /// Appends the Enc_structure of a protected header and external associated data. Without memory all stays as it was; where
-/// there is room, none is taken.
+/// there is room, no memory is taken.
 pub fn enc_structure(
     protected: &[u8],
     external_aad: &[u8],

@@ -5,7 +5,7 @@ use Rattle.std.proofs.lemmas.Bool.{lt-ltb}
 use Rattle.osc_model.specs.declared.node.Moment.{Moment}
 use Rattle.osc_model.specs.declared.node.Peer.{Peer}
 use Rattle.osc_dedup.specs.{Entry, alive, is_alive, is_of, looked, most_entries, staying, with_note}
-use Rattle.osc_dedup.specs.declared.table.Noted.{Noted}
+use Rattle.osc_dedup.specs.declared.table.Remembered.{Remembered}
 use Rattle.osc_dedup.proofs.History.{of_itself}
 
 module _ (peer : Peer) (id : ℕ) where
@@ -37,7 +37,7 @@ module _ (peer : Peer) (id : ℕ) where
       at true living rest = rw (living, are.0) rest
 
   -- what is noted is found while it lives
-  pub noted_found : (now later : Moment) (noted : Noted) (entries : List Entry) → later.ms < noted.until
+  pub noted_found : (now later : Moment) (noted : Remembered) (entries : List Entry) → later.ms < noted.until
       → looked later peer id (with_note now peer id noted entries) ≡ Some noted
   noted_found now later noted entries lives =
       let others = staying now peer id entries in
@@ -46,13 +46,13 @@ module _ (peer : Peer) (id : ℕ) where
       (others_dropped (length others + 1 - most_entries) others (others_stay now entries)) (of_itself one) (lt-ltb later.ms noted.until lives)
 
   -- and still where the dead go, unless it is one of them
-  pub found_alive : (now later : Moment) (noted : Noted) (entries : List Entry) → now.ms < noted.until → looked later peer id entries ≡ Some noted
+  pub found_alive : (now later : Moment) (noted : Remembered) (entries : List Entry) → now.ms < noted.until → looked later peer id entries ≡ Some noted
       → looked later peer id (alive now entries) ≡ Some noted
   found_alive now later noted [] lives found = found
   found_alive now later noted (entry ∷ entries) lives found =
       at (is_alive now entry) (is_alive later entry) (is_of peer id entry) refl refl refl (found_alive now later noted entries lives)
     where
-      some : (a b : Noted) → Some a ≡ Some b → a ≡ b
+      some : (a b : Remembered) → Some a ≡ Some b → a ≡ b
       some a b e = cc
 
       at : (lives_now lives_later is : Bool) → is_alive now entry ≡ lives_now → is_alive later entry ≡ lives_later → is_of peer id entry ≡ is
@@ -62,7 +62,7 @@ module _ (peer : Peer) (id : ℕ) where
       at false true false dead living of rest = rw dead (rest (rw (living, of) at found))
       at false true true dead living of rest =
           let its : Some entry.noted ≡ Some noted = rw (living, of) at found in
-          let until : now.ms < entry.noted.until = omega (arith, lives, ap (λ (n : Noted). n.until) (some entry.noted noted its)) in
+          let until : now.ms < entry.noted.until = omega (arith, lives, ap (λ (n : Remembered). n.until) (some entry.noted noted its)) in
           let wrong : true ≡ false = sym (lt-ltb now.ms entry.noted.until until) ∙ dead in cc
       at true false is living later_dead of rest = rw (living, later_dead) (rest (rw later_dead at found))
       at true true false living lives_later of rest = rw (living, lives_later, of) (rest (rw (lives_later, of) at found))

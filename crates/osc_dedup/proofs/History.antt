@@ -9,7 +9,7 @@ use Rattle.std.proofs.lemmas.List.Elements.{All-nil, All-cons, All-head, All-tai
 use Rattle.osc_model.specs.{same_peer}
 use Rattle.osc_model.specs.declared.node.Moment.{Moment}
 use Rattle.osc_model.specs.declared.node.Peer.{Peer}
-use Rattle.osc_dedup.specs.declared.table.Noted.{Noted}
+use Rattle.osc_dedup.specs.declared.table.Remembered.{Remembered}
 use Rattle.osc_dedup.specs.{Entry, is_of, is_alive, alive, staying, with_note, looked, Note, AreInOrder, table_of, unreplaced, IsThere}
 use Rattle.osc_dedup.proofs.Keys.{same_key_equiv}
 use Rattle.osc_dedup.proofs.Splits.{none_round, snoc_split, filter_split, find_split, find_at, filter_both, filter_swap}
@@ -219,7 +219,7 @@ stood (k ∷ earlier) now order e lives (j ∷ younger) older moment is_noted la
 
 -- ---- the law
 
-looked_found : (now : Moment) (peer : Peer) (id : ℕ) (noted : Noted) (entries : List Entry) → looked now peer id entries ≡ Some noted
+looked_found : (now : Moment) (peer : Peer) (id : ℕ) (noted : Remembered) (entries : List Entry) → looked now peer id entries ≡ Some noted
     → (e : Entry) × (find (is_of peer id) (alive now entries) ≡ Some e) × (e.noted ≡ noted)
 looked_found now peer id noted entries says = by (find (is_of peer id) (alive now entries)) refl says
   where
@@ -228,7 +228,7 @@ looked_found now peer id noted entries says = by (find (is_of peer id) (alive no
     by None found at = let none : None ≡ Some noted = at in absurd (cc)
     by (Some e) found at = let some : Some e.noted ≡ Some noted = at in (e, found, cc)
 
-there_from : (notes : List Note) (now : Moment) (peer : Peer) (id : ℕ) (noted : Noted) → AreInOrder now notes → looked now peer id (table_of notes) ≡ Some noted
+there_from : (notes : List Note) (now : Moment) (peer : Peer) (id : ℕ) (noted : Remembered) → AreInOrder now notes → looked now peer id (table_of notes) ≡ Some noted
     → IsThere notes now (record { peer = peer; id = id; noted = noted })
 there_from notes now peer id noted order says =
     let found = looked_found now peer id noted (table_of notes) says in
@@ -247,7 +247,7 @@ there_from notes now peer id noted order says =
       had_place = up.had_place;
     })
 
-looked_from : (notes : List Note) (now : Moment) (peer : Peer) (id : ℕ) (noted : Noted) → AreInOrder now notes → IsThere notes now (record { peer = peer; id = id; noted = noted })
+looked_from : (notes : List Note) (now : Moment) (peer : Peer) (id : ℕ) (noted : Remembered) → AreInOrder now notes → IsThere notes now (record { peer = peer; id = id; noted = noted })
     → looked now peer id (table_of notes) ≡ Some noted
 looked_from notes now peer id noted order there =
     let e : Entry = record { peer = peer; id = id; noted = noted } in
@@ -260,7 +260,7 @@ looked_from notes now peer id noted order there =
     ap (λ xs. option_map (λ entry. entry.noted) (find (is_of peer id) xs)) split
     ∙ ap (option_map (λ entry. entry.noted)) (find_at (is_of peer id) (alive now at.0) e (alive now at.1) others (of_itself e))
 
-pub looked_there : (notes : List Note) (now : Moment) (peer : Peer) (id : ℕ) (noted : Noted) → AreInOrder now notes
+pub looked_there : (notes : List Note) (now : Moment) (peer : Peer) (id : ℕ) (noted : Remembered) → AreInOrder now notes
     → (looked now peer id (table_of notes) ≡ Some noted) ↔ IsThere notes now (record { peer = peer; id = id; noted = noted })
 looked_there notes now peer id noted order = (there_from notes now peer id noted order, looked_from notes now peer id noted order)
 
@@ -281,7 +281,7 @@ alive_later now later entries order = ap (filter (is_alive later)) (sym (filter_
 pub looked_later : (now later : Moment) (peer : Peer) (id : ℕ) (entries : List Entry) → now.ms ≤ later.ms → looked later peer id (alive now entries) ≡ looked later peer id entries
 looked_later now later peer id entries order = ap (λ xs. option_map (λ entry. entry.noted) (find (is_of peer id) xs)) (alive_later now later entries order)
 
-pub noted_later : (now later : Moment) (peer : Peer) (id : ℕ) (noted : Noted) (entries : List Entry) → now.ms ≤ later.ms
+pub noted_later : (now later : Moment) (peer : Peer) (id : ℕ) (noted : Remembered) (entries : List Entry) → now.ms ≤ later.ms
     → with_note later peer id noted (alive now entries) ≡ with_note later peer id noted entries
 noted_later now later peer id noted entries order =
     ap (λ xs. drop (length xs + 1 - 64) xs ++ (record { peer = peer; id = id; noted = noted }) ∷ [])

@@ -10,7 +10,7 @@ use Rattle.std.proofs.lemmas.List.Elements.{filter_agree}
 use Rattle.std.proofs.lemmas.List.Sums.{length-filter, count_by-le-length}
 use Rattle.osc_model.specs.declared.node.Moment.{Moment}
 use Rattle.osc_model.specs.declared.node.Peer.{Peer}
-use Rattle.osc_dedup.specs.declared.table.Noted.{Noted}
+use Rattle.osc_dedup.specs.declared.table.Remembered.{Remembered}
 use Rattle.osc_dedup.specs.{Entry, is_of, is_alive, alive, staying, with_note, looked, Key, same_key, entry_of, entries_of, stays, while_alive}
 
 -- two keys are the same or are not
@@ -34,7 +34,7 @@ second false true h = cc
 second false false h = refl
 
 -- what stays is of other messages
-pub absent_staying : (now : Moment) (key : Key) (es : List (Key × Noted)) → lookup (same_key key) (filter (stays now (Some key)) es) ≡ None
+pub absent_staying : (now : Moment) (key : Key) (es : List (Key × Remembered)) → lookup (same_key key) (filter (stays now (Some key)) es) ≡ None
 absent_staying now key [] = refl
 absent_staying now key (e ∷ es) = by (stays now (Some key) e) refl (absent_staying now key es)
   where
@@ -45,7 +45,7 @@ absent_staying now key (e ∷ es) = by (stays now (Some key) e) refl (absent_sta
         let apart : same_key key e.0 ≡ false = second _ _ kept in
         rw apart rest
 
--- how many stay, with so many of the oldest left out
+-- with enough of the oldest left out, at most `most` stay
 pub few_left : {X : Type 0} (test : X → Bool) (es ys : List X) (most : ℕ) → ys ≡ drop (count_by test es - most) (filter test es) → length ys ≤ most
 few_left test es ys most moved = omega (arith, ap length moved, length-drop (count_by test es - most) (filter test es), length-filter test es)
 
@@ -56,7 +56,7 @@ same_others k j same (i ∷ ks) others = (same_key_equiv.congr k j i same ∙ ot
 
 -- ---- entries and what they are by keys
 
-pub filter_entries : (test : Entry → Bool) (es : List (Key × Noted)) → filter test (entries_of es) ≡ entries_of (filter (λ e. test (entry_of e)) es)
+pub filter_entries : (test : Entry → Bool) (es : List (Key × Remembered)) → filter test (entries_of es) ≡ entries_of (filter (λ e. test (entry_of e)) es)
 filter_entries test [] = refl
 filter_entries test (e ∷ es) = by (test (entry_of e)) (filter_entries test es)
   where
@@ -65,10 +65,10 @@ filter_entries test (e ∷ es) = by (test (entry_of e)) (filter_entries test es)
     by true up = ap (λ xs. entry_of e ∷ xs) up
     by false up = up
 
-pub staying_keys : (now : Moment) (peer : Peer) (id : ℕ) (es : List (Key × Noted)) → staying now peer id (entries_of es) ≡ entries_of (filter (stays now (Some (peer, id))) es)
+pub staying_keys : (now : Moment) (peer : Peer) (id : ℕ) (es : List (Key × Remembered)) → staying now peer id (entries_of es) ≡ entries_of (filter (stays now (Some (peer, id))) es)
 staying_keys now peer id es = filter_entries (λ entry. is_alive now entry && not (is_of peer id entry)) es
 
-pub noted_keys : (now : Moment) (peer : Peer) (id : ℕ) (noted : Noted) (es ys : List (Key × Noted))
+pub noted_keys : (now : Moment) (peer : Peer) (id : ℕ) (noted : Remembered) (es ys : List (Key × Remembered))
     → ys ≡ drop (count_by (stays now (Some (peer, id))) es - 63) (filter (stays now (Some (peer, id))) es)
     → entries_of (ys ++ ((peer, id), noted) ∷ []) ≡ with_note now peer id noted (entries_of es)
 noted_keys now peer id noted es ys moved =
@@ -82,7 +82,7 @@ noted_keys now peer id noted es ys moved =
     ∙ ap (drop (length (staying now peer id (entries_of es)) + 1 - 64)) (sym (staying_keys now peer id es)) in
     map-append entry_of ys (((peer, id), noted) ∷ []) ∙ ap (λ xs. xs ++ (record { peer = peer; id = id; noted = noted }) ∷ []) kept
 
-pub alive_keys : (now : Moment) (es ys : List (Key × Noted)) → length es ≤ 64 → ys ≡ drop (count_by (stays now None) es - 64) (filter (stays now None) es) → entries_of ys ≡ alive now (entries_of es)
+pub alive_keys : (now : Moment) (es ys : List (Key × Remembered)) → length es ≤ 64 → ys ≡ drop (count_by (stays now None) es - 64) (filter (stays now None) es) → entries_of ys ≡ alive now (entries_of es)
 alive_keys now es ys few moved =
     let none : count_by (stays now None) es - 64 ≡ 0 = omega (arith, few, count_by-le-length (stays now None) es) in
     ap entries_of (moved ∙ ap (λ n. drop n (filter (stays now None) es)) none ∙ filter_agree (stays now None) (λ e. is_alive now (entry_of e)) (λ e. and_true (is_alive now (entry_of e))) es)
@@ -93,7 +93,7 @@ alive_keys now es ys few moved =
     and_true false = refl
 
 -- a key that is not there
-find_absent : (peer : Peer) (id : ℕ) (now : Moment) (es : List (Key × Noted)) → AllByRecursion (λ k. same_key (peer, id) k ≡ false) (keys_of es)
+find_absent : (peer : Peer) (id : ℕ) (now : Moment) (es : List (Key × Remembered)) → AllByRecursion (λ k. same_key (peer, id) k ≡ false) (keys_of es)
     → find (is_of peer id) (alive now (entries_of es)) ≡ None
 find_absent peer id now [] others = refl
 find_absent peer id now (e ∷ es) others = by (is_alive now (entry_of e)) (find_absent peer id now es others.1)
@@ -103,7 +103,7 @@ find_absent peer id now (e ∷ es) others = by (is_alive now (entry_of e)) (find
     by true up = rw others.0 up
     by false up = up
 
-pub looked_keys : (now : Moment) (peer : Peer) (id : ℕ) (es : List (Key × Noted)) → IsDistinct same_key (keys_of es)
+pub looked_keys : (now : Moment) (peer : Peer) (id : ℕ) (es : List (Key × Remembered)) → IsDistinct same_key (keys_of es)
     → looked now peer id (entries_of es) ≡ while_alive now (lookup (same_key (peer, id)) es)
 unfolding IsDistinct
 looked_keys now peer id [] apart = refl

@@ -9,7 +9,7 @@ pub record Note : Type 0 where
   pub moment : Moment
   pub entry : Entry
 
--- no moment is before an earlier one, and none is after now
+-- no moment is before an earlier one or after now
 abbrev pub AreInOrder : Moment → List Note → Type 0
 AreInOrder now [] = Unit {0}
 AreInOrder now (note ∷ earlier) = (note.moment.ms ≤ now.ms) × AreInOrder note.moment earlier

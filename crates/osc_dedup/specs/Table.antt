@@ -4,7 +4,7 @@ use Rattle.std.specs.Option.{option_map}
 use Rattle.osc_model.specs.{same_peer}
 use Rattle.osc_model.specs.declared.node.Moment.{Moment}
 use Rattle.osc_model.specs.declared.node.Peer.{Peer}
-use Rattle.osc_dedup.specs.declared.table.Noted.{Noted}
+use Rattle.osc_dedup.specs.declared.table.Remembered.{Remembered}
 
 -- how many entries a table has at most
 abbrev pub most_entries : ℕ
@@ -14,7 +14,7 @@ most_entries = 64
 pub record Entry : Type 0 where
   pub peer : Peer
   pub id : ℕ
-  pub noted : Noted
+  pub noted : Remembered
 
 -- whether the entry is of this message: the same peer and message ID
 abbrev pub is_of : Peer → ℕ → Entry → Bool
@@ -32,11 +32,11 @@ abbrev pub staying : Moment → Peer → ℕ → List Entry → List Entry
 staying now peer id entries = filter (λ entry. is_alive now entry && not (is_of peer id entry)) entries
 
 -- The table once a message is noted: it comes last, and the oldest go where they would be more than the most with it.
-abbrev pub with_note : Moment → Peer → ℕ → Noted → List Entry → List Entry
+abbrev pub with_note : Moment → Peer → ℕ → Remembered → List Entry → List Entry
 with_note now peer id noted entries =
     let others = staying now peer id entries in
     drop (length others + 1 - most_entries) others ++ (record { peer = peer; id = id; noted = noted }) ∷ []
 
 -- what was noted of a message, while it lives
-abbrev pub looked : Moment → Peer → ℕ → List Entry → Option Noted
+abbrev pub looked : Moment → Peer → ℕ → List Entry → Option Remembered
 looked now peer id entries = option_map (λ entry. entry.noted) (find (is_of peer id) (alive now entries))

@@ -4,7 +4,7 @@
 ghost use Rattle.std.specs.Prelude.{◌≡◌, ◌↔◌, ◌≤◌, ◌<◌, ℕ, List, Some};
 ghost use Rattle.osc_model.specs.declared.node.Moment.{Moment};
 ghost use Rattle.osc_model.specs.declared.node.Peer.{Peer};
-ghost use Rattle.osc_dedup.specs.declared.table.Noted.{Noted as AnyNoted};
+ghost use Rattle.osc_dedup.specs.declared.table.Remembered.{Remembered as AnyNoted};
 ghost use Rattle.osc_dedup.specs.Table.{Entry, alive, looked, with_note};
 ghost use Rattle.osc_dedup.specs.History.{Note, AreInOrder, table_of, IsThere};
 

@@ -8,4 +8,4 @@
 pub mod laws;
 mod table;
 
-pub use table::{Duplicates, Noted};
+pub use table::{Duplicates, Remembered};

@@ -27,7 +27,7 @@ type Key = (Peer, u16);
 
 /// What is noted of a message.
 #[derive(Clone, Debug, PartialEq, Eq, Drop)]
-pub struct Noted {
+pub struct Remembered {
     /// When its lifetime ends: an entry lives before this moment, in ms (RFC 7252 section 4.8.2).
     pub until: u64,
     /// The bytes that answered the message, or none where nothing was sent.
@@ -45,14 +45,14 @@ fn is_other(replaced: Option<Key>, key: Key) -> bool
 }
 
 /// Whether an entry stays where the dead go and one key is replaced.
-fn stays(now: Moment, replaced: Option<Key>, key: Key, noted: &Noted) -> bool
+fn stays(now: Moment, replaced: Option<Key>, key: Key, noted: &Remembered) -> bool
     ensures { result ≡ stays_of now replaced (key, noted.now) }
 {
     now.ms < noted.until && is_other(replaced, key)
 }
 
 /// What was noted, while it lives.
-fn while_alive(now: Moment, noted: Option<&Noted>) -> Option<&Noted>
+fn while_alive(now: Moment, noted: Option<&Remembered>) -> Option<&Remembered>
     ensures { option_copied result ≡ living now (option_copied noted.entry) }
 {
     match noted {
@@ -62,7 +62,7 @@ fn while_alive(now: Moment, noted: Option<&Noted>) -> Option<&Noted>
 }
 
 /// How many entries stay.
-fn count_staying(table: &IndexMap<Key, Noted>, now: Moment, replaced: Option<Key>) -> usize
+fn count_staying(table: &IndexMap<Key, Remembered>, now: Moment, replaced: Option<Key>) -> usize
     ensures counted { result ≡ count_by (stays_of now replaced) table.now.entries }
     ensures distinct { IsUnique same_key table.now }
 {
@@ -73,7 +73,7 @@ fn count_staying(table: &IndexMap<Key, Noted>, now: Moment, replaced: Option<Key
 }
 
 /// Adds an entry of a new key at the end, where there is room for it.
-fn append(table: &mut IndexMap<Key, Noted>, key: Key, noted: Noted)
+fn append(table: &mut IndexMap<Key, Remembered>, key: Key, noted: Remembered)
     requires absent { get same_key table.old key ≡ None }
     requires room { 0 < spare table.old }
     ensures appended { table.new.entries ≡ table.old.entries ++ (key, noted) ∷ [] }
@@ -85,8 +85,8 @@ fn append(table: &mut IndexMap<Key, Noted>, key: Key, noted: Noted)
 
 /// Moves the entries that stay into an empty map with room for them, where they are more than `most` the youngest.
 fn move_staying(
-    from: &mut IndexMap<Key, Noted>,
-    to: &mut IndexMap<Key, Noted>,
+    from: &mut IndexMap<Key, Remembered>,
+    to: &mut IndexMap<Key, Remembered>,
     now: Moment,
     replaced: Option<Key>,
     most: usize,
@@ -112,12 +112,12 @@ fn move_staying(
 }
 
 /// Lets the entry at the index go, but for its key.
-fn let_go(table: &mut IndexMap<Key, Noted>, index: usize)
+fn let_go(table: &mut IndexMap<Key, Remembered>, index: usize)
     requires { index < length table.old.entries }
     ensures { table.new ≡ with_value_at table.old index nothing }
 {
     if let Some(noted) = table.get_index_mut(index) {
-        *noted = Noted {
+        *noted = Remembered {
             until: 0,
             reply: None,
         };
@@ -125,14 +125,14 @@ fn let_go(table: &mut IndexMap<Key, Noted>, index: usize)
 }
 
 /// Whether all entries stay where this key is noted, and there is room for it after them.
-fn all_stay(table: &IndexMap<Key, Noted>, live_until: u64, now: Moment, key: Key) -> bool
+fn all_stay(table: &IndexMap<Key, Remembered>, live_until: u64, now: Moment, key: Key) -> bool
     ensures { IsTrue result → (now.ms < live_until) × (length table.now.entries < most_keys) × (get same_key table.now key ≡ None) }
 {
     now.ms < live_until && table.len() < ROOM && !table.contains_key(&key)
 }
 
 /// Drops the oldest entry where there are 64, and answers how many keys of those that went are before the others.
-fn make_place(table: &mut IndexMap<Key, Noted>, gone: usize) -> usize
+fn make_place(table: &mut IndexMap<Key, Remembered>, gone: usize) -> usize
     requires within { gone ≤ length table.old.entries }
     requires few { length table.old.entries ≤ gone + most_entries }
     requires gone { AreGone gone table.old.entries }
@@ -151,7 +151,7 @@ fn make_place(table: &mut IndexMap<Key, Noted>, gone: usize) -> usize
 }
 
 /// A moment in ms before which none of the entries dies: the earliest end of their lifetimes, if there is any.
-fn live_until(table: &IndexMap<Key, Noted>) -> u64
+fn live_until(table: &IndexMap<Key, Remembered>) -> u64
     ensures { AllLiveUntil result table.now.entries }
 {
     let mut earliest = u64::MAX;
@@ -164,8 +164,8 @@ fn live_until(table: &IndexMap<Key, Noted>) -> u64
 /// Moves the entries that stay into the other map, where they are more than `most` the youngest, and swaps the maps. Answers a
 /// moment before which none of them dies.
 fn renew(
-    kept: &mut IndexMap<Key, Noted>,
-    other: &mut IndexMap<Key, Noted>,
+    kept: &mut IndexMap<Key, Remembered>,
+    other: &mut IndexMap<Key, Remembered>,
     now: Moment,
     replaced: Option<Key>,
     most: usize,
@@ -187,8 +187,8 @@ fn renew(
 /// Makes a place for a note of this key after the entries: the dead go, what was noted of the key goes, and the oldest where 64
 /// others live. Answers how many keys of entries that went are before the others, and a moment before which none of these dies.
 fn make_ready(
-    kept: &mut IndexMap<Key, Noted>,
-    other: &mut IndexMap<Key, Noted>,
+    kept: &mut IndexMap<Key, Remembered>,
+    other: &mut IndexMap<Key, Remembered>,
     gone: usize,
     live_until: u64,
     now: Moment,
@@ -220,13 +220,13 @@ fn make_ready(
 #[derive(Drop)]
 pub struct Duplicates {
     // The entries, after the keys of those that went.
-    kept: IndexMap<Key, Noted>,
+    kept: IndexMap<Key, Remembered>,
     // How many keys of entries that went are before them.
     gone: usize,
     // No entry dies before this moment, in ms.
     live_until: u64,
     // The empty map that the entries move into.
-    other: IndexMap<Key, Noted>,
+    other: IndexMap<Key, Remembered>,
 }
 
 impl Model for Duplicates {
@@ -259,7 +259,7 @@ impl Duplicates {
     }
 
     /// What was noted of a message, while its entry is in the table and lives.
-    pub fn look(&self, now: Moment, peer: Peer, id: u16) -> Option<&Noted>
+    pub fn look(&self, now: Moment, peer: Peer, id: u16) -> Option<&Remembered>
         ensures { option_copied result ≡ looked now peer id self.now }
     {
         while_alive(now, self.kept.get(&(peer, id)))
@@ -267,7 +267,7 @@ impl Duplicates {
 
     /// Notes a message, in the place of what was noted of it before. The dead go, and the oldest where 64 others
     /// live. It takes no memory.
-    pub fn note(&mut self, now: Moment, peer: Peer, id: u16, noted: Noted)
+    pub fn note(&mut self, now: Moment, peer: Peer, id: u16, noted: Remembered)
         ensures { self.new ≡ with_note now peer id noted self.old }
     {
         let key = (peer, id);

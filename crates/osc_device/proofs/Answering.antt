@@ -1,4 +1,4 @@
--- A request of the device's own is answered, and its post makes a context, by what those of any client come to that go straight to
+-- A request of the device's own is answered, and its post makes a context, by the results of those of any client that go straight to
 -- their server.
 use Rattle.std.proofs.Common.{◌≡◌, ◌≢◌, ◌∙◌, ap, sym, subst, ℕ, List, [], ◌∷◌, length, Option, Some, None}
 use Rattle.std.specs.Option.{IsSome}

@@ -16,7 +16,7 @@ use Rattle.osc_scope.specs.{Entry, IsScope, scope_of}
 use Rattle.osc_token.specs.{HasLawfulParts, algorithm_header, claims_item, token_object}
 use Rattle.osc_world.specs.{FitAToken, IsLawful, Beginning, Enrols, first_nodes}
 use Rattle.osc_world.specs.declared.nodes.Placed.{Placed}
-use Rattle.osc_world.specs.declared.start.Holder.{Holder}
+use Rattle.osc_world.specs.declared.start.NewHolder.{NewHolder}
 use Rattle.osc_device.specs.{IsBegun, IsGranted, IsTooLongToPost, own_claims, own_holder, server_alone, server_address}
 use Rattle.osc_device.specs.State.{State}
 use Rattle.osc_device.specs.declared.own_token.OwnToken.{OwnToken}
@@ -63,11 +63,11 @@ token_most iv ciphertext =
 
 -- ---- the device
 
-pub enrolled : (is_sealing : Sealings) (parts : ServerParts) (own : OwnToken) (alone : Beginning) (holder : Holder) (start : Beginning)
+pub enrolled : (is_sealing : Sealings) (parts : ServerParts) (own : OwnToken) (alone : Beginning) (holder : NewHolder) (start : Beginning)
     → alone ≡ server_alone parts own.id → holder ≡ own_holder parts own → Enrols is_sealing alone holder start
     → Enrols is_sealing (server_alone parts own.id) (own_holder parts own) start
 enrolled is_sealing parts own alone holder start same is enrols =
-    subst (λ (h : Holder). Enrols is_sealing (server_alone parts own.id) h start) is (subst (λ (s : Beginning). Enrols is_sealing s holder start) same enrols)
+    subst (λ (h : NewHolder). Enrols is_sealing (server_alone parts own.id) h start) is (subst (λ (s : Beginning). Enrols is_sealing s holder start) same enrols)
 
 pub one_client : (is_sealing : Sealings) (parts : ServerParts) (own : OwnToken) (start : Beginning)
     → (enrols : Enrols is_sealing (server_alone parts own.id) (own_holder parts own) start) → start.clients ≡ enrols.placed ∷ []
@@ -102,7 +102,7 @@ lawful_parts parts own lawful audience id scope = record {
 }
 
 module _ (is_sealing : Sealings) (tag : ℕ) (sealed_length : IsLongerBy tag (is_sealing EightByteTag)) (short_tag : tag ≤ most_tag)
-    (held : (before after start : Beginning) (holder : Holder) (enrols : Enrols is_sealing before holder after)
+    (held : (before after start : Beginning) (holder : NewHolder) (enrols : Enrols is_sealing before holder after)
     → start.key ≡ before.key → HasLawfulParts holder.claims → FitAToken holder.claims
     → length holder.iv ≡ 13 → length enrols.placed.node.desk.token < 2 ^ 64
     → HoldsToken (is_sealing EightByteTag) start.key holder.claims enrols.enrolled.entries enrols.placed.node.desk)

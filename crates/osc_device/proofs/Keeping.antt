@@ -1,4 +1,4 @@
--- What a call of a device with a store comes to, and what it changes.
+-- The result of a call of a device with a store, and what it changes.
 use Rattle.std.proofs.Common.{◌≡◌, ap, sym, subst, ℕ, List, Option, Some, None, Result, Ok, Err, IfErr}
 use Rattle.std.specs.Result.{IsErr}
 use Rattle.osc_model.specs.Arrival.{Arrival}

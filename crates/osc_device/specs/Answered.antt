@@ -1,4 +1,4 @@
--- What a request of the device's own comes to.
+-- The result of a request of the device's own.
 use Rattle.std.specs.Prelude.{◌≡◌, ◌≢◌, ℕ, false, List, [], Option, Some, None}
 use Rattle.std.specs.Option.{IsSome}
 use Rattle.osc_model.specs.Refusals as refusal

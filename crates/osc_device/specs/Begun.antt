@@ -14,7 +14,7 @@ use Rattle.osc_token.specs.declared.claims.Claims.{Claims}
 use Rattle.osc_client.specs.State.{State as Client}
 use Rattle.osc_world.specs.{Refuses, Beginning, Enrols, IsPlaced, first_nodes}
 use Rattle.osc_world.specs.declared.nodes.Placed.{Placed}
-use Rattle.osc_world.specs.declared.start.Holder.{Holder}
+use Rattle.osc_world.specs.declared.start.NewHolder.{NewHolder}
 use Rattle.osc_device.specs.State.{State, own_address, server_address}
 use Rattle.osc_device.specs.declared.error.NewError.{NewError}
 use Rattle.osc_device.specs.declared.error.NewError.TheVariants.{Id, Subtrees, Token, TooLong}
@@ -32,7 +32,7 @@ own_claims parts own = record {
 }
 
 -- the device as a client that is to be enrolled
-abbrev pub own_holder : ServerParts → OwnToken → Holder
+abbrev pub own_holder : ServerParts → OwnToken → NewHolder
 own_holder parts own = record {
   at = own_address;
   way = record { next_hop = server_address; origin = None };
@@ -63,7 +63,7 @@ server_alone parts own = record {
 
 -- The post of a token of these claims would be longer than a datagram may be, whatever is drawn for it. Sealed, the text of the claims is longer by
 -- a tag of 8 bytes.
-pub record IsTooLongToPost (holder : Holder) : Type 0 where
+pub record IsTooLongToPost (holder : NewHolder) : Type 0 where
   pub ciphertext : List ℕ
   pub sealed_size : length ciphertext ≡ length (spelling (claims_item holder.claims)) + 8
   pub placed : Placed Client

@@ -15,7 +15,7 @@ pub record KeptState (K : Type 0) : Type 0 where
 abbrev pub tree_of : {K : Type 0} → KeptState K → Tree
 tree_of kept = kept.device.server.tree
 
--- ---- what a call comes to
+-- ---- the result of a call
 
 -- `Makes made device` says what the call makes of the device, and what it hands out of that; `Lacks`, what is so where memory runs out before.
 pub data Yields {K T : Type 0} (Makes : T → State → Type 0) (Lacks : Type 0) (old : KeptState K) : Result T CallError → KeptState K → Type 0 where
@@ -39,7 +39,7 @@ module _ {K : Type 0} (keeps : K → Tree → Type 0) (may_hold : K → Tree →
   abbrev pub HoldsOneOf : KeptState K → KeptState K → Type 0
   HoldsOneOf old new = keeps old.keeper (tree_of old) → may_hold new.keeper (tree_of old) (tree_of new)
 
--- it comes to this, and what is handed out is kept; and if its resources were kept, the next start finds them, as before or after
+-- a call has this result, and what is handed out is kept; and if its resources were kept, the next start finds them, as before or after
 abbrev pub YieldsKept : {K T : Type 0} → (K → Tree → Type 0) → (K → Tree → Tree → Type 0) → (T → State → Type 0) → Type 0
     → KeptState K → Result T CallError → KeptState K → Type 0
 YieldsKept keeps may_hold Makes Lacks old result new =

@@ -18,7 +18,7 @@ use osc_model::{Algorithm, Bytes, Peer};
 use osc_scope::{Scope, ScopeError};
 use osc_server::Server;
 use osc_token::{Audience, Claims, InputMaterial};
-use osc_world::{EnrollError, Holder, Parts, Placed, Start};
+use osc_world::{EnrollError, NewHolder, Parts, Placed, Start};
 use std::alloc::{AllocError, Global};
 
 /// The address of the device, for its server.
@@ -84,7 +84,7 @@ pub(crate) fn server_alone(alloc: Global, parts: ServerParts, own: Bytes) -> Sta
 }
 
 /// The device as a client that is to be enrolled at a server of this audience.
-pub(crate) fn own_holder(alloc: Global, audience: Audience, own: OwnToken) -> Holder
+pub(crate) fn own_holder(alloc: Global, audience: Audience, own: OwnToken) -> NewHolder
     ensures { (parts : AnyParts) → parts.audience ≡ audience → result ≡ own_holder_of parts own }
 {
     let OwnToken {
@@ -93,7 +93,7 @@ pub(crate) fn own_holder(alloc: Global, audience: Audience, own: OwnToken) -> Ho
         scope,
         iv,
     } = own;
-    Holder {
+    NewHolder {
         at: OWN,
         way: Route {
             next_hop: SERVER,
@@ -120,7 +120,7 @@ pub(crate) fn own_holder(alloc: Global, audience: Audience, own: OwnToken) -> Ho
 pub(crate) fn enrolled<A: Ciphers>(
     alloc: Global,
     mut start: Start,
-    holder: Holder,
+    holder: NewHolder,
 ) -> Result<Start, EnrollError>
     ensures enrolled { IfOk result (λ after. Enrols A.is_sealing start holder after) }
     ensures lawful { OnOk result (IsLawful holder.claims) }

@@ -57,7 +57,7 @@ pub trait DeviceCalls {
     // The device itself: its server, and it as a client.
     ghost state: { Self → State };
 
-    // What a call comes to that makes this of the device, where it lacks memory only if this is so.
+    // The result of a call that makes this of the device, where it lacks memory only if this is so.
     ghost yields: { (T : Type 0) → (T → State → Type 0) → Type 0 → Self → Result T Self.Error → Self → Type 0 };
 
     /// These bytes came from this peer at this moment as one datagram: the server's step that answers them, as

@@ -115,7 +115,7 @@ impl Device {
     /// # Errors
     ///
     /// The first that applies: `Id` where the token's id has more than 64 bytes, `Subtrees` where its scope reaches below its paths and the server
-    /// refuses that, `Token` where its scope is none, its claims have more than
+    /// refuses that, `Token` where its scope isn't one, its claims have more than
     /// 65535 bytes, or its secret doesn't have 1 to 64, and `TooLong` where its post, which [`DeviceCalls::open`] sends, would be longer than a datagram
     /// may be: 1152 bytes; or `Token` for lack of memory, whatever they are.
     pub fn new<A: Ciphers>(

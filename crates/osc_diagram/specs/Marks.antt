@@ -13,8 +13,8 @@ use Rattle.osc_run.specs.declared.noted.Actor.{Actor}
 use Rattle.osc_run.specs.declared.noted.Actor.TheVariants as actor
 use Rattle.osc_script.specs.{address_of}
 use Rattle.osc_script.specs.declared.client_name.ClientName.{ClientName}
-use Rattle.osc_script.specs.declared.node.Node.{Node}
-use Rattle.osc_script.specs.declared.node.Node.TheVariants.{Server, Client}
+use Rattle.osc_script.specs.declared.node.NodeName.{NodeName}
+use Rattle.osc_script.specs.declared.node.NodeName.TheVariants.{Server, Client}
 use Rattle.osc_simulation.specs.{learnt_text, sent_at, served_words, step_at}
 use Rattle.osc_world.specs.declared.log.Record.{Record}
 use Rattle.osc_world.specs.declared.log.SentDatagram.{SentDatagram}
@@ -22,7 +22,7 @@ use Rattle.osc_diagram.specs.Scenes.{has}
 use Rattle.osc_diagram.specs.declared.play.Played.{Played}
 use Rattle.osc_diagram.specs.declared.scene.Scene.{Scene}
 
-abbrev pub note_at : Node → List ℕ → Mark
+abbrev pub note_at : NodeName → List ℕ → Mark
 note_at node text = mark.Note (address_of node) text
 
 -- ---- what was served and learnt

@@ -11,7 +11,7 @@ use Rattle.osc_model.specs.declared.node.Peer.{Peer}
 use Rattle.osc_script.specs.{address_of}
 use Rattle.osc_script.specs.declared.line.Line.{Line}
 use Rattle.osc_script.specs.declared.line.Line.TheVariants as line
-use Rattle.osc_script.specs.declared.node.Node.{Node}
+use Rattle.osc_script.specs.declared.node.NodeName.{NodeName}
 use Rattle.osc_simulation.specs.{Does, datagram_number, what_of}
 use Rattle.osc_simulation.specs.Names.{Names}
 use Rattle.osc_simulation.specs.declared.stage.Stage.{Stage}
@@ -56,7 +56,7 @@ came_by names stage lost said = came_of stage lost (what_of names stage.world.se
 
 -- ---- what is drawn before the events of a line
 
-abbrev pub starts_again : Node → Option Mark
+abbrev pub starts_again : NodeName → Option Mark
 starts_again node = Some (mark.Note (address_of node) (codes "starts again"))
 
 -- a moment, a node that starts again, or a datagram that no node sends then

@@ -3,7 +3,7 @@ ghost use Rattle.std.specs.Prelude.{◌≡◌, ◌++◌, ◌∷◌, [], IfOk, On
 ghost use Rattle.osc_diagram.specs.Columns as spec;
 
 use crate::Column;
-use osc_script::{ClientName, Node, ProxyName};
+use osc_script::{ClientName, NodeName, ProxyName};
 use osc_simulation::Names;
 use std::alloc::{AllocError, Global};
 
@@ -17,7 +17,7 @@ pub(crate) fn columns_of(alloc: Global, names: &Names) -> Result<Vec<Column>, Al
 }
 
 // A column for each of these nodes.
-fn columns_at(alloc: Global, nodes: &[Node]) -> Result<Vec<Column>, AllocError>
+fn columns_at(alloc: Global, nodes: &[NodeName]) -> Result<Vec<Column>, AllocError>
     ensures { IfOk result (λ columns. spec.AreColumns nodes.now columns.items) }
 {
     let mut columns = Vec::new(alloc);
@@ -27,7 +27,7 @@ fn columns_at(alloc: Global, nodes: &[Node]) -> Result<Vec<Column>, AllocError>
     Ok(columns)
 }
 
-fn column(node: Node) -> Column
+fn column(node: NodeName) -> Column
     ensures name { result.name.now ≡ spec.name_of node }
     ensures at { result.at ≡ spec.address_of node }
 {
@@ -37,31 +37,31 @@ fn column(node: Node) -> Column
     }
 }
 
-fn nodes_of(alloc: Global, names: &Names) -> Result<Vec<Node>, AllocError>
+fn nodes_of(alloc: Global, names: &Names) -> Result<Vec<NodeName>, AllocError>
     ensures { IfOk result (λ nodes. nodes.items ≡ spec.nodes_of names.now) }
 {
     let mut nodes = Vec::new(alloc);
     add_clients(&mut nodes, names.clients())?;
     add_proxies(&mut nodes, names.proxies())?;
-    nodes.push(Node::Server)?;
-    nodes.push(Node::Stranger)?;
+    nodes.push(NodeName::Server)?;
+    nodes.push(NodeName::Stranger)?;
     Ok(nodes)
 }
 
-fn add_clients(nodes: &mut Vec<Node>, clients: &[ClientName]) -> Result<(), AllocError>
-    ensures { OnOk result (nodes.new.items ≡ nodes.old.items ++ map Node.Client clients.now) }
+fn add_clients(nodes: &mut Vec<NodeName>, clients: &[ClientName]) -> Result<(), AllocError>
+    ensures { OnOk result (nodes.new.items ≡ nodes.old.items ++ map NodeName.Client clients.now) }
 {
     for client in clients {
-        nodes.push(Node::Client(*client))?;
+        nodes.push(NodeName::Client(*client))?;
     }
     Ok(())
 }
 
-fn add_proxies(nodes: &mut Vec<Node>, proxies: &[ProxyName]) -> Result<(), AllocError>
-    ensures { OnOk result (nodes.new.items ≡ nodes.old.items ++ map Node.Proxy proxies.now) }
+fn add_proxies(nodes: &mut Vec<NodeName>, proxies: &[ProxyName]) -> Result<(), AllocError>
+    ensures { OnOk result (nodes.new.items ≡ nodes.old.items ++ map NodeName.Proxy proxies.now) }
 {
     for proxy in proxies {
-        nodes.push(Node::Proxy(*proxy))?;
+        nodes.push(NodeName::Proxy(*proxy))?;
     }
     Ok(())
 }

@@ -7,7 +7,7 @@ use crate::scene::{Scene, has};
 use crate::{Arrow, Mark, Way};
 use osc_model::{Bytes, ClientResult, Code, Entry, Moment, Note};
 use osc_run::{Actor, Noted};
-use osc_script::{ClientName, Node};
+use osc_script::{ClientName, NodeName};
 use osc_simulation::{learnt_text, sent_at, served_words, step_of};
 use osc_world::{Record, SentDatagram};
 use std::alloc::{AllocError, Global};
@@ -166,7 +166,7 @@ fn served_mark(alloc: Global, run: &Played, entry: &Entry) -> Result<Mark, Alloc
         run.stage.world().minted(),
         entry,
     )?;
-    note(alloc, Node::Server, &text)
+    note(alloc, NodeName::Server, &text)
 }
 
 // What a client learnt, at the client.
@@ -202,10 +202,10 @@ fn learnt_mark(alloc: Global, client: ClientName, learnt: &ClientResult) -> Resu
     ensures { IfOk result (λ mark. mark ≡ spec.learnt_mark client learnt.now) }
 {
     let text = learnt_text(alloc, learnt)?;
-    note(alloc, Node::Client(client), &text)
+    note(alloc, NodeName::Client(client), &text)
 }
 
-fn note(alloc: Global, at: Node, text: &str) -> Result<Mark, AllocError>
+fn note(alloc: Global, at: NodeName, text: &str) -> Result<Mark, AllocError>
     ensures { IfOk result (λ mark. mark ≡ spec.note_at at text.now) }
 {
     let text = Bytes::from_slice(alloc, text.as_bytes())?;

@@ -4,7 +4,7 @@ ghost use Rattle.osc_diagram.specs.Scenes as spec;
 
 use crate::{Arrow, Mark, Way};
 use osc_model::{Bytes, Moment, Peer};
-use osc_script::{Line, Node};
+use osc_script::{Line, NodeName};
 use osc_simulation::{Names, Stage, datagram_number, what_of};
 use osc_world::{SentDatagram, What};
 use std::alloc::{AllocError, Global};
@@ -50,7 +50,7 @@ pub(crate) fn before_of(
     }
 }
 
-fn starts_again(alloc: Global, node: Node) -> Result<Option<Mark>, AllocError>
+fn starts_again(alloc: Global, node: NodeName) -> Result<Option<Mark>, AllocError>
     ensures { IfOk result (λ mark. mark ≡ spec.starts_again node) }
 {
     let text = Bytes::from_slice(alloc, b"starts again")?;

@@ -36,7 +36,7 @@ pub struct Grant {
 
 /// A holder of a token.
 #[derive(Drop)]
-pub struct Holder {
+pub struct TokenHolder {
     pub name: &'static str,
     pub at: Peer,
     client: Client,
@@ -137,10 +137,10 @@ fn sent_by(alloc: Global, step: Step) -> Result<Option<Bytes>, Fault> {
     Ok(datagram?)
 }
 
-impl Holder {
+impl TokenHolder {
     /// The holder of this grant.
-    pub fn new(alloc: Global, grant: Grant) -> Result<Holder, Fault> {
-        Ok(Holder {
+    pub fn new(alloc: Global, grant: Grant) -> Result<TokenHolder, Fault> {
+        Ok(TokenHolder {
             name: grant.name,
             at: Peer::v4([198, 51, 100, grant.number], 61616),
             client: client(alloc, grant)?,

@@ -16,7 +16,7 @@ mod wish;
 mod words;
 
 use fault::Fault;
-use holder::{Grant, Holder};
+use holder::{Grant, TokenHolder};
 use lock::Lock;
 use std::alloc::Global;
 use std::process::ExitCode;
@@ -60,7 +60,7 @@ fn with_a_lock(rt: &impl Print, alloc: Global) -> Result<(), Fault> {
 }
 
 fn with_its_owner(rt: &impl Print, alloc: Global, lock: &mut Lock) -> Result<(), Fault> {
-    let mut owner = Holder::new(alloc, OWNER)?;
+    let mut owner = TokenHolder::new(alloc, OWNER)?;
     let told = with_a_technician(rt, alloc, lock, &mut owner);
     drop(owner);
     told
@@ -70,9 +70,9 @@ fn with_a_technician(
     rt: &impl Print,
     alloc: Global,
     lock: &mut Lock,
-    owner: &mut Holder,
+    owner: &mut TokenHolder,
 ) -> Result<(), Fault> {
-    let mut technician = Holder::new(alloc, TECHNICIAN)?;
+    let mut technician = TokenHolder::new(alloc, TECHNICIAN)?;
     let told = story::tell(rt, alloc, lock, owner, &mut technician);
     drop(technician);
     told

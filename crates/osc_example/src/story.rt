@@ -2,7 +2,7 @@
 
 use crate::bolt::{Bolt, Motor, Wanted};
 use crate::fault::Fault;
-use crate::holder::Holder;
+use crate::holder::TokenHolder;
 use crate::lock::Lock;
 use crate::place::Place;
 use crate::supply::at;
@@ -18,8 +18,8 @@ pub fn tell(
     rt: &impl Print,
     alloc: Global,
     lock: &mut Lock,
-    owner: &mut Holder,
-    technician: &mut Holder,
+    owner: &mut TokenHolder,
+    technician: &mut TokenHolder,
 ) -> Result<(), Fault> {
     lock.starts(rt, alloc, at(0), Bolt::Shut)?;
     the_owner_opens(rt, alloc, lock, owner)?;
@@ -34,7 +34,7 @@ fn the_owner_opens(
     rt: &impl Print,
     alloc: Global,
     lock: &mut Lock,
-    owner: &mut Holder,
+    owner: &mut TokenHolder,
 ) -> Result<(), Fault> {
     posts(rt, alloc, at(1), lock, owner)?;
     wants(rt, alloc, at(2), lock, owner, Wanted::Open)?;
@@ -46,8 +46,8 @@ fn the_technician_is_overheard(
     rt: &impl Print,
     alloc: Global,
     lock: &mut Lock,
-    owner: &mut Holder,
-    technician: &mut Holder,
+    owner: &mut TokenHolder,
+    technician: &mut TokenHolder,
 ) -> Result<(), Fault> {
     posts(rt, alloc, at(10), lock, technician)?;
     let overheard = shuts(rt, alloc, at(11), lock, technician)?;
@@ -72,7 +72,7 @@ fn shuts(
     alloc: Global,
     now: Moment,
     lock: &mut Lock,
-    technician: &mut Holder,
+    technician: &mut TokenHolder,
 ) -> Result<Option<Overheard>, Fault> {
     let word = Wanted::Shut.word();
     tell_asked(rt, technician.name, Method::Put, Place::Wanted, word)?;
@@ -93,7 +93,7 @@ fn again(
     alloc: Global,
     now: Moment,
     lock: &mut Lock,
-    technician: &Holder,
+    technician: &TokenHolder,
     overheard: &Overheard,
 ) -> Result<(), Fault> {
     println!(rt; "somebody: the technician's request again, by the same bytes")?;
@@ -110,7 +110,7 @@ fn under_a_new_id(
     alloc: Global,
     now: Moment,
     lock: &mut Lock,
-    technician: &Holder,
+    technician: &TokenHolder,
     request: &Bytes,
 ) -> Result<(), Fault> {
     println!(rt; "somebody: the technician's request again, under another message ID")?;
@@ -124,7 +124,7 @@ fn the_bolt_jams(
     rt: &impl Print,
     alloc: Global,
     lock: &mut Lock,
-    technician: &mut Holder,
+    technician: &mut TokenHolder,
 ) -> Result<(), Fault> {
     println!(rt; "something: is in the way of the bolt")?;
     lock.sticks(Motor::Sticks);
@@ -139,7 +139,7 @@ fn the_technicians_time_is_over(
     rt: &impl Print,
     alloc: Global,
     lock: &mut Lock,
-    technician: &mut Holder,
+    technician: &mut TokenHolder,
 ) -> Result<(), Fault> {
     wants(rt, alloc, at(3_601), lock, technician, Wanted::Open)?;
     posts(rt, alloc, at(3_602), lock, technician)
@@ -150,7 +150,7 @@ fn the_lock_starts_again(
     rt: &impl Print,
     alloc: Global,
     lock: &mut Lock,
-    owner: &mut Holder,
+    owner: &mut TokenHolder,
 ) -> Result<(), Fault> {
     lock.restarts(rt, alloc, at(3_700), Bolt::Open)?;
     reads(rt, alloc, at(3_701), lock, owner, Place::Actual)?;
@@ -164,8 +164,8 @@ fn waits(
     rt: &impl Print,
     alloc: Global,
     lock: &mut Lock,
-    owner: &mut Holder,
-    technician: &mut Holder,
+    owner: &mut TokenHolder,
+    technician: &mut TokenHolder,
 ) -> Result<(), Fault> {
     println!(rt; "an hour: passes")?;
     for second in 30..3_600 {
@@ -184,7 +184,7 @@ fn ticks(
     alloc: Global,
     now: Moment,
     lock: &mut Lock,
-    holder: &mut Holder,
+    holder: &mut TokenHolder,
 ) -> Result<(), Fault> {
     let due = holder.ticks(alloc, now)?;
     delivers(rt, alloc, now, lock, holder, due)
@@ -196,7 +196,7 @@ fn posts(
     alloc: Global,
     now: Moment,
     lock: &mut Lock,
-    holder: &mut Holder,
+    holder: &mut TokenHolder,
 ) -> Result<(), Fault> {
     println!(rt; "{}: posts its token", holder.name)?;
     let post = holder.posts(alloc, now)?;
@@ -209,7 +209,7 @@ fn wants(
     alloc: Global,
     now: Moment,
     lock: &mut Lock,
-    holder: &mut Holder,
+    holder: &mut TokenHolder,
     wanted: Wanted,
 ) -> Result<(), Fault> {
     let word = wanted.word();
@@ -224,7 +224,7 @@ fn reads(
     alloc: Global,
     now: Moment,
     lock: &mut Lock,
-    holder: &mut Holder,
+    holder: &mut TokenHolder,
     place: Place,
 ) -> Result<(), Fault> {
     tell_asked(rt, holder.name, Method::Get, place, b"")?;
@@ -253,7 +253,7 @@ fn delivers(
     alloc: Global,
     now: Moment,
     lock: &mut Lock,
-    holder: &mut Holder,
+    holder: &mut TokenHolder,
     datagram: Option<Bytes>,
 ) -> Result<(), Fault> {
     let Some(datagram) = datagram else {
@@ -270,7 +270,7 @@ fn learns(
     rt: &impl Print,
     alloc: Global,
     now: Moment,
-    holder: &mut Holder,
+    holder: &mut TokenHolder,
     answer: &Bytes,
 ) -> Result<(), Fault> {
     let step = holder.hears(alloc, now, answer)?;

@@ -6,7 +6,7 @@ use osc_model::{Draw, Moment};
 /// When the program begins, in seconds since 1970: 15 January 2027, 8:00 UTC.
 pub const BEGINNING: u64 = 1_800_000_000;
 
-/// So many seconds after the beginning. A real clock counts milliseconds since 1970, and what it gives may not fall.
+/// This number of seconds after the beginning. A real clock counts milliseconds since 1970, and what it gives may not fall.
 pub fn at(second: u32) -> Moment
     ensures { result.ms ≡ 1000 * (1800000000 + second) }
 {

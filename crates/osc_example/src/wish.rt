@@ -103,7 +103,7 @@ fn wish_of(alloc: Global, served: &Served<'_>) -> Result<Option<Wish>, AllocErro
 }
 
 /// Tells what was served, and lets it go but for what it wants.
-fn heeded(rt: &impl Print, alloc: Global, served: Served<'_>) -> Result<Option<Wish>, Fault>
+fn accepted(rt: &impl Print, alloc: Global, served: Served<'_>) -> Result<Option<Wish>, Fault>
     ensures some { IfOk result (λ found. IfSome found (λ wish. IsWish served.entry wish.wanted × (wish.by ≡ name_in served.entry.by.kid_context))) }
     ensures none { IfOk result (λ found. IfNone found ((wanted : AnyWanted) → ¬ IsWish served.entry wanted)) }
 {
@@ -122,7 +122,7 @@ pub fn heard(rt: &impl Print, alloc: Global, step: &Step) -> Result<Option<Wish>
         → served_in step.now.notes ≡ Some served → ¬ IsWish served wanted)) }
 {
     match Served::in_step(step) {
-        Some(served) => heeded(rt, alloc, served),
+        Some(served) => accepted(rt, alloc, served),
         None => {
             tell_other(rt, step)?;
             Ok(None)

@@ -41,7 +41,7 @@ pub fn place(client: u8) -> Peer {
     }
 }
 
-/// So many ms after the start; the start, where no moment is as late as that.
+/// This number of ms after the start; the start, where no moment is as late as that.
 pub fn at(ms: u64) -> Moment {
     Moment::new(ms).unwrap_or(Moment::START)
 }

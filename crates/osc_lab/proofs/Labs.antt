@@ -39,7 +39,7 @@ use Rattle.osc_simulation.specs.{granted, name_of_number, is_sealing, tag_of, en
 use Rattle.osc_programs.specs.{IsFault}
 use Rattle.osc_programs.specs.declared.ended.Ended.{Ended}
 use Rattle.osc_lab.specs.Inner.Telling.{Begins as Began, BeginsBy, Did, DidAsked, DidOrStayed, IsUntold, LeadsTo, LearnsNothing, Stayed, Stops, Tells, TookOrStayed, TookTurn, did, idle, seen, stayed, took}
-use Rattle.osc_lab.specs.{BreaksOff, EndsWith, Goes, HandsOver, Leads, Learnt, LineBegins, LiveLab, Ports, Rules, TakesTurns, TellsLine, TellsLines, ComesOf, Turn, Turns, TurnsAt, WholeTurn, WholeTurns, Prints, acts_of, all_told, begins, client_of, deed_of, is_heeded, is_waiting, learnt, learnt_by, named, next_turn, next_whole_turn, out_of, posted, rules_of, run_of, sent_by, stays, task_of, then_line, then_turn}
+use Rattle.osc_lab.specs.{BreaksOff, EndsWith, Goes, HandsOver, Leads, Learnt, LineBegins, LiveLab, Ports, Rules, TakesTurns, TellsLine, TellsLines, ComesOf, Turn, Turns, TurnsAt, WholeTurn, WholeTurns, Prints, acts_of, all_told, begins, client_of, deed_of, is_used, is_waiting, learnt, learnt_by, named, next_turn, next_whole_turn, out_of, posted, rules_of, run_of, sent_by, stays, task_of, then_line, then_turn}
 use Rattle.osc_lab.specs.Lab.{Lab}
 use Rattle.osc_lab.specs.Network.{Network}
 use Rattle.osc_lab.specs.Telling as telling
@@ -632,12 +632,12 @@ hands_over net was port out shown e is f = record {
 
 -- ---- the script
 
-pub printed_by : (Printed : List Line → Type 0) (script : Option (List ℕ)) (lines : List Line) → IfSome script (λ bytes. IsScript bytes lines) → list_all is_heeded lines ≡ true
-    → Printed lines → IfSome script (λ bytes. (all : List Line) × IsScript bytes all × (list_all is_heeded all ≡ true) × Printed all)
-printed_by Printed None lines says heeded prints = tt
-printed_by Printed (Some bytes) lines says heeded prints = (lines, says, heeded, prints)
+pub printed_by : (Printed : List Line → Type 0) (script : Option (List ℕ)) (lines : List Line) → IfSome script (λ bytes. IsScript bytes lines) → list_all is_used lines ≡ true
+    → Printed lines → IfSome script (λ bytes. (all : List Line) × IsScript bytes all × (list_all is_used all ≡ true) × Printed all)
+printed_by Printed None lines says used prints = tt
+printed_by Printed (Some bytes) lines says used prints = (lines, says, used, prints)
 
-pub heeds : (script : Option (List ℕ)) (lines : List Line) → IfSome script (λ bytes. IsScript bytes lines) → list_all is_heeded lines ≡ true
-    → IfSome script (λ bytes. IsScript bytes lines × (list_all is_heeded lines ≡ true))
-heeds None lines says heeded = tt
-heeds (Some bytes) lines says heeded = (says, heeded)
+pub uses : (script : Option (List ℕ)) (lines : List Line) → IfSome script (λ bytes. IsScript bytes lines) → list_all is_used lines ≡ true
+    → IfSome script (λ bytes. IsScript bytes lines × (list_all is_used lines ≡ true))
+uses None lines says used = tt
+uses (Some bytes) lines says used = (says, used)

@@ -1,7 +1,7 @@
 pub mod Appended
 pub mod Bound
 pub mod Endings
-pub mod Heeded
+pub mod Used
 pub mod LabRuns
 pub mod Labs
 pub mod Printing

@@ -6,7 +6,7 @@ use Rattle.osc_run.specs.{Noted, IsReached, Minted, WorldState}
 use Rattle.osc_client.specs.State.{State as Client}
 use Rattle.osc_world.specs.{steps_with, Deed, NodeStates, Takes, run_with}
 use Rattle.osc_world.specs.declared.nodes.Placed.{Placed}
-use Rattle.osc_world.specs.declared.nodes.Taken.{Taken}
+use Rattle.osc_world.specs.declared.nodes.StepTaken.{StepTaken}
 use Rattle.osc_world.specs.declared.start.Parts.{Parts}
 use Rattle.osc_simulation.specs.{is_sealing, tag_of}
 
@@ -34,13 +34,13 @@ run_of first lab = run_with lab.minted first lab.nodes lab.steps
 
 -- Whoever this is for does it, as in a world, and it is noted; what was a run goes on as one.
 pub record Goes (deed : Deed) (old new : Lab) : Type 0 where
-  pub taken : Option Taken
+  pub taken : Option StepTaken
   pub nodes : NodeStates
   pub takes : Takes is_sealing tag_of old.nodes deed taken nodes
   pub is : new ≡ record old { nodes = nodes; steps = steps_with taken old.steps }
   pub runs : (first : Tree) → IsReached (run_of first old) → IsReached (run_of first new)
 
 -- what a step sends, if there is one
-abbrev pub out_of : Option Taken → List Datagram
+abbrev pub out_of : Option StepTaken → List Datagram
 out_of None = []
 out_of (Some taken) = taken.out

@@ -1,11 +1,11 @@
-pub mod Heeding
+pub mod Usage
 pub mod Network
 pub mod Lab
 pub mod Turning
 pub mod Telling
 pub mod Whole
 pub mod Inner
-pub use Heeding.{IsFirstUnheeded, IsFirstUnheededIn, IsUnheeded, is_heeded}
+pub use Usage.{IsFirstUnused, IsFirstUnusedIn, IsUnused, is_used}
 pub use Lab.{Goes, is_waiting, lab_in, out_of, run_of}
 pub use Network.{Ports, named, port_of, posted, script_of, socket_of, with_port}
 pub use Telling.{BreaksOff, ComesOf, EndsWith, Learnt, Prints, Rules, TellsLine, TellsLines, all_told, client_of, learnt, learnt_by, no_line, rules_of}

@@ -65,7 +65,7 @@ module _ {P : Type 0} (net : Network P) where
 
   -- ---- whole turns
 
-  -- so many of these nodes took one, in the order of their numbers, and whether one of them was busy
+  -- this number of these nodes took one, in the order of their numbers, and whether one of them was busy
   pub data Turns (who : ℕ → Whose) (first : LiveLab P) : ℕ → Bool → LiveLab P → Type 0 where
     no_turn : Turns who first 0 false first
     next_turn : (n : ℕ) (some busy : Bool) (between last : LiveLab P) → Turns who first n some between → Turn (who n) busy between last
@@ -83,7 +83,7 @@ module _ {P : Type 0} (net : Network P) where
     pub clients : Turns whose.Client forwarded (length forwarded.lab.nodes.clients) busy_clients new
     pub is_busy : busy ≡ busy_server || (busy_proxies || busy_clients)
 
-  -- so many whole turns, in each of which a node was busy, or after which the client of this number waits
+  -- this number of whole turns, in each of which a node was busy, or after which the client of this number waits
   pub data WholeTurns (number : ℕ) (first : LiveLab P) : ℕ → LiveLab P → Type 0 where
     no_whole_turn : WholeTurns number first 0 first
     next_whole_turn : (n : ℕ) (busy : Bool) (between last : LiveLab P) → WholeTurns number first n between → WholeTurn busy between last
@@ -98,7 +98,7 @@ module _ {P : Type 0} (net : Network P) where
 
 -- ---- what a line has its client do
 
--- at some moment and with some draw: it posts its token, or sends a request, protected; a request with the code 0.00 is none
+-- at some moment and with some draw: it posts its token, or sends a request, protected; a request with the code 0.00 is no request
 abbrev pub task_of : Line → Moment → Draw → Option ClientTask
 task_of (Exchange client) now draw = Some (Begin now draw)
 task_of (Ask client request) now draw = if request.code.0 == 0 then None else Some (Asks (record { at = now; draw = draw; request = request }))
@@ -135,7 +135,7 @@ module _ {P : Type 0} (net : Network P) where
 
   -- ---- any steps
 
-  -- so many steps lead from the one to the other, be it none: turns of nodes, and what lines have their clients do
+  -- some number of steps, maybe none, leads from the one to the other: turns of nodes, and what lines have their clients do
   pub data Leads (first : LiveLab P) : LiveLab P → Type 0 where
     stays : Leads first first
     then_turn : (who : Whose) (busy : Bool) (between last : LiveLab P) → Leads first between → Turn net who busy between last → Leads first last

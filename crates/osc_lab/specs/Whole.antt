@@ -7,14 +7,14 @@ use Rattle.osc_model.specs.declared.node.Peer.{Peer}
 use Rattle.osc_model.specs.declared.step.Datagram.{Datagram}
 use Rattle.osc_script.specs.{IsScript, address_of, local}
 use Rattle.osc_script.specs.declared.line.Line.{Line}
-use Rattle.osc_script.specs.declared.node.Node.TheVariants as node
+use Rattle.osc_script.specs.declared.node.NodeName.TheVariants as node
 use Rattle.osc_simulation.specs.{IsStartOf}
 use Rattle.osc_turn.specs.{IsOfSeed, IsSeeded, Received}
 use Rattle.osc_world.specs.{AreParts, Beginning, NodeStates}
 use Rattle.osc_world.specs.declared.start.Parts.{Parts}
 use Rattle.osc_programs.specs.{IsFault}
 use Rattle.osc_programs.specs.declared.ended.Ended.{Ended}
-use Rattle.osc_lab.specs.Heeding.{is_heeded}
+use Rattle.osc_lab.specs.Usage.{is_used}
 use Rattle.osc_lab.specs.Lab.{lab_in}
 use Rattle.osc_lab.specs.Network.{Network, Ports}
 use Rattle.osc_lab.specs.Telling.{BreaksOff, EndsWith, Prints}
@@ -87,13 +87,13 @@ module _ {P : Type 0} (gave : List ℕ → Type 0) (opened : Peer → Option Pee
         → EndsWith (λ text. BreaksOff (network sockets) turns lines first text last) ended written written_after
         → LinesStop ended turns lines written written_after
 
-  -- The lab of this script, of whose lines it heeds each, with so many whole turns at most after each line that has a client do something, printed
+  -- The lab of this script, of whose lines it uses each, with at most this number of whole turns after each line that has a client do something, printed
   -- this.
   abbrev pub Labs : ℕ → List ℕ → List ℕ → Type 0
-  Labs turns script text = (lines : List Line) × IsScript script lines × (list_all is_heeded lines ≡ true) × LinesPrint turns lines text
+  Labs turns script text = (lines : List Line) × IsScript script lines × (list_all is_used lines ≡ true) × LinesPrint turns lines text
 
-  -- It ended early: it had no script, and nothing was written, or it ended in its lines, each of which it heeds, by a fault.
+  -- It ended early: it had no script, and nothing was written, or it ended in its lines, each of which it uses, by a fault.
   pub data EndsEarly (ended : Ended) (turns : ℕ) (script : Option (List ℕ)) (written written_after : Option (List ℕ)) : Type 0 where
     no_script : Appends written written_after [] → EndsEarly ended turns script written written_after
-    in_script : (lines : List Line) → IfSome script (λ text. IsScript text lines × (list_all is_heeded lines ≡ true))
+    in_script : (lines : List Line) → IfSome script (λ text. IsScript text lines × (list_all is_used lines ≡ true))
         → LinesStop ended turns lines written written_after → EndsEarly ended turns script written written_after

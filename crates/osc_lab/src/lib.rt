@@ -2,7 +2,6 @@
 #![tactic(auto)]
 
 mod cast;
-mod heeding;
 pub mod laws;
 mod nodes;
 mod port;
@@ -10,5 +9,6 @@ mod ports;
 mod run;
 mod telling;
 mod turning;
+mod usage;
 
 pub use run::lab;

@@ -18,7 +18,7 @@ ghost use Rattle.osc_lab.specs.Turning as turning;
 use crate::cast::{Cast, Who};
 use crate::ports::{Means, PacedPort};
 use crate::telling::tell_result;
-use crate::turning::{Turned, either, send_out, turn_of};
+use crate::turning::{LabTurn, either, send_out, turn_of};
 use osc_ccm::Suite;
 use osc_client::Client;
 use osc_model::{Step, StepNotes};
@@ -102,7 +102,7 @@ impl LabNodes {
         let Some(port) = means.ports.clients.get_mut(who.number) else {
             return Err(Ended::PortFailed);
         };
-        let asked = Asked { who, line: asked };
+        let asked = ClientLine { who, line: asked };
         let notes = &mut self.notes;
         client_begins(
             &mut means.supply,
@@ -258,7 +258,7 @@ impl LabNodes {
 
 // A client, and the line that has it do something.
 #[derive(Clone, Copy)]
-struct Asked<'a> {
+struct ClientLine<'a> {
     who: Who<'a>,
     line: &'a Line,
 }
@@ -268,7 +268,7 @@ fn client_begins<W: Watch + Drop, P: Port + Drop, O: Write>(
     supply: &mut ClockAndRandom<W>,
     port: &mut PacedPort<P>,
     client: &mut Client,
-    asked: Asked<'_>,
+    asked: ClientLine<'_>,
     notes: &mut Notes,
     writer: &mut O,
 ) -> Result<(), Ended>
@@ -311,7 +311,7 @@ fn client_turns_at<W: Watch + Drop, P: Port + Drop, O: Write>(
 {
     reserve(notes)?;
     let turned = turn_of(who.cast, supply, port, client)?;
-    let Turned { busy, step, fault } = turned;
+    let LabTurn { busy, step, fault } = turned;
     let Step { notes: done, .. } = step;
     note(who, done, notes, writer)?;
     unless_lost(fault)?;
@@ -335,9 +335,9 @@ fn note<O: Write>(
     told
 }
 
-// The step by which the client does what the line says, if it says something: a request with the code 0.00 is none.
+// The step by which the client does what the line says, if it says something: a request with the code 0.00 is no request.
 fn begun<W: Watch + Drop>(
-    asked: Asked<'_>,
+    asked: ClientLine<'_>,
     supply: &mut ClockAndRandom<W>,
     client: &mut Client,
 ) -> Result<Option<Step>, Ended>
@@ -395,7 +395,7 @@ fn noted_turn<W: Watch + Drop, P: Port + Drop, N: Node<Suite>>(
 {
     reserve(notes)?;
     let turned = turn_of(cast, supply, port, node)?;
-    let Turned { busy, step, fault } = turned;
+    let LabTurn { busy, step, fault } = turned;
     let Step { notes: done, .. } = step;
     notes.add(noted_as(actor, done));
     unless_lost(fault)?;

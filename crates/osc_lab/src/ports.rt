@@ -7,7 +7,7 @@ ghost use Rattle.osc_programs.specs.Ended as ends;
 use crate::port::{AddressMap, Known};
 use osc_model::Peer;
 use osc_programs::{Ended, SocketPort, Sockets, bound};
-use osc_script::Node;
+use osc_script::NodeName;
 use osc_turn::{ClockAndRandom, Pace, Watch};
 use osc_world::{Parts, Placed};
 use std::alloc::Global;
@@ -81,7 +81,7 @@ pub(crate) fn bind_all<R: Sockets>(
     ensures fault { IfErr result ends.IsFault }
 {
     let mut addresses = AddressMap::new(alloc);
-    let server = bind_at(runtime, &mut addresses, Node::Server.address())?;
+    let server = bind_at(runtime, &mut addresses, NodeName::Server.address())?;
     let proxies = bind_each(alloc, runtime, &mut addresses, parts.nodes.proxies())?;
     let clients = bind_each(alloc, runtime, &mut addresses, parts.nodes.clients())?;
     let ports = LabPorts {

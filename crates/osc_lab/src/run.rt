@@ -10,18 +10,18 @@ ghost use Rattle.osc_simulation.specs.{granted, names_in, CanPutAll, IsStartOf, 
 ghost use Rattle.osc_world.specs.{AreParts, Beginning};
 ghost use Rattle.osc_programs.specs.Ended as ends;
 ghost use Rattle.osc_programs.specs.Input.{IsBeyond, TakesAtMost, longest_script};
-ghost use Rattle.osc_lab.specs.Heeding as heeding;
+ghost use Rattle.osc_lab.specs.Usage as usage;
 ghost use Rattle.osc_lab.specs.Inner.Telling as inner;
 ghost use Rattle.osc_lab.specs.Telling as telling;
 ghost use Rattle.osc_lab.specs.Turning as turning;
 ghost use Rattle.osc_lab.specs.Whole as spec;
 
 use crate::cast::{Cast, Who};
-use crate::heeding::lab_script;
 use crate::nodes::LabNodes;
 use crate::ports::{Means, bind_all};
 use crate::telling::{tell, tell_open};
 use crate::turning::either;
+use crate::usage::lab_script;
 use osc_programs::{Ended, Sockets, script_bytes, supply_of};
 use osc_script::{ClientName, Line, Script};
 use osc_simulation::{Names, end_text, name_of_number, number_of, start_of};
@@ -34,7 +34,7 @@ use std::time::Clock;
 /// Runs the script that the reader gives with a server, clients and proxies on sockets of this machine, in one process, which take
 /// their turns one after another: moments are those of the clock, and random bytes are drawn. Its lines are `put`, `open`, `revoked`,
 /// `grant`, `via`, `exchange` and `ask`. After each exchange or request the nodes take turns until its client waits for nothing and no node was
-/// busy in a whole turn, or until so many whole turns are gone; a client that waits still is `open` then. It writes what the clients
+/// busy in a whole turn, or until this number of whole turns is gone; a client that waits still is `open` then. It writes what the clients
 /// learn, as it comes, and the end lines.
 ///
 /// A script with another line, or one that means nothing, does nothing: `BadLine` has the number of the first such line. Nor does one that is
@@ -49,7 +49,7 @@ pub fn lab<R: Clock + Seeds + Sockets, I: Read, W: Write>(
     ensures done { result ≡ Ended.Done → (text : List ℕ)
         × IfSome (I.remaining reader.old) (λ script. spec.Labs (R.gave runtime.now) (R.opened runtime.now) R.Socket.listens R.Socket.received R.Socket.sent turns script text)
         × Appends (W.contents writer.old) (W.contents writer.new) text }
-    ensures bad { (n : ℕ) → result ≡ Ended.BadLine n → IfSome (I.remaining reader.old) (λ script. heeding.IsFirstUnheeded script n)
+    ensures bad { (n : ℕ) → result ≡ Ended.BadLine n → IfSome (I.remaining reader.old) (λ script. usage.IsFirstUnused script n)
         × Appends (W.contents writer.old) (W.contents writer.new) [] }
     ensures long { result ≡ Ended.TooLong → IsBeyond longest_script (I.remaining reader.old) × Appends (W.contents writer.old) (W.contents writer.new) [] }
     ensures end { TakesAtMost (longest_script + 1) (I.remaining reader.old) (I.remaining reader.new) }
@@ -63,12 +63,12 @@ pub fn lab<R: Clock + Seeds + Sockets, I: Read, W: Write>(
     }
 }
 
-// The script, if a lab heeds each of its lines.
+// The script, if a lab uses each of its lines.
 fn script_of<I: Read>(alloc: Global, reader: &mut I) -> Result<Script, Ended>
     ensures read { IfOk result (λ lines. IfSome (I.remaining reader.old) (λ text. IsScript text lines)) }
-    ensures heeded { IfOk result (λ lines. list_all heeding.is_heeded lines ≡ true) }
+    ensures used { IfOk result (λ lines. list_all usage.is_used lines ≡ true) }
     ensures puts { IfOk result (λ lines. CanPutAll map.empty lines) }
-    ensures bad { IfErr result (λ ended. (n : ℕ) → ended ≡ Ended.BadLine n → IfSome (I.remaining reader.old) (λ text. heeding.IsFirstUnheeded text n)) }
+    ensures bad { IfErr result (λ ended. (n : ℕ) → ended ≡ Ended.BadLine n → IfSome (I.remaining reader.old) (λ text. usage.IsFirstUnused text n)) }
     ensures long { IfErr result (λ ended. ended ≡ Ended.TooLong → IsBeyond longest_script (I.remaining reader.old)) }
     ensures end { TakesAtMost (longest_script + 1) (I.remaining reader.old) (I.remaining reader.new) }
     ensures ends { IfErr result ends.CannotLab }

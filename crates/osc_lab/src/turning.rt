@@ -17,7 +17,7 @@ use osc_turn::{ClockAndRandom, Pace, Port, PortFault, Stepped, Watch};
 
 /// A turn that made a step.
 #[derive(Drop)]
-pub(crate) struct Turned {
+pub(crate) struct LabTurn {
     /// Whether the node was busy: it took what came in this turn, or in its last one. After that a turn may be a tick though something waits.
     pub busy: bool,
     /// The step.
@@ -32,7 +32,7 @@ pub(crate) fn turn_of<W: Watch + Drop, P: Port + Drop, N: Node<Suite>>(
     supply: &mut ClockAndRandom<W>,
     port: &mut PacedPort<P>,
     node: &mut N,
-) -> Result<Turned, Ended>
+) -> Result<LabTurn, Ended>
     ensures takes { IfOk result (λ turned. inner.Took (inner.network P.received P.sent cast.entry.addresses.now) N.acts N.is_step turned.step turned.busy
         (inner.at_port node.old port.old supply.old) (inner.at_port node.new port.new supply.new)) }
     ensures err { OnErr result (node.new ≡ node.old) }
@@ -43,7 +43,7 @@ pub(crate) fn turn_of<W: Watch + Drop, P: Port + Drop, N: Node<Suite>>(
     let was_busy = port.is_busy();
     let Stepped { received, step } = step_at(cast, port, node, now, &draw)?;
     let fault = send_out(&mut port.port, cast.addresses, step.out.as_slice());
-    Ok(Turned {
+    Ok(LabTurn {
         busy: either(was_busy, received),
         step,
         fault,

@@ -1,6 +1,6 @@
 -- The pieces of a line, one after the other.
 use Rattle.std.proofs.Common.{◌≡◌, ℕ, List, ◌++◌, append_assoc, codes}
-use Rattle.osc_log.specs.Code.{line}
+use Rattle.osc_log.specs.LineEnd.{line}
 
 pub left_out_pieces : (ms count words words-is : List ℕ) → words ≡ words-is → ms ++ (codes " left out " ++ (count ++ (codes " " ++ (words ++ codes "\n")))) ≡ line (ms ++ codes " left out " ++ count ++ codes " " ++ words-is)
 left_out_pieces ms count words words-is e = rw e (simp append_assoc)

@@ -11,7 +11,7 @@ use Rattle.osc_log.specs.declared.held.Held.TheVariants.{Server, Proxy}
 abbrev pub no_counters : Counters
 no_counters = record { due = None; received = 0; sent = 0; served = 0; refused = 0; reasons = replicate 32 0 }
 
--- so many more, as far as a number of 64 bits counts
+-- `some` more, as far as a number of 64 bits counts
 abbrev pub more : ℕ → ℕ → ℕ
 more count some = min (count + some) (2 ^ 64 - 1)
 

@@ -1,7 +1,7 @@
 -- The lines of what failed.
 use Rattle.std.specs.Prelude.{◌≡◌, ◌⊎◌, ℕ, List, ◌++◌, Option, Some, None, codes, decimal}
 use Rattle.serde_json.specs.Data.{Members, no_members, put, string}
-use Rattle.osc_log.specs.Code.{line}
+use Rattle.osc_log.specs.LineEnd.{line}
 use Rattle.osc_log.specs.Line.{begun_members, object_line}
 use Rattle.osc_log.specs.declared.form.Form.{Form}
 use Rattle.osc_log.specs.declared.form.Form.TheVariants.{Text, Json}

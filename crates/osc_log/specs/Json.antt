@@ -10,7 +10,7 @@ use Rattle.osc_model.specs.declared.request.Request.{Request}
 use Rattle.osc_model.specs.declared.step.Datagram.{Datagram}
 use Rattle.osc_model.specs.declared.step.Entry.{Entry}
 use Rattle.osc_model.specs.declared.step.RefusedRequest.{RefusedRequest}
-use Rattle.osc_log.specs.Code.{code_text}
+use Rattle.osc_model.specs.{code_text}
 use Rattle.osc_log.specs.Kinds.{kind_level, kind_words}
 use Rattle.osc_log.specs.Line.{begun_members, object_line}
 use Rattle.osc_log.specs.Turns.{Telling, Turn, code_in}

@@ -1,5 +1,5 @@
 -- Definitions that the contracts cite.
-pub mod Code
+pub mod LineEnd
 pub mod Time
 pub mod Line
 pub mod Words

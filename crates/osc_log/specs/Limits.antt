@@ -26,7 +26,7 @@ one_more tally = if has_room tally then record tally { told = tally.told + 1 } e
 
 -- ---- each kind for itself
 
--- in this second none was told yet, and none left out
+-- in this second no line was told yet, and none left out
 abbrev pub none_told : ℕ → Limits
 none_told second = record { second = second; no_context = no_lines; under_context = no_lines; sent = no_lines }
 

@@ -3,7 +3,7 @@ use Rattle.std.specs.Prelude.{ℕ, List, ◌++◌, codes, decimal}
 use Rattle.serde_json.specs.Data.{Members, no_members, number, object, put, string, unsigned}
 use Rattle.serde_json.specs.Written.{compact_text}
 use Rattle.osc_model.specs.declared.node.Moment.{Moment}
-use Rattle.osc_log.specs.Code.{line}
+use Rattle.osc_log.specs.LineEnd.{line}
 use Rattle.osc_log.specs.declared.form.Form.{Form}
 use Rattle.osc_log.specs.declared.form.Form.TheVariants.{Text, Json}
 

@@ -10,7 +10,8 @@ use Rattle.osc_model.specs.declared.request.Request.{Request}
 use Rattle.osc_model.specs.declared.step.Datagram.{Datagram}
 use Rattle.osc_model.specs.declared.step.Entry.{Entry}
 use Rattle.osc_model.specs.declared.step.RefusedRequest.{RefusedRequest}
-use Rattle.osc_log.specs.Code.{code_text, line}
+use Rattle.osc_log.specs.LineEnd.{line}
+use Rattle.osc_model.specs.{code_text}
 use Rattle.osc_log.specs.Kinds.{kind_words}
 use Rattle.osc_log.specs.Turns.{Turn, code_in}
 use Rattle.osc_log.specs.Words.{code_words, method_text, path_text, reason_words}

@@ -4,7 +4,7 @@ use Rattle.osc_model.specs.Refusals as refusal
 use Rattle.osc_model.specs.declared.code.Code.{Code}
 use Rattle.osc_model.specs.declared.code.Method.{Method}
 use Rattle.osc_scope.specs.{name_of}
-use Rattle.osc_log.specs.Code.{code_text}
+use Rattle.osc_model.specs.{code_text}
 
 -- ---- what was asked
 
@@ -45,7 +45,7 @@ reason_words number =
 abbrev pub code_words : ℕ → List ℕ
 code_words code =
     if code == 129 then codes "it is not protected"
-    else (if code == 130 then codes "it has an option that can not be heeded"
+    else (if code == 130 then codes "it has an option that can not be accepted"
     else (if code == 132 then codes "there is nothing here but what is forwarded"
     else (if code == 133 then codes "its method is none of this path"
     else (if code == 141 then codes "it is too long to be forwarded"

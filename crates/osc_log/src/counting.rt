@@ -4,14 +4,14 @@ ghost use Rattle.osc_log.specs.Counters as spec;
 ghost use Rattle.osc_log.specs.Inner.Building.{line_of};
 
 use crate::counters::Counters;
-use crate::held::{Held, Holds};
-use crate::line::Line;
+use crate::held::{Held, TellsHeld};
+use crate::line::LogLine;
 use crate::turn::{Telling, Turn};
 use osc_model::Moment;
 use std::alloc::{AllocError, Global};
 
 /// The line of the counters with this turn, where they are due, and else nothing.
-pub(crate) fn hourly_text<N: Holds>(
+pub(crate) fn hourly_text<N: TellsHeld>(
     alloc: Global,
     telling: &Telling<'_>,
     turn: &Turn<'_>,
@@ -38,7 +38,7 @@ fn counted_text(
 ) -> Result<Vec<u8>, AllocError>
     ensures { IfOk result (λ text. text.items ≡ spec.counted_text telling.entry.now now counters.now held) }
 {
-    let line = Line::new(alloc, telling.form(), now, telling.time(), "counted")?
+    let line = LogLine::new(alloc, telling.form(), now, telling.time(), "counted")?
         .number(alloc, "received", counters.received)?
         .number(alloc, "sent", counters.sent)?
         .number(alloc, "served", counters.served)?
@@ -46,7 +46,7 @@ fn counted_text(
     with_held(alloc, held, with_counts(alloc, &counters.reasons, line)?)?.ended(alloc)
 }
 
-fn with_counts(alloc: Global, counts: &[u64], line: Line) -> Result<Line, AllocError>
+fn with_counts(alloc: Global, counts: &[u64], line: LogLine) -> Result<LogLine, AllocError>
     ensures { IfOk result (λ more. line_of more ≡ spec.with_counts 0 counts.now (line_of line)) }
 {
     let mut more = line;
@@ -58,7 +58,7 @@ fn with_counts(alloc: Global, counts: &[u64], line: Line) -> Result<Line, AllocE
     Ok(more)
 }
 
-fn with_count(alloc: Global, place: usize, count: u64, line: Line) -> Result<Line, AllocError>
+fn with_count(alloc: Global, place: usize, count: u64, line: LogLine) -> Result<LogLine, AllocError>
     ensures { IfOk result (λ more. line_of more ≡ spec.with_count place count (line_of line)) }
 {
     if count == 0 {
@@ -74,7 +74,7 @@ fn key_of(alloc: Global, place: usize) -> Result<String, AllocError>
     format!(in alloc; "refused_{place}")
 }
 
-fn with_held(alloc: Global, held: Held, line: Line) -> Result<Line, AllocError>
+fn with_held(alloc: Global, held: Held, line: LogLine) -> Result<LogLine, AllocError>
     ensures { IfOk result (λ more. line_of more ≡ spec.with_held held (line_of line)) }
 {
     match held {

@@ -74,7 +74,7 @@ pub(crate) fn unsaid_line(form: Form) -> &'static [u8]
 
 // ---- in words
 
-/// So many lines couldn't be written, up to this time.
+/// This number of lines couldn't be written, up to this time.
 pub(crate) fn dropped_line(
     alloc: Global,
     form: Form,

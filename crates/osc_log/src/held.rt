@@ -11,7 +11,7 @@ pub enum Held {
 }
 
 /// A node that tells what it holds.
-pub trait Holds {
+pub trait TellsHeld {
     ghost use Rattle.osc_log.specs.declared.held.Held.{Held};
 
     // What it holds.

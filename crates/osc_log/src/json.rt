@@ -4,7 +4,6 @@ ghost use Rattle.osc_log.specs.Inner.Objects.{members_of};
 ghost use Rattle.osc_log.specs.Json as spec;
 ghost use Rattle.osc_log.specs.Turns.{code_in as code_of};
 
-use crate::code::CodeText;
 use crate::kind::Kind;
 use crate::object::Object;
 use crate::turn::{Telling, Turn};
@@ -65,7 +64,7 @@ fn to_peer(alloc: Global, time: &str, level: &str, peer: Peer) -> Result<Object,
 fn with_code(alloc: Global, o: Object, code: u8) -> Result<Object, AllocError>
     ensures { IfOk result (λ more. members_of more ≡ spec.with_code code (members_of o)) }
 {
-    let code = CodeText(code).to_string(alloc)?;
+    let code = Code(code).to_string(alloc)?;
     o.with_text(alloc, "code", &code)
 }
 

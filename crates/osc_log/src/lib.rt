@@ -2,7 +2,6 @@
 #![tactic(auto)]
 
 mod at_once;
-mod code;
 mod counters;
 mod counting;
 mod faults;
@@ -24,7 +23,7 @@ mod words;
 
 pub use at_once::AtOnce;
 pub use form::Form;
-pub use held::{Held, Holds};
+pub use held::{Held, TellsHeld};
 pub use log::{Faults, Lines, Log, Silent};
 pub use turn::Turn;
 pub use words::shown;

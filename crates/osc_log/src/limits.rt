@@ -19,7 +19,7 @@ pub(crate) struct Tally {
 }
 
 impl Tally {
-    /// None was told, and none left out.
+    /// No line was told, and none left out.
     pub fn none() -> Tally
         ensures { result ≡ spec.no_lines }
     {

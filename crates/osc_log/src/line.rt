@@ -11,12 +11,12 @@ use std::alloc::{AllocError, Global};
 
 /// A line as it grows: its text, or the members of its object.
 #[derive(Drop)]
-pub(crate) enum Line {
+pub(crate) enum LogLine {
     Text(Vec<u8>),
     Json(Object),
 }
 
-impl Line {
+impl LogLine {
     /// A line of this moment, time and level.
     pub fn new(
         alloc: Global,
@@ -24,26 +24,26 @@ impl Line {
         now: Moment,
         time: &str,
         level: &str,
-    ) -> Result<Line, AllocError>
+    ) -> Result<LogLine, AllocError>
         ensures { IfOk result (λ line. line_of line ≡ spec.begun form now time.now level.now) }
     {
         match form {
-            Form::Text => Ok(Line::Text(begun_text(alloc, now, level)?)),
-            Form::Json => Ok(Line::Json(Object::begun(alloc, time, level)?)),
+            Form::Text => Ok(LogLine::Text(begun_text(alloc, now, level)?)),
+            Form::Json => Ok(LogLine::Json(Object::begun(alloc, time, level)?)),
         }
     }
 
     /// The same with a number under this key.
-    pub fn number(self, alloc: Global, key: &str, n: u64) -> Result<Line, AllocError>
+    pub fn number(self, alloc: Global, key: &str, n: u64) -> Result<LogLine, AllocError>
         ensures { IfOk result (λ line. line_of line ≡ spec.with_number key.now n (line_of self)) }
     {
         match self {
-            Line::Text(text) => Ok(Line::Text(with_field(
+            LogLine::Text(text) => Ok(LogLine::Text(with_field(
                 text,
                 key,
                 n.to_string(alloc)?.as_str(),
             )?)),
-            Line::Json(members) => Ok(Line::Json(members.with_number(alloc, key, n)?)),
+            LogLine::Json(members) => Ok(LogLine::Json(members.with_number(alloc, key, n)?)),
         }
     }
 
@@ -52,8 +52,8 @@ impl Line {
         ensures { IfOk result (λ text. text.items ≡ spec.ended (line_of self)) }
     {
         match self {
-            Line::Text(text) => ended_text(text),
-            Line::Json(members) => members.line(alloc),
+            LogLine::Text(text) => ended_text(text),
+            LogLine::Json(members) => members.line(alloc),
         }
     }
 }

@@ -7,7 +7,7 @@ ghost use Rattle.osc_log.specs.Log as spec;
 use crate::counters::Counters;
 use crate::faults::{dropped_line, fault_line, lost_line, unsaid_line, untold_line};
 use crate::form::Form;
-use crate::held::Holds;
+use crate::held::TellsHeld;
 use crate::seen::Seen;
 use crate::time::time_text;
 use crate::told::told_text;
@@ -24,8 +24,9 @@ pub trait Log {
     ghost told: { Self → Told };
 
     /// Tells of a turn of this node, by a line for each datagram that it sent, and by one of counters where these are due; or, by one line,
-    /// that there was no memory for them. It may leave lines out where there are many of their kind, but none of what was served. What can't be written is nobody's failure.
-    fn turn<N: Holds>(&mut self, alloc: Global, turn: &Turn<'_>, node: &N)
+    /// that there was no memory for them. It may leave lines out where there are many of their kind, but none of what was served. What can't be
+    /// written is no failure.
+    fn turn<N: TellsHeld>(&mut self, alloc: Global, turn: &Turn<'_>, node: &N)
         ensures { spec.Tells (told self.old) (told self.new) (spec.turned turn.entry.now (N.held node.now) ∷ []) };
 
     /// Tells that there was no memory for the step of what came at this moment.
@@ -44,7 +45,7 @@ pub struct Silent;
 impl Log for Silent {
     ghost told = { λ _. spec.unseen };
 
-    fn turn<N: Holds>(&mut self, _alloc: Global, _turn: &Turn<'_>, _node: &N) {}
+    fn turn<N: TellsHeld>(&mut self, _alloc: Global, _turn: &Turn<'_>, _node: &N) {}
 
     fn lost(&mut self, _now: Moment) {}
 
@@ -65,7 +66,7 @@ impl<W: Write + Drop> Faults<W> {
         Faults { writer }
     }
 
-    // What can't be written is nobody's failure.
+    // What can't be written is no failure.
     fn tell(&mut self, alloc: Global, words: &str) {
         if let Ok(text) = fault_line(alloc, Form::Text, None, words) {
             let _told = self.writer.write_all(&text);
@@ -77,7 +78,7 @@ impl<W: Write + Drop> Log for Faults<W> {
     // Contracts see nothing of what it tells.
     ghost told = { λ _. spec.unseen };
 
-    fn turn<N: Holds>(&mut self, _alloc: Global, _turn: &Turn<'_>, _node: &N) {}
+    fn turn<N: TellsHeld>(&mut self, _alloc: Global, _turn: &Turn<'_>, _node: &N) {}
 
     fn lost(&mut self, _now: Moment) {}
 
@@ -195,7 +196,7 @@ impl<W: Write + Drop> Lines<W> {
 impl<W: Write + Drop> Log for Lines<W> {
     ghost told = { λ lines. record { form = lines.form; dropped = lines.dropped; seen = Some lines.seen; text = W.contents lines.writer } };
 
-    fn turn<N: Holds>(&mut self, alloc: Global, turn: &Turn<'_>, node: &N) {
+    fn turn<N: TellsHeld>(&mut self, alloc: Global, turn: &Turn<'_>, node: &N) {
         self.tell_dropped(alloc, turn.moment());
         let counters = self.seen.counters.after_turn(turn);
         match told_text(alloc, self.form, turn, node, &mut self.seen) {

@@ -2,7 +2,6 @@
 ghost use Rattle.std.specs.Prelude.{◌≡◌, ◌++◌, IfOk, Ok, option_map, string_bytes};
 ghost use Rattle.osc_log.specs.Text as spec;
 
-use crate::code::CodeText;
 use crate::kind::Kind;
 use crate::turn::Turn;
 use crate::words::{code_words, method_text, path_text, reason_words};
@@ -48,7 +47,7 @@ fn what_text(alloc: Global, turn: &Turn<'_>, bytes: &[u8]) -> Result<Vec<u8>, Al
 fn sent_text(alloc: Global, bytes: &[u8]) -> Result<Vec<u8>, AllocError>
     ensures { IfOk result (λ text. text.items ≡ spec.sent_text bytes.now) }
 {
-    let code = CodeText(bytes.get(1).copied().unwrap_or(0));
+    let code = Code(bytes.get(1).copied().unwrap_or(0));
     let text = format!(in alloc; "sent {code}")?;
     Vec::from_slice(alloc, text.as_bytes())
 }
@@ -96,7 +95,7 @@ fn served_text(alloc: Global, entry: &Entry) -> Result<Vec<u8>, AllocError>
     ensures { IfOk result (λ text. text.items ≡ spec.served_text entry.now) }
 {
     let asked = asked_text(alloc, &entry.request)?;
-    let code = CodeText(entry.reply.code.0);
+    let code = entry.reply.code;
     let answered = format!(in alloc; ": {code}")?;
     let mut text = Vec::from_slice(alloc, b"served ")?;
     text.extend_from_slice(&asked)?;
@@ -137,7 +136,7 @@ fn refused_text(alloc: Global, refused: RefusedRequest) -> Result<Vec<u8>, Alloc
 fn refused_line(alloc: Global, refused: RefusedRequest) -> Result<String, AllocError>
     ensures { IfOk result (λ text. string_bytes text ≡ spec.refused_text refused) }
 {
-    let code = CodeText(refused.code.0);
+    let code = refused.code;
     let why = why_text(alloc, refused.code, refused.reason)?;
     format!(in alloc; "refused {code}: {why}")
 }

@@ -6,7 +6,7 @@ ghost use Rattle.osc_log.specs.Sent as spec;
 
 use crate::counting::hourly_text;
 use crate::form::Form;
-use crate::held::Holds;
+use crate::held::TellsHeld;
 use crate::kind::Kind;
 use crate::limits::{Limits, Tally};
 use crate::seen::Seen;
@@ -17,7 +17,7 @@ use osc_model::{Datagram, Moment};
 use std::alloc::{AllocError, Global};
 
 /// The lines that are told of a turn. On success this was seen, but for the counters, which stay; without memory for it nothing was.
-pub(crate) fn told_text<N: Holds>(
+pub(crate) fn told_text<N: TellsHeld>(
     alloc: Global,
     form: Form,
     turn: &Turn<'_>,
@@ -34,7 +34,7 @@ pub(crate) fn told_text<N: Holds>(
     Ok(text)
 }
 
-fn text_of<N: Holds>(
+fn text_of<N: TellsHeld>(
     alloc: Global,
     form: Form,
     turn: &Turn<'_>,
@@ -49,7 +49,7 @@ fn text_of<N: Holds>(
 }
 
 // The same at this time.
-fn text_at<N: Holds>(
+fn text_at<N: TellsHeld>(
     alloc: Global,
     form: Form,
     time: &str,

@@ -4,7 +4,6 @@ ghost use Rattle.osc_model.specs.{method_of};
 ghost use Rattle.osc_scope.specs.{name_of};
 ghost use Rattle.osc_log.specs.Words as spec;
 
-use crate::code::CodeText;
 use osc_model::{Code, Method, Path, refusals};
 use std::alloc::{AllocError, Global};
 
@@ -16,7 +15,7 @@ pub(crate) fn method_text(alloc: Global, request: Code) -> Result<String, AllocE
 {
     match Method::from_code(request) {
         Some(method) => method_name(method).to_string(alloc),
-        None => CodeText(request.0).to_string(alloc),
+        None => request.to_string(alloc),
     }
 }
 
@@ -112,7 +111,7 @@ pub(crate) fn code_words(code: u8) -> &'static str
 {
     match code {
         129 => "it is not protected",
-        130 => "it has an option that can not be heeded",
+        130 => "it has an option that can not be accepted",
         132 => "there is nothing here but what is forwarded",
         133 => "its method is none of this path",
         141 => "it is too long to be forwarded",

@@ -9,7 +9,7 @@ use Rattle.osc_coap.specs.Message.{Message as CoapMessage}
 use Rattle.osc_coap.specs.declared.kind.Kind.{Kind}
 use Rattle.osc_coap.specs.declared.kind.Kind.TheVariants.{Confirmable, NonConfirmable, Acknowledgement, Reset as ResetKind}
 use Rattle.osc_dedup.specs.{Entry, looked}
-use Rattle.osc_dedup.specs.declared.table.Noted.{Noted}
+use Rattle.osc_dedup.specs.declared.table.Remembered.{Remembered}
 use Rattle.osc_message.specs.Heard as heard_of
 use Rattle.osc_message.specs.{AnswersAlone, IsAlone, empty_heard, heard, ignores, is_reserved, new_or_repeated, noted_reply, rejected, rejects, repeats, HasShortId, Receives, rejection, reset}
 use Rattle.osc_message.specs.declared.heard.Heard.{Heard}
@@ -52,9 +52,9 @@ module _ (seen : List Entry) (now : Moment) (from : Peer) where
   repeated_tells x Acknowledgement reply is = λ spelled. ignores refl
   repeated_tells x ResetKind reply is = λ spelled. ignores refl
 
-  looked_tells : (x : CoapMessage) (found : Option Noted) → looked now from x.id seen ≡ found → Told (received.Message x) (new_or_repeated from x found)
+  looked_tells : (x : CoapMessage) (found : Option Remembered) → looked now from x.id seen ≡ found → Told (received.Message x) (new_or_repeated from x found)
   looked_tells x None is = refl
-  looked_tells x (Some noted) is = repeated_tells x x.kind noted.reply (ap (λ o. option_and_then (λ (n : Noted). n.reply) o) is)
+  looked_tells x (Some noted) is = repeated_tells x x.kind noted.reply (ap (λ o. option_and_then (λ (n : Remembered). n.reply) o) is)
 
   acknowledgement_tells : (asks : Bool) (x : CoapMessage) → Told (received.Message x) (if asks then heard_of.ignored else Message x)
   acknowledgement_tells true x = λ spelled. ignores refl

@@ -251,7 +251,7 @@ held_all now p all earlier [] one = omega arith
 held_all now p all earlier (message ∷ later) one =
     held now p all earlier message message.sent _ later (is_to p message) refl refl one (held_all now p all (earlier ++ message ∷ []) later one)
 
--- ---- where none is, the first alone goes out
+-- ---- where nothing is outstanding to the peer, the first alone goes out
 
 pub open_push : (p : Peer) (earlier : List Open) (message : Open) (to : Bool) → is_to p message ≡ to → has_open p (earlier ++ message ∷ []) ≡ (has_open p earlier || (to || false))
 open_push p earlier message to e = list_any-append (is_to p) earlier (message ∷ []) ∙ ap (λ b. has_open p earlier || (b || false)) e

@@ -85,7 +85,7 @@ bounded_at_place xs i x inside is all =
 
 -- ---- as many peers as first messages
 
--- one message more is one peer more where none is open to it
+-- one message more is one peer more where its peer has none open
 peers_more : (m : Open) (xs : List Open) → length (peers_of (xs ++ m ∷ [])) ≡ length (peers_of xs) + weight (not (has_open m.to xs))
 peers_more m [] = refl
 peers_more m (x ∷ xs) = by (same_peer m.to x.to) (has_open x.to xs) (has_open m.to xs) refl refl refl (peers_more m xs)

@@ -6,7 +6,7 @@ use Rattle.std.specs.Option.{option_map}
 use Rattle.std.proofs.lemmas.List.Elements.{All-nil, All-head, All-tail, All-push, All-filter, All-drop}
 use Rattle.osc_coap.specs.declared.kind.Kind.{Kind}
 use Rattle.osc_coap.specs.declared.kind.Kind.TheVariants.{Confirmable, NonConfirmable, Acknowledgement, Reset}
-use Rattle.osc_dedup.specs.declared.table.Noted.{Noted}
+use Rattle.osc_dedup.specs.declared.table.Remembered.{Remembered}
 use Rattle.osc_dedup.specs.{most_entries, Entry, is_alive, is_of, staying, with_note, alive, looked}
 use Rattle.osc_model.specs.declared.bytes.Bytes.{Bytes}
 use Rattle.osc_model.specs.declared.node.Moment.{Moment}
@@ -19,7 +19,7 @@ IsShort entry = IsSendableReply entry.noted.reply
 
 -- ---- a note more, and fewer
 
-pub with_note_short : (now : Moment) (peer : Peer) (id : ℕ) (new : Noted) (seen : List Entry) → IsSendableReply new.reply → AreShort seen → AreShort (with_note now peer id new seen)
+pub with_note_short : (now : Moment) (peer : Peer) (id : ℕ) (new : Remembered) (seen : List Entry) → IsSendableReply new.reply → AreShort seen → AreShort (with_note now peer id new seen)
 with_note_short now peer id new seen reply short =
     let others = staying now peer id seen in
     let stay : All IsShort others = All-filter (λ entry. is_alive now entry && not (is_of peer id entry)) IsShort seen short in
@@ -61,9 +61,9 @@ reply_fits seen now peer id short =
     reply_short (find (is_of peer id) (alive now seen)) (found (is_of peer id) (alive now seen) (alive_short now seen short))
 
 -- what is looked up, where it is found
-pub looked_fits : (seen : List Entry) (now : Moment) (peer : Peer) (id : ℕ) (found : Noted) → AreShort seen → looked now peer id seen ≡ Some found → IsSendableReply found.reply
+pub looked_fits : (seen : List Entry) (now : Moment) (peer : Peer) (id : ℕ) (found : Remembered) → AreShort seen → looked now peer id seen ≡ Some found → IsSendableReply found.reply
 looked_fits seen now peer id found short is =
-    let same : noted_reply seen now peer id ≡ found.reply = ap (λ o. option_and_then (λ (noted : Noted). noted.reply) o) is in
+    let same : noted_reply seen now peer id ≡ found.reply = ap (λ o. option_and_then (λ (noted : Remembered). noted.reply) o) is in
     subst IsSendableReply same (reply_fits seen now peer id short)
 
 -- ---- what is sent

@@ -73,7 +73,7 @@ unfolding IsDistinct
 peers_distinct [] = tt
 peers_distinct (m ∷ later) = (all_others m.to (peers_of later), distinct_others m.to (peers_of later) (peers_distinct later))
 
--- where none is the same as p, none goes
+-- where no peer is the same as p, none goes
 none_goes : (p x : Peer) (xs : List Peer) → same_peer p x ≡ true → AllByRecursion (λ y. same_peer x y ≡ false) xs → length (others p xs) ≡ length xs
 none_goes p x [] same apart = refl
 none_goes p x (y ∷ xs) same apart =

@@ -73,7 +73,7 @@ added_or_lost f pair (Some ys) (Some more) total pairs rest split before (given,
     let same : ys ≡ given = cc in
     added f pair ys more total pairs rest split before (is ∙ ap (λ b. b ++ option_to_list (f pair)) (sym same))
 
--- one more comes to no more than all of them
+-- with one more they are no more than all of them
 pub room_for_one : {Y : Type 0} (f : Open × Due → Option Y) (pair : Open × Due) (old total : List Y) (pairs rest : List (Open × Due)) → pairs ≡ pair ∷ rest
     → old ++ filter_map f pairs ≡ total → length total ≤ 64 → length old + length (option_to_list (f pair)) ≤ 64
 room_for_one f pair old total pairs rest split whole few =

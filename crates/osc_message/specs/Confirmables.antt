@@ -45,7 +45,7 @@ peers_of (message ∷ later) = message.to ∷ filter (λ peer. not (same_peer me
 abbrev pub takes : Peer → List Open → Bool
 takes peer all = if has_open peer all then nat_lt (waiting peer all) 16 else nat_lt (length (peers_of all)) 64
 
--- the same in places for so many messages in all
+-- the same with `places` places for messages in all
 abbrev pub takes_in : ℕ → Peer → List Open → Bool
 takes_in places peer all = takes peer all && nat_lt (length all) places
 

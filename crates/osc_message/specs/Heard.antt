@@ -9,7 +9,7 @@ use Rattle.osc_coap.specs.declared.kind.Kind.{Kind}
 use Rattle.osc_coap.specs.declared.kind.Kind.TheVariants.{Confirmable, Acknowledgement, Reset as ResetKind}
 use Rattle.osc_coap.specs.{is_request_code, HasSpelling}
 use Rattle.osc_coap.specs.Message.{Message as CoapMessage}
-use Rattle.osc_dedup.specs.declared.table.Noted.{Noted}
+use Rattle.osc_dedup.specs.declared.table.Remembered.{Remembered}
 use Rattle.osc_dedup.specs.{Entry, looked}
 use Rattle.osc_message.specs.Sending.{AreSendable, again, datagram, rejection, reset}
 use Rattle.osc_message.specs.declared.received.Received.{Received}
@@ -41,7 +41,7 @@ abbrev pub repeated : Peer → Kind → Option Bytes → Heard
 repeated from Confirmable reply = Alone (again from reply)
 repeated from kind reply = ignored
 
-abbrev pub new_or_repeated : Peer → CoapMessage → Option Noted → Heard
+abbrev pub new_or_repeated : Peer → CoapMessage → Option Remembered → Heard
 new_or_repeated from message None = Message message
 new_or_repeated from message (Some noted) = repeated from message.kind noted.reply
 

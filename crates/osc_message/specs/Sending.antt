@@ -80,7 +80,7 @@ GoesOut true due out = out ≡ []
 
 -- ---- how long they are
 
--- a datagram carries so many bytes (section 4.6)
+-- a datagram can carry these bytes (section 4.6)
 abbrev pub FitsDatagram : Bytes → Type 0
 FitsDatagram bytes = length bytes ≤ datagram_limit
 

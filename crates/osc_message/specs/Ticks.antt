@@ -22,7 +22,7 @@ abbrev pub outstanding_due : Moment → Open → Sent → Due
 outstanding_due now message sent =
     if nat_lt now.ms (due_at message sent) then Keep else if nat_lt sent.repeats most_repeats then Send else GiveUp
 
--- A waiting message goes out where none is outstanding to its peer and none was made before it.
+-- A waiting message goes out where no message is outstanding to its peer and none was made before it.
 abbrev pub waiting_due : List Open → List Open → Open → Due
 waiting_due all earlier message = if has_outstanding message.to all || has_open message.to earlier then Keep else Send
 

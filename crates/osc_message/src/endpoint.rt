@@ -35,7 +35,7 @@ use std::alloc::{AllocError, Global};
 use std::marker::Model;
 use thiserror::Error;
 
-/// A confirmable message isn't taken: 16 others wait for its peer, or none is open to it and 64 other peers have one.
+/// A confirmable message isn't taken: 16 others wait for its peer, or its peer has none open and 64 other peers have one.
 #[derive(Clone, Copy, Debug, PartialEq, Eq, Error)]
 #[error("too many confirmable messages are open")]
 pub struct QueueFull;
@@ -51,7 +51,7 @@ impl QueueFull {
 
 /// The message layer of a node: what was heard lately, the open confirmable messages, and the node's own message IDs.
 ///
-/// All the room that it needs for messages, but for their bytes, is taken when it is made: 64 notes, and places for so many confirmable
+/// All the room that it needs for messages, but for their bytes, is taken when it is made: 64 notes, and places for as many confirmable
 /// messages as the node may have open at once. A node that sends none has 0, one that awaits one thing at a time 1, and `MOST_OPEN` are
 /// enough for any: to each of 64 peers one message that is outstanding and 16 that wait.
 pub struct Endpoint<const PLACES: usize> {
@@ -144,7 +144,7 @@ impl<const PLACES: usize> Endpoint<PLACES> {
 
     /// A message came that the node has no use for: the step that rejects it, where it is confirmable, and else sends nothing. It isn't
     /// noted, and an acknowledgement acknowledges all the same. Memory is taken for the Reset alone; without it nothing has changed.
-    pub fn pass_over(
+    pub fn reject(
         &mut self,
         alloc: Global,
         now: Moment,
@@ -262,7 +262,7 @@ impl<const PLACES: usize> Endpoint<PLACES> {
     ///
     /// # Errors
     ///
-    /// `QueueFull` exactly where 16 others wait for the peer, or none is open to it and 64 others have one, or all places are taken,
+    /// `QueueFull` exactly where 16 others wait for the peer, or it has none open and 64 others have one, or all places are taken,
     /// which `MOST_OPEN` never are; nothing is changed then.
     pub fn send(
         &mut self,
@@ -319,7 +319,7 @@ impl<const PLACES: usize> Endpoint<PLACES> {
 
     /// The first moment at which a tick sends or gives up anything, in ms, or none where no tick would.
     ///
-    /// The work grows with the number of open messages, and so again for each peer to which one waits and none is outstanding.
+    /// The work grows with the number of open messages, and so again for each peer to which one waits and nothing is outstanding.
     pub fn next_deadline(&self) -> Option<u64>
         ensures some { IfSome result (λ deadline. (now : AnyMoment) → (acts now self.now.sending ≡ true) ↔ (deadline ≤ now.ms)) }
         ensures none { IfNone result ((now : AnyMoment) → acts now self.now.sending ≡ false) }

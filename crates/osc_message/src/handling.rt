@@ -9,7 +9,7 @@ ghost use Rattle.osc_message.specs.Sending.{IsSendableHandling, IsSendableReply}
 use crate::confirmable::acknowledge;
 use crate::queued::Queued;
 use osc_coap::{Kind, MessageRef};
-use osc_dedup::{Duplicates, Noted};
+use osc_dedup::{Duplicates, Remembered};
 use osc_model::limits::{EXCHANGE_LIFETIME, NON_LIFETIME};
 use osc_model::{Bytes, Moment, Peer};
 
@@ -47,7 +47,7 @@ fn note(seen: &mut Duplicates, now: Moment, from: Peer, kind: Kind, id: u16, rep
             now,
             from,
             id,
-            Noted {
+            Remembered {
                 until: now.ms + lifetime(kind),
                 reply,
             },

@@ -29,7 +29,7 @@ pub use endpoint::{Endpoint, QueueFull};
 pub use handling::Handling;
 pub use heard::Heard;
 pub use name::{GivenUp, MessageName};
-pub use outbox::{Buffer, CopyRoom, Outbox, ReplyRoom};
+pub use outbox::{CopyRoom, MessageRoom, Outbox, ReplyRoom};
 pub use queue::MOST_OPEN;
 pub use received::{Received, receive};
 pub use sending::{

@@ -8,12 +8,12 @@ use std::marker::Model;
 
 /// Room for the bytes of one message, before they are known; contracts see how many bytes it is for.
 #[derive(Drop)]
-pub struct Buffer {
+pub struct MessageRoom {
     bytes: Vec<u8>,
     size: usize,
 }
 
-impl Model for Buffer {
+impl Model for MessageRoom {
     ghost use Rattle.std.specs.Prelude.{ℕ, ◌≡◌, ◌≤◌, [], vec_capacity, vec_len};
 
     ghost Value = { ℕ };
@@ -23,12 +23,12 @@ impl Model for Buffer {
     ghost invariant = { λ b. (b.bytes.items ≡ []) × (vec_len b.bytes ≡ 0) × (b.size ≤ vec_capacity b.bytes) };
 }
 
-impl Buffer {
-    /// Room for so many bytes.
-    pub fn new(alloc: Global, size: usize) -> Result<Buffer, AllocError>
+impl MessageRoom {
+    /// Room for `size` bytes.
+    pub fn new(alloc: Global, size: usize) -> Result<MessageRoom, AllocError>
         ensures { IfOk result (λ buffer. buffer ≡ size) }
     {
-        Ok(Buffer {
+        Ok(MessageRoom {
             bytes: Vec::with_capacity(alloc, size)?,
             size,
         })
@@ -39,7 +39,7 @@ impl Buffer {
         requires { length bytes.now ≤ self }
         ensures { result ≡ bytes.now }
     {
-        let Buffer {
+        let MessageRoom {
             bytes: mut room,
             ..
         } = self;
@@ -52,7 +52,7 @@ impl Buffer {
         ensures empty { (result.items ≡ []) × (vec_len result ≡ 0) }
         ensures room { self ≤ vec_capacity result }
     {
-        let Buffer { bytes, .. } = self;
+        let MessageRoom { bytes, .. } = self;
         bytes
     }
 }
@@ -76,7 +76,7 @@ impl Model for Outbox {
 }
 
 impl Outbox {
-    /// Places for so many datagrams.
+    /// Room for `places` datagrams.
     pub fn new(alloc: Global, places: usize) -> Result<Outbox, AllocError>
         ensures { IfOk result (λ outbox. outbox ≡ record { sent = []; places = places }) }
     {
@@ -107,7 +107,7 @@ impl Outbox {
 /// Room for a reply: its bytes twice, to be sent and to be noted for a repeat. Contracts see how many bytes it is for.
 #[derive(Drop)]
 pub struct ReplyRoom {
-    sent: Buffer,
+    sent: MessageRoom,
     noted: CopyRoom,
 }
 
@@ -122,12 +122,12 @@ impl Model for ReplyRoom {
 }
 
 impl ReplyRoom {
-    /// Room for a reply of so many bytes.
+    /// Room for a reply of `size` bytes.
     pub fn new(alloc: Global, size: usize) -> Result<ReplyRoom, AllocError>
         ensures { IfOk result (λ room. room ≡ size) }
     {
         Ok(ReplyRoom {
-            sent: Buffer::new(alloc, size)?,
+            sent: MessageRoom::new(alloc, size)?,
             noted: CopyRoom::new(alloc, size)?,
         })
     }
@@ -144,7 +144,7 @@ impl ReplyRoom {
     }
 
     /// Room for the bytes that are sent, and room for their copy; takes no memory.
-    pub fn open(self) -> (Buffer, CopyRoom)
+    pub fn open(self) -> (MessageRoom, CopyRoom)
         ensures { (result.0 ≡ self) × (result.1 ≡ self) }
     {
         let ReplyRoom { sent, noted } = self;
@@ -155,7 +155,7 @@ impl ReplyRoom {
 /// Room for a reply's copy, which is noted for a repeat. Contracts see how many bytes it is for.
 #[derive(Drop)]
 pub struct CopyRoom {
-    copy: Buffer,
+    copy: MessageRoom,
     alloc: Global,
 }
 
@@ -168,12 +168,12 @@ impl Model for CopyRoom {
 }
 
 impl CopyRoom {
-    /// Room for a copy of so many bytes.
+    /// Room for a copy of `size` bytes.
     fn new(alloc: Global, size: usize) -> Result<CopyRoom, AllocError>
         ensures { IfOk result (λ room. room ≡ size) }
     {
         Ok(CopyRoom {
-            copy: Buffer::new(alloc, size)?,
+            copy: MessageRoom::new(alloc, size)?,
             alloc,
         })
     }

@@ -3,7 +3,7 @@ use Rattle.std.proofs.Common.{true, append-nil, ◌≡◌, ◌-◌, ◌≤◌, �
 use Rattle.std.proofs.lemmas.List.{append_assoc, length-drop, map-append, take_all, take_min}
 use Rattle.osc_model.specs.{IsPath, path_text, are_segments, pieces}
 
--- where so many pieces are all of them, more are as many
+-- two limits that are both enough for a text give the same pieces
 pub enough : (n m : ℕ) (text : List ℕ) → length text ≤ n → length text ≤ m → pieces n text ≡ pieces m text
 unfolding pieces
 enough zero zero text _ _ = refl

@@ -54,7 +54,7 @@ unfoldable pub apply : Option (List ℕ) → Tree → Scope → Request → Outc
 apply root tree scope request = apply_at root tree scope request.path request
 
 -- The first two checks are of a plaintext's bytes (RFC 8613 section 5.3): reading them gives the request, or the code
--- that answers, 4.00 where they are no code, options and payload, or 4.02 for an option that can't be heeded.
+-- that answers, 4.00 where they are no code, options and payload, or 4.02 for an option that can't be handled.
 abbrev pub apply_read : Option (List ℕ) → Tree → Scope → Result Request Code → Outcome
 apply_read root tree scope (Ok request) = apply root tree scope request
 apply_read root tree scope (Err c) = unchanged tree c

@@ -46,12 +46,12 @@ method_checks method found is_full request =
     ∷ (not (is_some new && is_none found && is_full), code 5 3)
     ∷ []
 
--- From how many resources on none is made at a path. At a server with a revocation path, what isn't below it leaves room for what is.
+-- The number of resources from which on no new one is made at a path. At a server with a revocation path, what isn't below it leaves room for what is.
 abbrev pub most_at : Option (List ℕ) → List ℕ → ℕ
 most_at None path = most_resources
 most_at (Some root) path = if begins_with (segments_of path) (segments_of root) then most_resources else most_elsewhere
 
--- whether so many are there
+-- whether there are at least that many resources
 abbrev pub is_full_at : Option (List ℕ) → Tree → List ℕ → Bool
 is_full_at root tree path = nat_le (most_at root path) (map.len tree)
 

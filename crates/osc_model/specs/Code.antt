@@ -1,5 +1,5 @@
 -- Codes and methods (RFC 7252 sections 3 and 12.1).
-use Rattle.std.specs.Prelude.{◌≡◌, ℕ, Bool, ◌+◌, ◌*◌, ◌==◌, if◌then◌else◌, Option, Some, None, refl}
+use Rattle.std.specs.Prelude.{◌≡◌, ℕ, Bool, ◌+◌, ◌*◌, ◌/◌, ◌%◌, ◌==◌, if◌then◌else◌, List, ◌++◌, Option, Some, None, codes, decimal, refl}
 use Rattle.osc_model.specs.declared.code.Code.{Code}
 use Rattle.osc_model.specs.declared.code.Method.{Method}
 use Rattle.osc_model.specs.declared.code.Method.TheVariants.{Get, Post, Put, Delete}
@@ -7,6 +7,10 @@ use Rattle.osc_model.specs.declared.code.Method.TheVariants.{Get, Post, Put, Del
 -- `code 4 12` is 4.12: the class in three bits, the detail in five
 abbrev pub code : ℕ → ℕ → Code
 code class detail = record { 0 = 32 * class + detail }
+
+-- class, a dot and two digits of detail (RFC 7252 section 3)
+abbrev pub code_text : ℕ → List ℕ
+code_text code = decimal (code / 32) ++ codes "." ++ decimal (code % 32 / 10) ++ decimal (code % 32 % 10)
 
 -- 5.00 Internal Server Error (RFC 7252 section 5.9.3.1)
 abbrev pub is_internal_server_error : Code → Bool

@@ -103,7 +103,7 @@ replay = 23
 
 -- ---- tokens and exchanges
 
--- a scope is none
+-- what should be a scope isn't one
 abbrev pub bad_scope : ℕ
 bad_scope = 24
 

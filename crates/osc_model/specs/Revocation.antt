@@ -7,7 +7,7 @@ use Rattle.hex.specs.Hex.{encode_lower}
 use Rattle.osc_model.specs.Path.{path_of, segments_of}
 use Rattle.osc_model.specs.Tree.{Tree}
 
--- a text in pieces of 32 bytes, the last one with what is left; of an empty text there are none. At most so many are cut off.
+-- a text in pieces of 32 bytes, the last one with what is left; of an empty text there are none. At most this number of pieces is cut off.
 unfoldable pub pieces : ℕ → List ℕ → List (List ℕ)
 pieces zero text = []
 pieces (suc more) [] = []

@@ -11,7 +11,7 @@ use std::marker::Model;
 
 /// The bytes: those of a message's seal take no heap.
 #[derive(Drop)]
-enum Kept {
+enum DataBytes {
     Short(ArrayVec<u8, 32>),
     Long(Bytes),
 }
@@ -20,7 +20,7 @@ enum Kept {
 /// section 5.4), which take no heap; that of a token may be longer (RFC 9052 section 5.3).
 #[derive(Drop)]
 pub struct AssociatedData {
-    kept: Kept,
+    kept: DataBytes,
 }
 
 impl Model for AssociatedData {
@@ -51,7 +51,7 @@ impl AssociatedData {
         let mut short = ArrayVec::new();
         short.try_extend_from_slice(bytes).unwrap();
         AssociatedData {
-            kept: Kept::Short(short),
+            kept: DataBytes::Short(short),
         }
     }
 
@@ -60,7 +60,7 @@ impl AssociatedData {
         ensures { result ≡ bytes }
     {
         AssociatedData {
-            kept: Kept::Long(bytes),
+            kept: DataBytes::Long(bytes),
         }
     }
 
@@ -69,8 +69,8 @@ impl AssociatedData {
         ensures { result.now ≡ self.now }
     {
         match &self.kept {
-            Kept::Short(bytes) => bytes.as_slice(),
-            Kept::Long(bytes) => bytes.as_slice(),
+            DataBytes::Short(bytes) => bytes.as_slice(),
+            DataBytes::Long(bytes) => bytes.as_slice(),
         }
     }
 }
@@ -80,11 +80,11 @@ impl Clone for AssociatedData {
 
     fn clone(&self) -> Result<Self, AllocError> {
         match &self.kept {
-            Kept::Short(bytes) => Ok(AssociatedData {
-                kept: Kept::Short(bytes.clone()?),
+            DataBytes::Short(bytes) => Ok(AssociatedData {
+                kept: DataBytes::Short(bytes.clone()?),
             }),
-            Kept::Long(bytes) => Ok(AssociatedData {
-                kept: Kept::Long(bytes.clone()?),
+            DataBytes::Long(bytes) => Ok(AssociatedData {
+                kept: DataBytes::Long(bytes.clone()?),
             }),
         }
     }

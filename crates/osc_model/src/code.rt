@@ -1,11 +1,23 @@
 //! Codes and methods (RFC 7252 sections 3 and 12.1).
-ghost use Rattle.std.specs.Prelude.{◌≡◌};
-ghost use Rattle.osc_model.specs.Code.{code, method_of, method_number};
+ghost use Rattle.std.specs.Prelude.{◌≡◌, Some};
+ghost use Rattle.osc_model.specs.Code.{code, code_text, method_of, method_number};
+
+use std::fmt;
 
 /// The code of a message: the class times 32 plus the detail, so that 4.04 is `Code(132)` (RFC 7252 section 3).
 /// The constants are responses (section 5.9).
 #[derive(Clone, Copy, Debug, PartialEq, Eq)]
 pub struct Code(pub u8);
+
+/// As the standard writes it: class, a dot and two digits of detail, as `2.05` (RFC 7252 section 3).
+impl fmt::Display for Code {
+    ghost output = { λ code. Some (code_text code.0) };
+
+    fn fmt<W: fmt::Write>(&self, f: &mut fmt::Formatter<W>) -> fmt::Result {
+        let detail = self.0 % 32;
+        write!(f, "{}.{}{}", self.0 / 32, detail / 10, detail % 10)
+    }
+}
 
 impl Code {
     /// 2.01

@@ -14,7 +14,7 @@ const TAG_LIMIT: usize = 8;
 
 /// The bytes of a value: those of an entity-tag take no heap.
 #[derive(Drop)]
-enum Kept {
+enum TagBytes {
     Short(ArrayVec<u8, TAG_LIMIT>),
     Long(Bytes),
 }
@@ -22,7 +22,7 @@ enum Kept {
 /// The value of an If-Match option, which contracts see as the list of its bytes. One of at most 8 bytes takes no heap.
 #[derive(Drop)]
 pub struct ETag {
-    kept: Kept,
+    kept: TagBytes,
 }
 
 impl Model for ETag {
@@ -52,10 +52,10 @@ impl ETag {
         let mut short = ArrayVec::new();
         match short.try_extend_from_slice(bytes) {
             Ok(()) => Ok(ETag {
-                kept: Kept::Short(short),
+                kept: TagBytes::Short(short),
             }),
             Err(_) => Ok(ETag {
-                kept: Kept::Long(Bytes::from_slice(alloc, bytes)?),
+                kept: TagBytes::Long(Bytes::from_slice(alloc, bytes)?),
             }),
         }
     }
@@ -66,8 +66,8 @@ impl ETag {
         ensures { result.now ≡ self.now }
     {
         match &self.kept {
-            Kept::Short(bytes) => bytes.as_slice(),
-            Kept::Long(bytes) => bytes.as_slice(),
+            TagBytes::Short(bytes) => bytes.as_slice(),
+            TagBytes::Long(bytes) => bytes.as_slice(),
         }
     }
 
@@ -84,11 +84,11 @@ impl Clone for ETag {
 
     fn clone(&self) -> Result<Self, AllocError> {
         match &self.kept {
-            Kept::Short(bytes) => Ok(ETag {
-                kept: Kept::Short(bytes.clone()?),
+            TagBytes::Short(bytes) => Ok(ETag {
+                kept: TagBytes::Short(bytes.clone()?),
             }),
-            Kept::Long(bytes) => Ok(ETag {
-                kept: Kept::Long(bytes.clone()?),
+            TagBytes::Long(bytes) => Ok(ETag {
+                kept: TagBytes::Long(bytes.clone()?),
             }),
         }
     }

@@ -25,7 +25,7 @@ impl Moment {
     /// The start.
     pub const START: Moment = Moment { ms: 0 };
 
-    /// The moment of so many milliseconds, if they are below 2^63.
+    /// The moment of `ms` milliseconds, if they are below 2^63.
     pub fn new(ms: u64) -> Option<Moment>
         ensures value { IfSome result (λ moment. moment.ms ≡ ms) }
         ensures some { IsSome result ↔ (ms < 2 ^ 63) }

@@ -54,7 +54,7 @@ impl Path {
     }
 
     /// The path of this text, where it is one: with a `/` before each segment, as in `/a/b`. Without memory for it an
-    /// `AllocError`; a text that is none takes none.
+    /// `AllocError`; a text that is no path takes no memory.
     pub fn from_text(alloc: Global, text: &[u8]) -> Result<Option<Path>, AllocError>
         ensures found { IfOk result (λ found. IfSome found (λ path. path ≡ text.now)) }
         ensures path { IfOk result (λ found. IfSome found (λ path. IsPath path)) }

@@ -69,7 +69,7 @@ pub const NO_CONTEXT: u8 = 22;
 /// A number isn't fresh.
 pub const REPLAY: u8 = 23;
 
-/// A scope is none.
+/// What should be a scope isn't one.
 pub const BAD_SCOPE: u8 = 24;
 
 /// A token opens under no key of the server.

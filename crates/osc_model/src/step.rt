@@ -64,7 +64,7 @@ pub struct Entry {
     pub number: u64,
     /// What was opened.
     pub plaintext: Bytes,
-    /// What was opened, as it is read: a request, or the code of the error that answers what is none (RFC 8613 section 8.2).
+    /// What was opened, as it is read: a request, or the code of the error that answers what is no request (RFC 8613 section 8.2).
     pub request: Result<Request, Code>,
     /// When it was served.
     pub moment: Moment,
@@ -127,14 +127,14 @@ pub struct Datagram {
 
 /// Datagrams where they are kept: one alone takes no heap.
 #[derive(Drop)]
-enum Kept {
+enum OneOrMany {
     One(Global, Datagram),
     Many(Vec<Datagram>),
 }
 
 /// Datagrams in the order in which they are sent; contracts see the list. One alone takes no heap.
 pub struct Datagrams {
-    kept: Kept,
+    kept: OneOrMany,
 }
 
 impl Drop for Datagrams {
@@ -165,7 +165,7 @@ impl Datagrams {
         ensures { result ≡ [] }
     {
         Datagrams {
-            kept: Kept::Many(Vec::new(alloc)),
+            kept: OneOrMany::Many(Vec::new(alloc)),
         }
     }
 
@@ -174,7 +174,7 @@ impl Datagrams {
         ensures { result ≡ datagram ∷ [] }
     {
         Datagrams {
-            kept: Kept::One(alloc, datagram),
+            kept: OneOrMany::One(alloc, datagram),
         }
     }
 
@@ -183,7 +183,7 @@ impl Datagrams {
         ensures { result ≡ items.items }
     {
         Datagrams {
-            kept: Kept::Many(items),
+            kept: OneOrMany::Many(items),
         }
     }
 
@@ -200,8 +200,8 @@ impl Datagrams {
         ensures { result.now ≡ self.now }
     {
         match &self.kept {
-            Kept::One(_, datagram) => slice::from_ref(datagram),
-            Kept::Many(items) => items.as_slice(),
+            OneOrMany::One(_, datagram) => slice::from_ref(datagram),
+            OneOrMany::Many(items) => items.as_slice(),
         }
     }
 
@@ -211,26 +211,26 @@ impl Datagrams {
     {
         let Datagrams { kept } = self;
         match kept {
-            Kept::One(alloc, datagram) => (Some(datagram), Vec::new(alloc)),
-            Kept::Many(items) => (None, items),
+            OneOrMany::One(alloc, datagram) => (Some(datagram), Vec::new(alloc)),
+            OneOrMany::Many(items) => (None, items),
         }
     }
 
-    /// The datagrams in a vector that has room for so many more; without memory they come back as they are.
+    /// The datagrams in a vector that has room for `more` others; without memory they come back as they are.
     pub fn into_vec(self, more: usize) -> Result<Vec<Datagram>, Datagrams>
         ensures ok { IfOk result (λ items. (items.items ≡ self) × (vec_len items + more ≤ vec_capacity items)) }
         ensures err { IfErr result (λ datagrams. datagrams ≡ self) }
     {
         let Datagrams { kept } = self;
         match kept {
-            Kept::One(alloc, datagram) => match room_after_one(alloc, more) {
+            OneOrMany::One(alloc, datagram) => match room_after_one(alloc, more) {
                 Some(mut items) => {
                     items.push_reserved(datagram);
                     Ok(items)
                 }
                 None => Err(Datagrams::one(alloc, datagram)),
             },
-            Kept::Many(mut items) => match items.reserve(more) {
+            OneOrMany::Many(mut items) => match items.reserve(more) {
                 Ok(()) => Ok(items),
                 Err(_) => Err(Datagrams::from_vec(items)),
             },
@@ -239,49 +239,49 @@ impl Datagrams {
 }
 
 /// The allocator of the datagrams.
-fn alloc_of(kept: &Kept) -> Global {
+fn alloc_of(kept: &OneOrMany) -> Global {
     match kept {
-        Kept::One(alloc, _) => *alloc,
-        Kept::Many(items) => *items.allocator(),
+        OneOrMany::One(alloc, _) => *alloc,
+        OneOrMany::Many(items) => *items.allocator(),
     }
 }
 
 /// Adds one at the end; without memory all stays as it was.
-fn push(kept: &mut Kept, datagram: Datagram) -> Result<(), AllocError>
+fn push(kept: &mut OneOrMany, datagram: Datagram) -> Result<(), AllocError>
     ensures ok { OnOk result (listed kept.new ≡ listed kept.old ++ datagram ∷ []) }
     ensures err { OnErr result (listed kept.new ≡ listed kept.old) }
 {
-    let none = Kept::Many(Vec::new(alloc_of(kept)));
+    let none = OneOrMany::Many(Vec::new(alloc_of(kept)));
     let (now, done) = with(mem::replace(kept, none), datagram);
     *kept = now;
     done
 }
 
 /// The same and one more at the end, or, without memory, the same.
-fn with(kept: Kept, datagram: Datagram) -> (Kept, Result<(), AllocError>)
+fn with(kept: OneOrMany, datagram: Datagram) -> (OneOrMany, Result<(), AllocError>)
     ensures ok { OnOk result.1 (listed result.0 ≡ listed kept ++ datagram ∷ []) }
     ensures err { OnErr result.1 (listed result.0 ≡ listed kept) }
 {
     match kept {
-        Kept::One(alloc, first) => match room_after_one(alloc, 1) {
+        OneOrMany::One(alloc, first) => match room_after_one(alloc, 1) {
             Some(mut items) => {
                 items.push_reserved(first);
                 items.push_reserved(datagram);
-                (Kept::Many(items), Ok(()))
+                (OneOrMany::Many(items), Ok(()))
             }
-            None => (Kept::One(alloc, first), Err(AllocError)),
+            None => (OneOrMany::One(alloc, first), Err(AllocError)),
         },
-        Kept::Many(items) if items.is_empty() => {
-            (Kept::One(*items.allocator(), datagram), Ok(()))
+        OneOrMany::Many(items) if items.is_empty() => {
+            (OneOrMany::One(*items.allocator(), datagram), Ok(()))
         }
-        Kept::Many(mut items) => match items.push(datagram) {
-            Ok(()) => (Kept::Many(items), Ok(())),
-            Err(_) => (Kept::Many(items), Err(AllocError)),
+        OneOrMany::Many(mut items) => match items.push(datagram) {
+            Ok(()) => (OneOrMany::Many(items), Ok(())),
+            Err(_) => (OneOrMany::Many(items), Err(AllocError)),
         },
     }
 }
 
-/// Room for one and so many more.
+/// Room for one and `more` others.
 fn room_after_one(alloc: Global, more: usize) -> Option<Vec<Datagram>>
     ensures { IfSome result (λ items. (items.items ≡ []) × (vec_len items ≡ 0) × (more + 1 ≤ vec_capacity items)) }
 {

@@ -9,7 +9,8 @@ use Rattle.osc_coap.specs.{NumberAndValue, bare, payload_of}
 use Rattle.osc_coap.specs.Message.{Message}
 use Rattle.osc_options.specs.declared.table.Class.{Class}
 use Rattle.osc_options.specs.declared.table.Class.TheVariants.{E, U}
-use Rattle.osc_options.specs.{request_plaintext, each, none_match_options, path_options, request_options, segments_of, uint_options, with_request, AreInOrder, inner_options, merge, of_class, of_number, outer_options, plaintext_of, protected, same_class, unprotected, class_of}
+use Rattle.osc_model.specs.{segments_of}
+use Rattle.osc_options.specs.{request_plaintext, each, none_match_options, path_options, request_options, uint_options, with_request, AreInOrder, inner_options, merge, of_class, of_number, outer_options, plaintext_of, protected, same_class, unprotected, class_of}
 use Rattle.osc_options.proofs.MergeLaws.{AreInOrder-filter, AreInOrder-merge, merge-none, of_number-merge, one_merge}
 
 -- ---- merged options of which some are left out

@@ -40,11 +40,11 @@ payload_again (b ∷ bytes) = refl
 -- ---- the options of a reply
 
 -- none of them is critical
-pub reply_heeded : (etag : Option (List ℕ)) (format : Option ℕ) → unrecognised_critical 0 (etag_option etag ++ format_option format) ≡ None
-reply_heeded None None = refl
-reply_heeded None (Some n) = refl
-reply_heeded (Some tag) None = refl
-reply_heeded (Some tag) (Some n) = refl
+pub reply_accepted : (etag : Option (List ℕ)) (format : Option ℕ) → unrecognised_critical 0 (etag_option etag ++ format_option format) ≡ None
+reply_accepted None None = refl
+reply_accepted None (Some n) = refl
+reply_accepted (Some tag) None = refl
+reply_accepted (Some tag) (Some n) = refl
 
 -- an option within its row is recognised
 format_known : (before n : ℕ) → (12 == before) ≡ false → recognised before (format_option (Some n)) ≡ format_option (Some n)
@@ -91,7 +91,7 @@ reply_again reply least most tag number =
     let format = ap (λ (options : List NumberAndValue). option_map uint (value 12 options)) known ∙ format_again reply.etag reply.format number in
     let payload = payload_again reply.payload in
     let read : reply_in (reply_plaintext reply) ≡ made reply (etag_in (value 4 (recognised 0 options))) (option_map uint (value 12 (recognised 0 options))) (unwrap_or (payload_of reply.payload) []) =
-    rw (reply_code reply.code.0 least most, reply_heeded reply.etag reply.format) refl in
+    rw (reply_code reply.code.0 least most, reply_accepted reply.etag reply.format) refl in
     read
     ∙ ap (λ (t : Option (List ℕ)). made reply t (option_map uint (value 12 (recognised 0 options))) (unwrap_or (payload_of reply.payload) [])) etag
     ∙ ap (λ (n : Option ℕ). made reply reply.etag n (unwrap_or (payload_of reply.payload) [])) format

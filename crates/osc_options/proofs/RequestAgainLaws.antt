@@ -9,7 +9,8 @@ use Rattle.osc_model.specs.declared.request.Request.{Request}
 use Rattle.osc_coap.specs.{is_request_code, NumberAndValue, payload_of}
 use Rattle.osc_coap.specs.Message.{Message}
 use Rattle.osc_options.specs.declared.table.Class.TheVariants.{E, U}
-use Rattle.osc_options.specs.{is_critical, class_of, is_recognised, recognised, unrecognised_critical, uint, value, values, request_of, each, segments_of, path_options, none_match_options, uint_options, request_options, with_request, IsWithinTable, uint_bytes, unheeded, request_of_plaintext, same_class, inner_options, plaintext_of}
+use Rattle.osc_model.specs.{segments_of}
+use Rattle.osc_options.specs.{is_critical, class_of, is_recognised, recognised, unrecognised_critical, uint, value, values, request_of, each, path_options, none_match_options, uint_options, request_options, with_request, IsWithinTable, uint_bytes, refused_option, request_of_plaintext, same_class, inner_options, plaintext_of}
 use Rattle.osc_options.proofs.ReplyAgainLaws.{uint_again, uint_short}
 
 le_test : (m n : ℕ) → m ≤ n → nat_le m n ≡ true
@@ -42,9 +43,9 @@ known_critical : (before : ℕ) (options : List NumberAndValue) → AreKnown bef
 known_critical before [] p = refl
 known_critical before (option ∷ options) p = rw (p.0.known, never (is_critical option.0)) (known_critical option.0 options p.1)
 
-known_heeded : (before : ℕ) (options : List NumberAndValue) → AreKnown before options → unheeded before options ≡ None
-known_heeded before [] p = refl
-known_heeded before (option ∷ options) p = rw (p.0.not_outer, p.0.known, never (is_critical option.0)) (known_heeded option.0 options p.1)
+known_accepted : (before : ℕ) (options : List NumberAndValue) → AreKnown before options → refused_option before options ≡ None
+known_accepted before [] p = refl
+known_accepted before (option ∷ options) p = rw (p.0.not_outer, p.0.known, never (is_critical option.0)) (known_accepted option.0 options p.1)
 
 known_inner : (before : ℕ) (options : List NumberAndValue) → AreKnown before options → inner_options options ≡ options
 known_inner before [] p = refl
@@ -231,5 +232,5 @@ request_inside law r is = ap inner_options (regrouped r) ∙ known_inner 0 (grou
 pub plaintext_again : CutLaw → (m : Message) (r : Request) → IsWithinTable r → is_request_code r.code.0 ≡ true → request_of_plaintext (plaintext_of (with_request m r)) ≡ Ok r
 plaintext_again law m r is code =
     let inside = request_inside law r is in
-    let heeds = ap (unheeded 0) (regrouped r) ∙ known_heeded 0 (grouped r) (all_known law r is) in
-    rw (inside, code, heeds) (ap (λ (x : Request). Ok x) (request_again law m r is))
+    let accepts = ap (refused_option 0) (regrouped r) ∙ known_accepted 0 (grouped r) (all_known law r is) in
+    rw (inside, code, accepts) (ap (λ (x : Request). Ok x) (request_again law m r is))

@@ -6,7 +6,8 @@ use Rattle.osc_model.specs.declared.request.Request.{Request}
 use Rattle.osc_coap.specs.{NumberAndValue, plaintext_spelling, last_number, with_inner_option}
 use Rattle.osc_coap.specs.Plaintext.{Plaintext}
 use Rattle.osc_options.specs.Inner.Merging.{with_inner_options}
-use Rattle.osc_options.specs.{each, segments_of, none_match_options, path_options, uint_options, request_options}
+use Rattle.osc_model.specs.{segments_of}
+use Rattle.osc_options.specs.{each, none_match_options, path_options, uint_options, request_options}
 use Rattle.osc_options.proofs.AddLaws.{PlaintextLaw, with_inner_options-more, inner_options_front}
 
 -- ---- options of one number
@@ -22,7 +23,7 @@ each_more m number values i value at =
     ∙ ap (λ (v : List ℕ). with_inner_options m (each number (v ∷ rest))) at.1
     ∙ sym (at_drop_more (λ vs. with_inner_options m (each number vs)) values i value at.0)
 
--- after the last of them none is left
+-- after the last of them no value is left
 pub each_all : (m : Plaintext) (number : ℕ) (values : List (List ℕ)) (i : ℕ) → i ≡ length values → m ≡ with_inner_options m (each number (drop i values))
 each_all m number values i all =
     sym (ap (λ (vs : List (List ℕ)). with_inner_options m (each number vs)) (drop_all i values (omega arith)) ∙ ap (λ (options : List NumberAndValue). record m { options = options }) (append-nil m.options))

@@ -32,14 +32,14 @@ reply_with p =
       payload = unwrap_or p.payload [];
     }
 
-abbrev pub heeded_reply : Option ℕ → Reply → Result Reply PlaintextError
-heeded_reply None reply = Ok reply
-heeded_reply (Some number) reply = Err (BadOption number)
+abbrev pub accepted_reply : Option ℕ → Reply → Result Reply PlaintextError
+accepted_reply None reply = Ok reply
+accepted_reply (Some number) reply = Err (BadOption number)
 
 -- The reply that a plaintext is, or the first reason why it is none. An option of class U is left out like any other that is
 -- recognised.
 abbrev pub reply_of_plaintext : Plaintext → Result Reply PlaintextError
-reply_of_plaintext p = if is_response_code p.code then heeded_reply (unrecognised_critical 0 p.options) (reply_with p) else Err Format
+reply_of_plaintext p = if is_response_code p.code then accepted_reply (unrecognised_critical 0 p.options) (reply_with p) else Err Format
 
 abbrev pub if_reply : Result Reply PlaintextError → Option Reply
 if_reply (Ok reply) = Some reply

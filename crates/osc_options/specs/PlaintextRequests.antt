@@ -20,20 +20,20 @@ request_plaintext request = record { code = request.code.0; options = request_op
 
 -- The first option that must not be inside a request, by its number: one of class U, recognised or not, or a critical one that
 -- isn't recognised. `before` is the number of the option before these.
-abbrev pub unheeded : ℕ → List NumberAndValue → Option ℕ
-unheeded before [] = None
-unheeded before (option ∷ options) =
+abbrev pub refused_option : ℕ → List NumberAndValue → Option ℕ
+refused_option before [] = None
+refused_option before (option ∷ options) =
     if same_class U (class_of option.0) || is_critical option.0 && not (is_recognised before option) then Some option.0
-    else unheeded option.0 options
+    else refused_option option.0 options
 
-abbrev pub heeded : Option ℕ → Request → Result Request PlaintextError
-heeded None request = Ok request
-heeded (Some number) request = Err (BadOption number)
+abbrev pub accepted : Option ℕ → Request → Result Request PlaintextError
+accepted None request = Ok request
+accepted (Some number) request = Err (BadOption number)
 
 -- the request that a plaintext is, or the first reason why it is none
 abbrev pub request_of_plaintext : Plaintext → Result Request PlaintextError
 request_of_plaintext p =
-    if is_request_code p.code then heeded (unheeded 0 p.options) (request_in p.code p.options p.payload)
+    if is_request_code p.code then accepted (refused_option 0 p.options) (request_in p.code p.options p.payload)
     else Err Format
 
 -- the outcome is the one that is due; or, where a value is due, lack of memory

@@ -1,7 +1,7 @@
 -- The request that a message's code, options and payload are (RFC 7252 section 5.10).
-use Rattle.std.specs.Prelude.{ℕ, ◌+◌, ◌*◌, ◌<◌, ◌≤◌, ◌==◌, Bool, true, false, List, [], ◌∷◌, ◌++◌, drop, length, Option, Some, None, IfSome, is_some, map, filter, find, fold, option_map, unwrap_or}
-use Rattle.std.specs.List.{AllByRecursion, slice_split}
-use Rattle.osc_model.specs.{path_of, IsPath}
+use Rattle.std.specs.Prelude.{ℕ, ◌+◌, ◌*◌, ◌<◌, ◌≤◌, ◌==◌, Bool, true, false, List, [], ◌∷◌, ◌++◌, length, Option, Some, None, IfSome, is_some, map, filter, find, fold, option_map, unwrap_or}
+use Rattle.std.specs.List.{AllByRecursion}
+use Rattle.osc_model.specs.{path_of, segments_of, IsPath}
 use Rattle.osc_model.specs.declared.request.Request.{Request}
 use Rattle.osc_coap.specs.{NumberAndValue, payload_of}
 use Rattle.osc_coap.specs.Message.{Message}
@@ -44,9 +44,6 @@ abbrev pub each : ℕ → List (List ℕ) → List NumberAndValue
 each number values = map (λ value. (number, value)) values
 
 -- Uri-Path, option 11, for what is between the slashes of a path's text (section 5.10.1)
-abbrev pub segments_of : List ℕ → List (List ℕ)
-segments_of text = slice_split (λ b. b == 47) (drop 1 text)
-
 abbrev pub path_options : Option (List ℕ) → List NumberAndValue
 path_options None = []
 path_options (Some text) = each 11 (segments_of text)

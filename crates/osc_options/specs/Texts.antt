@@ -13,7 +13,7 @@ use Rattle.osc_options.specs.declared.error.PlaintextError.TheVariants.{Format, 
 
 -- ---- requests
 
--- 4.02 Bad Option where an option can't be heeded (RFC 7252 section 5.4.1), else 4.00 Bad Request. Want of memory is no outcome
+-- 4.02 Bad Option where an option can't be accepted (RFC 7252 section 5.4.1), else 4.00 Bad Request. Lack of memory is no outcome
 -- of `request_of_plaintext`.
 abbrev pub code_of : PlaintextError → Code
 code_of (BadOption number) = code 4 2

@@ -2,7 +2,7 @@
 ghost use Rattle.std.specs.Prelude.{◌≡◌, ◌||◌, ◌&&◌, None, not, IfOk, IfErr};
 ghost use Rattle.osc_options.specs.declared.table.Class.TheVariants.{U};
 ghost use Rattle.osc_options.specs.Inner.Fields.{AreFieldsOf, without_memory as without_memory_of};
-ghost use Rattle.osc_options.specs.PlaintextRequests.{unheeded as unheeded_in};
+ghost use Rattle.osc_options.specs.PlaintextRequests.{refused_option as refused_option_in};
 ghost use Rattle.osc_options.specs.Recognised.{recognised};
 ghost use Rattle.osc_options.specs.Split.{same_class};
 ghost use Rattle.osc_options.specs.Table as table;
@@ -16,19 +16,19 @@ use std::alloc::Global;
 
 /// Whether an option of this number must not be there: it is of class U, or critical and not recognised.
 #[inline(always)]
-fn is_unheeded(number: u16, known: bool) -> bool
+fn is_refused_option(number: u16, known: bool) -> bool
     ensures { result ≡ (same_class U (table.class_of number) || table.is_critical number && not known) }
 {
     class_of(number) == Class::U || (is_critical(number) && !known)
 }
 
 /// The first option of the plaintext that must not be there, by its number.
-pub(crate) fn unheeded(plaintext: &PlaintextRef<'_>) -> Option<u16>
-    ensures { result ≡ unheeded_in 0 plaintext.now.options }
+pub(crate) fn refused_option(plaintext: &PlaintextRef<'_>) -> Option<u16>
+    ensures { result ≡ refused_option_in 0 plaintext.now.options }
 {
     let mut before = 0;
     for (number, value) in plaintext.options() {
-        if is_unheeded(number, is_recognised(before, number, value)) {
+        if is_refused_option(number, is_recognised(before, number, value)) {
             return Some(number);
         }
         before = number;
@@ -38,9 +38,9 @@ pub(crate) fn unheeded(plaintext: &PlaintextRef<'_>) -> Option<u16>
 
 /// Why the plaintext is no request where no more of it can be read without memory.
 fn without_memory(plaintext: &PlaintextRef<'_>) -> PlaintextError
-    ensures { result ≡ without_memory_of (unheeded_in 0 plaintext.now.options) }
+    ensures { result ≡ without_memory_of (refused_option_in 0 plaintext.now.options) }
 {
-    match unheeded(plaintext) {
+    match refused_option(plaintext) {
         Some(number) => PlaintextError::BadOption(number),
         None => PlaintextError::Memory,
     }
@@ -48,19 +48,19 @@ fn without_memory(plaintext: &PlaintextRef<'_>) -> PlaintextError
 
 /// The values that a request is made of, in one pass over the options of its plaintext. The error is the first option that must
 /// not are there; where there is none, it is `Memory`.
-pub(crate) fn heeded_fields<'a>(
+pub(crate) fn accepted_fields<'a>(
     alloc: Global,
     plaintext: &PlaintextRef<'a>,
 ) -> Result<Fields<'a>, PlaintextError>
-    ensures heeded { IfOk result (λ _. unheeded_in 0 plaintext.now.options ≡ None) }
+    ensures accepted { IfOk result (λ _. refused_option_in 0 plaintext.now.options ≡ None) }
     ensures fields { IfOk result (λ fields. AreFieldsOf (recognised 0 plaintext.now.options) fields) }
-    ensures error { IfErr result (λ error. error ≡ without_memory_of (unheeded_in 0 plaintext.now.options)) }
+    ensures error { IfErr result (λ error. error ≡ without_memory_of (refused_option_in 0 plaintext.now.options)) }
 {
     let mut fields = Fields::new(alloc);
     let mut before = 0;
     for (number, value) in plaintext.options() {
         let known = is_recognised(before, number, value);
-        if is_unheeded(number, known) {
+        if is_refused_option(number, known) {
             return Err(PlaintextError::BadOption(number));
         }
         if known && add_field(alloc, &mut fields, number, value).is_err() {

@@ -29,7 +29,7 @@ pub use recognised::{has_option, is_recognised, unrecognised_critical, value_of}
 pub use reply::{error_message, reply_message, reply_of};
 pub use reply_text::write_reply;
 pub use request::{request_of, request_of_message, uint};
-pub use survey::{Named, OscoreValue, ProxySurvey, Survey, proxy_survey_of, survey_of};
+pub use survey::{OscoreValue, ProxySurvey, Survey, TargetOptions, proxy_survey_of, survey_of};
 pub use table::{Class, Rule, class_of, is_critical, is_unsafe, rule_of};
 pub use written_plaintext::write_request;
 pub use written_reply::{reply_message_size, write_reply_message};

@@ -9,7 +9,7 @@ use osc_model::{Code, Request};
 use std::alloc::{AllocError, Global};
 
 /// The request that an opened text is, or the code that answers it: 4.00 where it is no request, and 4.02 where an option can't be
-/// heeded (RFC 8613 section 8.2, RFC 7252 section 5.4.1). Without memory an `AllocError`.
+/// accepted (RFC 8613 section 8.2, RFC 7252 section 5.4.1). Without memory an `AllocError`.
 pub fn request_in(alloc: Global, text: &[u8]) -> Result<Result<Request, Code>, AllocError>
     ensures read { IfOk result (λ read. read ≡ read_request text.now) }
     ensures error { IfOk result (λ read. IfErr read (λ code. 0 < code.0)) }

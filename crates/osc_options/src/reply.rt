@@ -106,7 +106,7 @@ fn reply_with(alloc: Global, plaintext: &PlaintextRef<'_>) -> Result<Reply, Allo
 }
 
 /// The reply that a plaintext is.
-fn heeded(alloc: Global, plaintext: &PlaintextRef<'_>) -> Result<Reply, PlaintextError>
+fn accepted(alloc: Global, plaintext: &PlaintextRef<'_>) -> Result<Reply, PlaintextError>
     ensures { IsMemoryAside PlaintextError.Memory (spec.reply_of_plaintext plaintext.now) result }
 {
     if !is_response_code(plaintext.code()) {
@@ -129,7 +129,7 @@ pub fn reply_of(alloc: Global, plaintext: &[u8]) -> Result<Reply, PlaintextError
         → (p : Plaintext) × SpellsPlaintext plaintext.now p × IsOk (spec.reply_of_plaintext p) }
 {
     match PlaintextRef::parse(plaintext) {
-        Some(plaintext) => heeded(alloc, &plaintext),
+        Some(plaintext) => accepted(alloc, &plaintext),
         None => Err(PlaintextError::Format),
     }
 }

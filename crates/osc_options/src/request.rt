@@ -11,7 +11,7 @@ ghost use Rattle.osc_options.specs.PlaintextRequests.{request_of_plaintext, IsMe
 
 use crate::error::PlaintextError;
 use crate::fields::{Fields, fields_of};
-use crate::inside::heeded_fields;
+use crate::inside::accepted_fields;
 use crate::recognised::{first_value, recognised_options};
 use osc_coap::{MessageRef, Options, PlaintextRef, is_request_code};
 use osc_model::{Bytes, Code, Path, Request};
@@ -89,13 +89,13 @@ pub fn request_of_message(alloc: Global, message: &MessageRef<'_>) -> Result<Req
 }
 
 /// The request that a plaintext is.
-fn heeded(alloc: Global, plaintext: &PlaintextRef<'_>) -> Result<Request, PlaintextError>
+fn accepted(alloc: Global, plaintext: &PlaintextRef<'_>) -> Result<Request, PlaintextError>
     ensures { IsMemoryAside PlaintextError.Memory (request_of_plaintext plaintext.now) result }
 {
     if !is_request_code(plaintext.code()) {
         return Err(PlaintextError::Format);
     }
-    let fields = heeded_fields(alloc, plaintext)?;
+    let fields = accepted_fields(alloc, plaintext)?;
     request_from(alloc, plaintext.code(), fields, plaintext.payload()).map_err(
         |_| PlaintextError::Memory,
     )
@@ -112,7 +112,7 @@ pub fn request_of(alloc: Global, plaintext: &[u8]) -> Result<Request, PlaintextE
         → (p : Plaintext) × SpellsPlaintext plaintext.now p × IsOk (request_of_plaintext p) }
 {
     match PlaintextRef::parse(plaintext) {
-        Some(plaintext) => heeded(alloc, &plaintext),
+        Some(plaintext) => accepted(alloc, &plaintext),
         None => Err(PlaintextError::Format),
     }
 }

@@ -54,7 +54,7 @@ pub struct Survey<'a> {
 
 /// The options that name the target of a request, by the values of the first of each that is recognised.
 #[derive(Clone, Copy)]
-pub struct Named<'a> {
+pub struct TargetOptions<'a> {
     pub uri_host: Option<&'a [u8]>,
     pub uri_port: Option<&'a [u8]>,
     pub proxy_uri: Option<&'a [u8]>,
@@ -67,7 +67,7 @@ pub struct ProxySurvey<'a> {
     /// Whether an option that isn't recognised is unsafe to forward.
     pub has_unrecognised_unsafe: bool,
     /// The target that the recognised options name.
-    pub named: Named<'a>,
+    pub named: TargetOptions<'a>,
 }
 
 // What a message carries isn't printed.
@@ -77,9 +77,9 @@ impl<'a> fmt::Debug for OscoreValue<'a> {
     }
 }
 
-impl<'a> fmt::Debug for Named<'a> {
+impl<'a> fmt::Debug for TargetOptions<'a> {
     fn fmt<W: fmt::Write>(&self, f: &mut fmt::Formatter<W>) -> fmt::Result {
-        f.write_str("Named")
+        f.write_str("TargetOptions")
     }
 }
 
@@ -151,7 +151,7 @@ fn any_unsafe(before: bool, number: u16, known: bool) -> bool
 }
 
 /// Adds a recognised option.
-fn add_named<'a>(named: &mut Named<'a>, number: u16, value: &'a [u8])
+fn add_named<'a>(named: &mut TargetOptions<'a>, number: u16, value: &'a [u8])
     ensures host { (rest : List NumberAndValue)
         → option_or (option_map (λ v. v.now) named.new.uri_host) (value_in 3 rest)
         ≡ option_or (option_map (λ v. v.now) named.old.uri_host) (value_in 3 ((number, value.now) ∷ rest)) }
@@ -172,7 +172,7 @@ fn add_named<'a>(named: &mut Named<'a>, number: u16, value: &'a [u8])
 }
 
 /// Adds an option of which it is known whether it is recognised.
-fn add<'a>(named: &mut Named<'a>, number: u16, value: &'a [u8], known: bool)
+fn add<'a>(named: &mut TargetOptions<'a>, number: u16, value: &'a [u8], known: bool)
     ensures host { (behind : ℕ) (rest : List NumberAndValue) → known ≡ spec.is_recognised behind (number, value.now)
         → option_or (option_map (λ v. v.now) named.new.uri_host) (value_in 3 (recognised number rest))
         ≡ option_or (option_map (λ v. v.now) named.old.uri_host) (value_in 3 (recognised behind ((number, value.now) ∷ rest))) }
@@ -206,7 +206,7 @@ pub fn proxy_survey_of<'a>(message: &MessageRef<'a>) -> ProxySurvey<'a>
     ensures scheme { option_map (λ v. v.now) result.named.proxy_scheme ≡ value_in 39 (recognised 0 message.now.options) }
 {
     let mut cannot_go = false;
-    let mut named = Named {
+    let mut named = TargetOptions {
         uri_host: None,
         uri_port: None,
         proxy_uri: None,

@@ -2,7 +2,8 @@
 ghost use Rattle.std.specs.Prelude.{◌≡◌, ◌≤◌, ◌↔◌, None, length, IsOk, OnOk};
 ghost use Rattle.osc_coap.specs.{plaintext_spelling, datagram_limit, last_number};
 ghost use Rattle.osc_options.specs.Inner.Merging.{with_inner_options};
-ghost use Rattle.osc_options.specs.Requests.{each, segments_of, none_match_options, path_options, uint_options, request_options};
+ghost use Rattle.osc_model.specs.{segments_of};
+ghost use Rattle.osc_options.specs.Requests.{each, none_match_options, path_options, uint_options, request_options};
 ghost use Rattle.osc_options.specs.PlaintextRequests.{request_plaintext as plaintext_of_request};
 
 use crate::numbers::{ACCEPT, CONTENT_FORMAT, IF_MATCH, IF_NONE_MATCH, URI_PATH};

@@ -10,8 +10,8 @@ use Rattle.osc_model.specs.declared.request.Request.{Request}
 use Rattle.osc_model.specs.declared.step.ClientResult.TheVariants.{Made, Answer, Unverified, TimedOut, Refused}
 use Rattle.osc_simulation.specs.{is_sealing}
 use Rattle.osc_programs.specs.{GoesOn, GoesOnBy, Requests, Upshot, Waits, after_sending, at_once, told, still, turns, Running, TakesTurn}
-use Rattle.osc_programs.specs.declared.asking.Outcome.{Outcome}
-use Rattle.osc_programs.specs.declared.asking.Outcome.TheVariants.{Told, Open}
+use Rattle.osc_programs.specs.declared.asking.AskEnd.{AskEnd}
+use Rattle.osc_programs.specs.declared.asking.AskEnd.TheVariants.{Told, Open}
 
 pub some_more : {X : Type 0} (o : Option X) (P Q : X → Type 0) → ((x : X) → P x → Q x) → IfSome o P → IfSome o Q
 some_more None P Q more known = tt
@@ -24,7 +24,7 @@ Turn old step new = TakesTurn acts_at (IsStep is_sealing) old step new
 -- The outcome of the turns that are left, from this client on, is that of all turns from the first one on, after what was sent so far.
 abbrev pub GoOn : ℕ → ℕ → Running Client → Running Client → List Datagram → Type 0
 GoOn most left first now sent =
-    (outcome : Outcome) (rest : ℕ) (last : Running Client) (more : List Datagram)
+    (outcome : AskEnd) (rest : ℕ) (last : Running Client) (more : List Datagram)
     → Waits left None now (record { sent = more; outcome = outcome }) rest last → Waits most None first (record { sent = sent ++ more; outcome = outcome }) rest last
 
 pub starts : (most : ℕ) (first : Running Client) → GoOn most (most - 0) first first []
@@ -56,7 +56,7 @@ learns most taken left first now next sent step result lt e turn is so_far =
     let all = so_far (Told result) left next (step.out ++ []) (subst (λ (n : ℕ). Waits n None now (after_sending step.out upshot) left next) same here) in
     subst (λ (out : List Datagram). Waits most None first (record { sent = sent ++ out; outcome = Told result }) left next) (append-nil step.out) all
 
--- none is left
+-- no turn is left
 pub still_open : (most taken : ℕ) (first now : Running Client) (sent : List Datagram) → most ≡ taken → GoOn most (most - taken) first now sent
     → Waits most None first (record { sent = sent; outcome = Open }) 0 now
 still_open most taken first now sent e so_far =
@@ -86,9 +86,9 @@ pub made_goes : (left : ℕ) (request : Request) (result : ClientResult) (old : 
     → result ≡ Made → Requests left request old upshot new → GoesOnBy left request result old upshot new
 made_goes left request result old upshot new e asked = subst (λ (r : ClientResult). GoesOnBy left request r old upshot new) (sym e) asked
 
-pub told_goes : (left : ℕ) (request : Request) (exchanged : Outcome) (result : ClientResult) (old : Running Client) (upshot : Upshot) (new : Running Client)
+pub told_goes : (left : ℕ) (request : Request) (exchanged : AskEnd) (result : ClientResult) (old : Running Client) (upshot : Upshot) (new : Running Client)
     → exchanged ≡ Told result → GoesOnBy left request result old upshot new → GoesOn left request exchanged old upshot new
-told_goes left request exchanged result old upshot new e goes = subst (λ (x : Outcome). GoesOn left request x old upshot new) (sym e) goes
+told_goes left request exchanged result old upshot new e goes = subst (λ (x : AskEnd). GoesOn left request x old upshot new) (sym e) goes
 
-pub open_goes : (left : ℕ) (request : Request) (exchanged : Outcome) (client : Running Client) → exchanged ≡ Open → GoesOn left request exchanged client (at_once Open) client
-open_goes left request exchanged client e = subst (λ (x : Outcome). GoesOn left request x client (at_once Open) client) (sym e) (refl, refl)
+pub open_goes : (left : ℕ) (request : Request) (exchanged : AskEnd) (client : Running Client) → exchanged ≡ Open → GoesOn left request exchanged client (at_once Open) client
+open_goes left request exchanged client e = subst (λ (x : AskEnd). GoesOn left request x client (at_once Open) client) (sym e) (refl, refl)

@@ -14,8 +14,8 @@ use Rattle.osc_settings.specs.declared.client.ClientSettings.{ClientSettings}
 use Rattle.osc_simulation.specs.{learnt_text, is_sealing, tag_of, line}
 use Rattle.osc_turn.specs.{Gives, IsSeeded, ClockAndRandomState}
 use Rattle.osc_programs.specs.Turning.{Running, TakesTurn}
-use Rattle.osc_programs.specs.declared.asking.Outcome.{Outcome}
-use Rattle.osc_programs.specs.declared.asking.Outcome.TheVariants.{Told, Open}
+use Rattle.osc_programs.specs.declared.asking.AskEnd.{AskEnd}
+use Rattle.osc_programs.specs.declared.asking.AskEnd.TheVariants.{Told, Open}
 use Rattle.osc_programs.specs.declared.ended.Ended.{Ended}
 use Rattle.osc_programs.specs.declared.ended.Ended.TheVariants.{Done, NotDone}
 
@@ -42,17 +42,17 @@ pub record Sends (request : Request) (old : Running Client) (step : Step) (new :
 -- the outcome of a client's steps: all that they sent, in order, and the last result, or none where it still waits
 pub record Upshot : Type 0 where
   pub sent : List Datagram
-  pub outcome : Outcome
+  pub outcome : AskEnd
 
 -- after what was sent before
 abbrev pub after_sending : List Datagram → Upshot → Upshot
 after_sending before upshot = record upshot { sent = before ++ upshot.sent }
 
 -- this outcome, with nothing sent
-abbrev pub at_once : Outcome → Upshot
+abbrev pub at_once : AskEnd → Upshot
 at_once outcome = record { sent = []; outcome = outcome }
 
--- With so many turns left it takes turns until it has learnt something, if it hasn't yet: the outcome, and how many turns are left
+-- With this number of turns left it takes turns until it has learnt something, if it hasn't yet: the outcome, and how many turns are left
 -- then. It is `Open` where it still waits and no turn is left, and only there.
 pub data Waits : ℕ → Option ClientResult → Running Client → Upshot → ℕ → Running Client → Type 0 where
   told : (left : ℕ) (client : Running Client) (result : ClientResult) → Waits left (Some result) client (at_once (Told result)) left client
@@ -76,11 +76,11 @@ abbrev pub GoesOnBy : ℕ → Request → ClientResult → Running Client → Up
 GoesOnBy left request Made old upshot new = Requests left request old upshot new
 GoesOnBy left request result old upshot new = (upshot ≡ at_once (Told result)) × (new ≡ old)
 
-abbrev pub GoesOn : ℕ → Request → Outcome → Running Client → Upshot → Running Client → Type 0
+abbrev pub GoesOn : ℕ → Request → AskEnd → Running Client → Upshot → Running Client → Type 0
 GoesOn left request (Told result) old upshot new = GoesOnBy left request result old upshot new
 GoesOn left request Open old upshot new = (upshot ≡ at_once Open) × (new ≡ old)
 
--- In so many turns it posts its token, waits, and goes on by what it learnt.
+-- In this number of turns it posts its token, waits, and goes on by what it learnt.
 pub record Converses (turns : ℕ) (request : Request) (old : Running Client) (upshot : Upshot) (new : Running Client) : Type 0 where
   pub step : Step
   pub begun : Running Client
@@ -94,7 +94,7 @@ pub record Converses (turns : ℕ) (request : Request) (old : Running Client) (u
   pub is : upshot ≡ after_sending step.out (after_sending exchanged.sent further)
 
 -- the same from the start on
-pub record Talks (turns : ℕ) (request : Request) (old : Client) (outcome : Outcome) (new : Client) : Type 0 where
+pub record Talks (turns : ℕ) (request : Request) (old : Client) (outcome : AskEnd) (new : Client) : Type 0 where
   pub start : ClockAndRandomState
   pub seeded : IsSeeded start
   pub sent : List Datagram
@@ -118,17 +118,17 @@ pub record IsClientOf (settings : ClientSettings) (client : Client) : Type 0 whe
   pub endpoint : client.endpoint ≡ fresh
 
 -- the line of the last result
-abbrev pub outcome_text : Outcome → List ℕ
+abbrev pub outcome_text : AskEnd → List ℕ
 outcome_text (Told result) = line (codes "c1 " ++ learnt_text result)
 outcome_text Open = line (codes "c1 open")
 
 -- the payload of an answer
-abbrev pub raw_text : Outcome → List ℕ
+abbrev pub raw_text : AskEnd → List ℕ
 raw_text (Told (Answer reply)) = reply.payload
 raw_text outcome = []
 
 -- what is printed, raw or not
-abbrev pub printed_text : Bool → Outcome → List ℕ
+abbrev pub printed_text : Bool → AskEnd → List ℕ
 printed_text true outcome = raw_text outcome
 printed_text false outcome = outcome_text outcome
 
@@ -137,6 +137,6 @@ abbrev pub ended_by_result : ClientResult → Ended
 ended_by_result (Answer reply) = if reply.code.0 / 32 == 2 then Done else NotDone
 ended_by_result result = NotDone
 
-abbrev pub ended_by_outcome : Outcome → Ended
+abbrev pub ended_by_outcome : AskEnd → Ended
 ended_by_outcome (Told result) = ended_by_result result
 ended_by_outcome Open = NotDone

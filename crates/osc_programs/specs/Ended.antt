@@ -120,7 +120,7 @@ abbrev pub EndsNode : Ended → Type 0
 EndsNode Done = Unit {0}
 EndsNode other = NoSettings other
 
--- a request with the code 0.00 is none, and can't be sent
+-- a request with the code 0.00 is no request, and can't be sent
 abbrev pub CannotTalk : Request → Ended → Type 0
 CannotTalk request BadCommandLine = request.code.0 ≡ 0
 CannotTalk request other = IsFault other

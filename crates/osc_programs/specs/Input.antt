@@ -30,6 +30,6 @@ IsWithin most input = IfSome input (λ bytes. length bytes ≤ most)
 abbrev pub IsBeyond : ℕ → Option (List ℕ) → Type 0
 IsBeyond most input = IfSome input (λ bytes. most < length bytes)
 
--- no more than so many bytes were taken of an input that had these, where they are known
+-- no more than `most` bytes were taken of an input that had these, where they are known
 abbrev pub TakesAtMost : ℕ → Option (List ℕ) → Option (List ℕ) → Type 0
 TakesAtMost most old new = (bytes : List ℕ) × (length bytes ≤ most) × Consumes old new bytes

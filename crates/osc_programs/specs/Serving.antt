@@ -57,14 +57,14 @@ pub record IsProxyOf (settings : ProxySettings) (proxy : Proxy) : Type 0 where
 abbrev pub proxy_acts : Proxy → Moment → Bool
 proxy_acts proxy now = proxy_acts_at now proxy
 
--- The server of these settings, with these resources at first, takes so many turns, and this there is to tell of them.
+-- The server of these settings, with these resources at first, takes this number of turns, and this there is to tell of them.
 pub record Serves (settings : ServerSettings) (tree : Tree) (turns : ℕ) (events : List Event) : Type 0 where
   pub first : Server
   pub last : Server
   pub is_server : IsServerOf settings tree first
   pub runs : Runs server_acts (IsStepOfServer is_sealing) server_held turns events first last
 
--- The proxy of these settings takes so many turns, and this there is to tell of them.
+-- The proxy of these settings takes this number of turns, and this there is to tell of them.
 pub record Forwards (settings : ProxySettings) (turns : ℕ) (events : List Event) : Type 0 where
   pub first : Proxy
   pub last : Proxy

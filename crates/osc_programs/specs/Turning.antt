@@ -59,13 +59,13 @@ module _ {N : Type 0} (acts : N → Moment → Bool) (is_step : N → Cause → 
         → GoesOn old (record { sent = step.out; events = turned (record { now = turn.now; received = is_some turn.came; step = step }) (held new.node) ∷ [] }) new
     lost : (new : Running N) → (turn : LosesTurn acts is_step old new) → GoesOn old (record { sent = []; events = log.lost turn.now ∷ [] }) new
 
-  -- so many turns, one after another, and what they showed
+  -- this number of turns, one after another, and what they showed
   pub data Turns : ℕ → Running N → Shown → Running N → Type 0 where
     none : (first : Running N) → Turns 0 first nothing_shown first
     more : (n : ℕ) (first between last : Running N) (shown next : Shown) → Turns n first shown between → GoesOn between next last
         → Turns (suc n) first (and_then shown next) last
 
-  -- The node takes so many turns from the start on, and this there is to tell of them.
+  -- The node takes this number of turns from the start on, and this there is to tell of them.
   pub record Runs (turns : ℕ) (events : List Event) (old new : N) : Type 0 where
     pub start : ClockAndRandomState
     pub seeded : IsSeeded start

@@ -15,7 +15,7 @@ ghost use Rattle.osc_programs.specs.Ended as ends;
 ghost use Rattle.osc_programs.specs.Input.{IsWithin, TakesAtMost, longest_settings};
 ghost use Rattle.osc_programs.specs.System as system;
 ghost use Rattle.osc_programs.specs.Turning as turning;
-ghost use Rattle.osc_programs.specs.declared.asking.Outcome.{Outcome as AnyOutcome};
+ghost use Rattle.osc_programs.specs.declared.asking.AskEnd.{AskEnd as AnyOutcome};
 
 use crate::ended::Ended;
 use crate::issue::written;
@@ -39,7 +39,7 @@ use std::time::Clock;
 
 /// The outcome of a program's client at last: its last result, or none where it still waited when its turns were gone.
 #[derive(Drop)]
-pub(crate) enum Outcome {
+pub(crate) enum AskEnd {
     /// The last result.
     Told(ClientResult),
     /// Something is still open.
@@ -80,7 +80,7 @@ pub fn ask<R: Clock + Eprint + Seeds + Sockets, I: Read, L: Log, W: Write>(
 // ---- the last result
 
 // Where only a payload is written, the line of what is no answer of class 2 goes to the standard error, if that can be written.
-fn tell_aside<R: Eprint>(alloc: Global, runtime: &R, raw: bool, outcome: &Outcome) {
+fn tell_aside<R: Eprint>(alloc: Global, runtime: &R, raw: bool, outcome: &AskEnd) {
     if raw && ended_by_outcome(outcome) != Ended::Done {
         if let Ok(line) = outcome_line(alloc, outcome) {
             let _told = runtime.eprintln(line.as_str().trim_end());
@@ -88,7 +88,7 @@ fn tell_aside<R: Eprint>(alloc: Global, runtime: &R, raw: bool, outcome: &Outcom
     }
 }
 
-fn told<W: Write>(alloc: Global, writer: &mut W, raw: bool, outcome: &Outcome) -> Ended
+fn told<W: Write>(alloc: Global, writer: &mut W, raw: bool, outcome: &AskEnd) -> Ended
     ensures told { (result ≡ Ended.Done) ⊎ (result ≡ Ended.NotDone) → (result ≡ spec.ended_by_outcome outcome.now)
         × Appends (W.contents writer.old) (W.contents writer.new) (spec.printed_text raw outcome.now) }
     ensures ends { ends.EndsTold result }
@@ -102,7 +102,7 @@ fn told<W: Write>(alloc: Global, writer: &mut W, raw: bool, outcome: &Outcome) -
     }
 }
 
-fn printed(alloc: Global, raw: bool, outcome: &Outcome) -> Result<Vec<u8>, AllocError>
+fn printed(alloc: Global, raw: bool, outcome: &AskEnd) -> Result<Vec<u8>, AllocError>
     ensures { IfOk result (λ text. text.items ≡ spec.printed_text raw outcome.now) }
 {
     if raw {
@@ -113,33 +113,33 @@ fn printed(alloc: Global, raw: bool, outcome: &Outcome) -> Result<Vec<u8>, Alloc
 }
 
 // The payload of an answer.
-fn payload_of(outcome: &Outcome) -> &[u8]
+fn payload_of(outcome: &AskEnd) -> &[u8]
     ensures { result.now ≡ spec.raw_text outcome.now }
 {
     match outcome {
-        Outcome::Told(ClientResult::Answer(reply)) => reply.payload.as_slice(),
+        AskEnd::Told(ClientResult::Answer(reply)) => reply.payload.as_slice(),
         _ => &[],
     }
 }
 
-fn outcome_line(alloc: Global, outcome: &Outcome) -> Result<String, AllocError>
+fn outcome_line(alloc: Global, outcome: &AskEnd) -> Result<String, AllocError>
     ensures { IfOk result (λ line. string_bytes line ≡ spec.outcome_text outcome.now) }
 {
     match outcome {
-        Outcome::Told(learnt) => {
+        AskEnd::Told(learnt) => {
             let learnt = learnt_text(alloc, learnt)?;
             format!(in alloc; "c1 {learnt}\n")
         }
-        Outcome::Open => "c1 open\n".to_string(alloc),
+        AskEnd::Open => "c1 open\n".to_string(alloc),
     }
 }
 
 // An answer of class 2 is success.
-fn ended_by_outcome(outcome: &Outcome) -> Ended
+fn ended_by_outcome(outcome: &AskEnd) -> Ended
     ensures { result ≡ spec.ended_by_outcome outcome.now }
 {
     match outcome {
-        Outcome::Told(ClientResult::Answer(reply)) if reply.code.0 / 32 == 2 => Ended::Done,
+        AskEnd::Told(ClientResult::Answer(reply)) if reply.code.0 / 32 == 2 => Ended::Done,
         _ => Ended::NotDone,
     }
 }
@@ -152,7 +152,7 @@ fn outcome_of<R: Clock + Eprint + Seeds + Sockets, I: Read, L: Log>(
     reader: &mut I,
     log: &mut L,
     words: &ClientWords,
-) -> Result<Outcome, Ended>
+) -> Result<AskEnd, Ended>
     ensures talks { IfOk result (λ outcome. (first last : AnyClient) × (settings : AnySettings)
         × IfSome (I.remaining reader.old) (λ text. StandsFor AreClientSettings text settings) × spec.IsClientOf settings first
         × (talks : spec.Talks words.now.turns words.now.request first outcome last)
@@ -229,7 +229,7 @@ fn run_at<R: Clock + Eprint + Seeds + Sockets>(
     peer: Peer,
     client: Client,
     words: &ClientWords,
-) -> Result<Outcome, Ended>
+) -> Result<AskEnd, Ended>
     ensures talks { IfOk result (λ outcome. (last : AnyClient) × (talks : spec.Talks words.now.turns words.now.request client outcome last)
         × system.RunsOn (R.gave runtime.now) (R.opened runtime.now bind (Some peer)) R.Socket.sent talks.start talks.sent) }
     ensures ends { IfErr result (ends.CannotTalk words.now.request) }
@@ -252,7 +252,7 @@ fn run<W: Watch + Drop, P: Port>(
     port: &mut P,
     talking: &mut Talking<W>,
     words: &ClientWords,
-) -> Result<Outcome, Ended>
+) -> Result<AskEnd, Ended>
     ensures converses { IfOk result (λ outcome. (sent : List AnyDatagram)
         × spec.Converses words.now.turns words.now.request (record { node = talking.old.client; busy = talking.old.pace.busy_since; supply = talking.old.supply }) (record { sent = sent; outcome = outcome }) (record { node = talking.new.client; busy = talking.new.pace.busy_since; supply = talking.new.supply })
         × (P.sent port.new ≡ grown (P.sent port.old) sent)) }
@@ -271,16 +271,16 @@ fn go_on<W: Watch + Drop, P: Port>(
     talking: &mut Talking<W>,
     turns: &mut u64,
     words: &ClientWords,
-    exchanged: Outcome,
-) -> Result<Outcome, Ended>
+    exchanged: AskEnd,
+) -> Result<AskEnd, Ended>
     ensures goes_on { IfOk result (λ outcome. (sent : List AnyDatagram)
         × spec.GoesOn turns.old words.now.request exchanged (record { node = talking.old.client; busy = talking.old.pace.busy_since; supply = talking.old.supply }) (record { sent = sent; outcome = outcome }) (record { node = talking.new.client; busy = talking.new.pace.busy_since; supply = talking.new.supply })
         × (P.sent port.new ≡ grown (P.sent port.old) sent)) }
     ensures ends { IfErr result (ends.CannotTalk words.now.request) }
 {
     match exchanged {
-        Outcome::Told(result) => go_on_by(alloc, port, talking, turns, words, result),
-        Outcome::Open => Ok(Outcome::Open),
+        AskEnd::Told(result) => go_on_by(alloc, port, talking, turns, words, result),
+        AskEnd::Open => Ok(AskEnd::Open),
     }
 }
 
@@ -292,7 +292,7 @@ fn go_on_by<W: Watch + Drop, P: Port>(
     turns: &mut u64,
     words: &ClientWords,
     told: ClientResult,
-) -> Result<Outcome, Ended>
+) -> Result<AskEnd, Ended>
     ensures goes_on { IfOk result (λ outcome. (sent : List AnyDatagram)
         × spec.GoesOnBy turns.old words.now.request told (record { node = talking.old.client; busy = talking.old.pace.busy_since; supply = talking.old.supply }) (record { sent = sent; outcome = outcome }) (record { node = talking.new.client; busy = talking.new.pace.busy_since; supply = talking.new.supply })
         × (P.sent port.new ≡ grown (P.sent port.old) sent)) }
@@ -300,7 +300,7 @@ fn go_on_by<W: Watch + Drop, P: Port>(
 {
     match told {
         ClientResult::Made => ask_and_wait(alloc, port, talking, turns, words),
-        other => Ok(Outcome::Told(other)),
+        other => Ok(AskEnd::Told(other)),
     }
 }
 
@@ -311,7 +311,7 @@ fn ask_and_wait<W: Watch + Drop, P: Port>(
     talking: &mut Talking<W>,
     turns: &mut u64,
     words: &ClientWords,
-) -> Result<Outcome, Ended>
+) -> Result<AskEnd, Ended>
     ensures requests { IfOk result (λ outcome. (sent : List AnyDatagram)
         × spec.Requests turns.old words.now.request (record { node = talking.old.client; busy = talking.old.pace.busy_since; supply = talking.old.supply }) (record { sent = sent; outcome = outcome }) (record { node = talking.new.client; busy = talking.new.pace.busy_since; supply = talking.new.supply })
         × (P.sent port.new ≡ grown (P.sent port.old) sent)) }
@@ -338,7 +338,7 @@ fn post<W: Watch + Drop, P: Port>(
     }
 }
 
-// Sends the request, protected. One with the code 0.00 is none.
+// Sends the request, protected. One with the code 0.00 is no request.
 fn send_request<W: Watch + Drop, P: Port>(
     alloc: Global,
     port: &mut P,
@@ -387,14 +387,14 @@ fn awaited<W: Watch + Drop, P: Port>(
     talking: &mut Talking<W>,
     turns: &mut u64,
     learnt: Option<ClientResult>,
-) -> Result<Outcome, Ended>
+) -> Result<AskEnd, Ended>
     ensures waits { IfOk result (λ outcome. (sent : List AnyDatagram)
         × spec.Waits turns.old learnt (record { node = talking.old.client; busy = talking.old.pace.busy_since; supply = talking.old.supply }) (record { sent = sent; outcome = outcome }) turns.new (record { node = talking.new.client; busy = talking.new.pace.busy_since; supply = talking.new.supply })
         × (P.sent port.new ≡ grown (P.sent port.old) sent)) }
     ensures fault { IfErr result ends.IsFault }
 {
     match learnt {
-        Some(result) => Ok(Outcome::Told(result)),
+        Some(result) => Ok(AskEnd::Told(result)),
         None => wait(alloc, port, talking, turns),
     }
 }
@@ -405,7 +405,7 @@ fn wait<W: Watch + Drop, P: Port>(
     port: &mut P,
     talking: &mut Talking<W>,
     turns: &mut u64,
-) -> Result<Outcome, Ended>
+) -> Result<AskEnd, Ended>
     ensures waits { IfOk result (λ outcome. (sent : List AnyDatagram)
         × spec.Waits turns.old None (record { node = talking.old.client; busy = talking.old.pace.busy_since; supply = talking.old.supply }) (record { sent = sent; outcome = outcome }) turns.new (record { node = talking.new.client; busy = talking.new.pace.busy_since; supply = talking.new.supply })
         × (P.sent port.new ≡ grown (P.sent port.old) sent)) }
@@ -416,11 +416,11 @@ fn wait<W: Watch + Drop, P: Port>(
         let learnt = client_turn(alloc, port, talking)?;
         if let Some(result) = learnt {
             *turns = most - taken - 1;
-            return Ok(Outcome::Told(result));
+            return Ok(AskEnd::Told(result));
         }
     }
     *turns = 0;
-    Ok(Outcome::Open)
+    Ok(AskEnd::Open)
 }
 
 // What the client learnt by a turn, if it did.

@@ -1,6 +1,6 @@
 //! Copies of a store's two files, which are only read.
 
-use osc_store::OpenError;
+use osc_store::OpenStoreError;
 use std::fs::{self, File};
 use std::io::{self, ErrorKind, Read};
 
@@ -26,7 +26,7 @@ pub(crate) enum Uncopied {
     /// The system says so.
     Io(io::Error),
     /// The files aren't those of a store that may be read.
-    Refused(OpenError),
+    Refused(OpenStoreError),
 }
 
 /// Reads the file and its log, also where a server goes on with them: the log, the file and the log again, until the log's header was the same
@@ -37,7 +37,7 @@ pub(crate) fn copy_files(rt: &HostRuntime, file: &str) -> Result<Copies, Uncopie
         Err(error) => return Err(Uncopied::Io(error)),
     };
     if has_bytes(rt, names.journal.as_str()) {
-        return Err(Uncopied::Refused(OpenError::Journal));
+        return Err(Uncopied::Refused(OpenStoreError::Journal));
     }
     for _ in 0..MOST_TRIES {
         match copy_once(rt, file, names.log.as_str()) {
@@ -46,7 +46,7 @@ pub(crate) fn copy_files(rt: &HostRuntime, file: &str) -> Result<Copies, Uncopie
             Err(error) => return Err(Uncopied::Io(error)),
         }
     }
-    Err(Uncopied::Refused(OpenError::Busy))
+    Err(Uncopied::Refused(OpenStoreError::Busy))
 }
 
 fn copy_once(rt: &HostRuntime, file: &str, log: &str) -> io::Result<Option<Copies>> {

@@ -4,7 +4,7 @@ ghost use Rattle.std.specs.Prelude.{◌≡◌, ◌⊎◌, Some, IfOk, option_map
 ghost use Rattle.osc_programs.specs.Ended as spec;
 
 use clap::error::ErrorKind as WordsKind;
-use osc_store::{KeepError, OpenError};
+use osc_store::{KeepError, OpenStoreError};
 use osc_words::{TokenWords, WordsError};
 use std::alloc::{AllocError, Global};
 use std::io::{self, ErrorKind};
@@ -28,7 +28,7 @@ pub enum Ended {
     /// The last result of `osc client` is no answer of class 2.
     NotDone,
     /// The store isn't opened.
-    Unopened(OpenError),
+    Unopened(OpenStoreError),
     /// What a step changed isn't kept in the store, so nothing of the step was sent.
     NotKept(KeepError),
 }

@@ -3,7 +3,7 @@ ghost use Rattle.std.specs.Prelude.{◌≡◌, ◌<◌, if◌then◌else◌};
 ghost use Rattle.osc_programs.specs.Holding as spec;
 
 use osc_authz::ServerDesk;
-use osc_log::{Held, Holds};
+use osc_log::{Held, TellsHeld};
 use osc_proxy::Proxy;
 use osc_server::Server;
 
@@ -21,11 +21,11 @@ pub(crate) trait Holding {
 
 /// A node as a log asks it what it holds.
 #[derive(Drop)]
-pub(crate) struct Asked<'a, N: Holding> {
+pub(crate) struct AskedNode<'a, N: Holding> {
     pub node: &'a N,
 }
 
-impl<'a, N: Holding> Holds for Asked<'a, N> {
+impl<'a, N: Holding> TellsHeld for AskedNode<'a, N> {
     ghost held = { λ asked. N.held asked.node.now };
 
     fn held(&self) -> Held {

@@ -24,7 +24,7 @@ pub const LONGEST_PAYLOAD_FILE: usize = 1_048_576;
 /// The most bytes of one read.
 const PIECE: usize = 4096;
 
-/// All that the reader gives, where that is no more than so many bytes, and none where it is more. At most one byte more than that is read.
+/// All that the reader gives, where that is no more than `most` bytes, and none where it is more. At most one byte more than that is read.
 pub fn bytes_within<I: Read>(
     alloc: Global,
     reader: &mut I,
@@ -62,7 +62,7 @@ pub fn script_bytes<I: Read>(alloc: Global, reader: &mut I) -> Result<Vec<u8>, E
     }
 }
 
-// Reads once, no further than one byte after so many, and tells whether more may come.
+// Reads once, no further than one byte after `most`, and tells whether more may come.
 fn read_once<I: Read>(reader: &mut I, bytes: &mut Vec<u8>, most: usize) -> Result<bool, Ended>
     requires { length bytes.old.items ≤ most }
     ensures took { (more : List ℕ) × (length bytes.old.items + length more ≤ most + 1) × Consumes (I.remaining reader.old) (I.remaining reader.new) more

@@ -38,7 +38,7 @@ pub use input::{
 };
 pub use issue::{drawn_iv, issue_token, iv_of, token, written};
 pub use key::issue_key;
-pub use noted::{Kept, Noted};
+pub use noted::{FaultKeeper, KeepingReader};
 pub use osc_simulation::TraceForm;
 pub use payload_file::with_payload;
 pub use revoking::KeepsServer;

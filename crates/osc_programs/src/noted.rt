@@ -6,17 +6,17 @@ use std::io::{self, ErrorKind, Read, Write};
 
 /// A reader or a writer that keeps why it failed last.
 #[derive(Drop)]
-pub struct Noted<T: Drop> {
+pub struct FaultKeeper<T: Drop> {
     inner: T,
     fault: Option<ErrorKind>,
 }
 
-impl<T: Drop> Noted<T> {
+impl<T: Drop> FaultKeeper<T> {
     /// One that didn't fail yet.
-    pub fn new(inner: T) -> Noted<T>
+    pub fn new(inner: T) -> FaultKeeper<T>
         ensures { result.inner ≡ inner }
     {
-        Noted { inner, fault: None }
+        FaultKeeper { inner, fault: None }
     }
 
     /// Why it failed last, if it did.
@@ -27,7 +27,7 @@ impl<T: Drop> Noted<T> {
     }
 }
 
-impl<T: Read + Drop> Read for Noted<T> {
+impl<T: Read + Drop> Read for FaultKeeper<T> {
     fn read(&mut self, buf: &mut [u8]) -> io::Result<usize> {
         match self.inner.read(buf) {
             Ok(count) => Ok(count),
@@ -39,7 +39,7 @@ impl<T: Read + Drop> Read for Noted<T> {
     }
 }
 
-impl<T: Write + Drop> Write for Noted<T> {
+impl<T: Write + Drop> Write for FaultKeeper<T> {
     fn write(&mut self, buf: &[u8]) -> io::Result<usize> {
         match self.inner.write(buf) {
             Ok(count) => Ok(count),
@@ -63,17 +63,17 @@ impl<T: Write + Drop> Write for Noted<T> {
 
 /// A reader that keeps what it gave, as long as there is memory for that.
 #[derive(Drop)]
-pub struct Kept<T: Drop> {
+pub struct KeepingReader<T: Drop> {
     inner: T,
     bytes: Option<Vec<u8>>,
 }
 
-impl<T: Drop> Kept<T> {
+impl<T: Drop> KeepingReader<T> {
     /// One that gave nothing yet.
-    pub fn new(alloc: Global, inner: T) -> Kept<T>
+    pub fn new(alloc: Global, inner: T) -> KeepingReader<T>
         ensures { result.inner ≡ inner }
     {
-        Kept {
+        KeepingReader {
             inner,
             bytes: Some(Vec::new(alloc)),
         }
@@ -112,7 +112,7 @@ impl<T: Drop> Kept<T> {
     }
 }
 
-impl<T: Read + Drop> Read for Kept<T> {
+impl<T: Read + Drop> Read for KeepingReader<T> {
     fn read(&mut self, buf: &mut [u8]) -> io::Result<usize> {
         let count = self.inner.read(buf)?;
         self.keep(&buf[..count]);

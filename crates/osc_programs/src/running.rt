@@ -47,7 +47,7 @@ use std::alloc::{AllocError, Global};
 use std::io::{Eprint, ErrorKind, Read};
 use std::time::Clock;
 
-/// Runs a server with the settings that the reader gives, for so many turns. It tells once, on the standard error, where it
+/// Runs a server with the settings that the reader gives, for this number of turns. It tells once, on the standard error, where it
 /// listens, if that can be written, and the log tells of each turn. A datagram that can't be sent is lost, as on the way, and so is one
 /// for whose step there is no memory; a receive that fails ends it. Where there are no settings, the log tells why.
 ///
@@ -251,7 +251,7 @@ fn tree_of(alloc: Global, resources: &[ResourceSetting]) -> Result<Tree, Ended>
     Ok(tree)
 }
 
-/// Puts a resource into the tree. Settings are so many, and so short, that there is room for each.
+/// Puts a resource into the tree. Settings are so few, and so short, that there is room for each.
 pub(crate) fn add_resource(
     alloc: Global,
     tree: &mut Tree,
@@ -323,7 +323,7 @@ fn target_of(setting: &TargetSetting) -> Result<Target, AllocError>
 
 // ---- turns
 
-/// The node takes so many turns at this address.
+/// The node takes this number of turns at this address.
 pub(crate) fn run<
     R: Clock + Eprint + Seeds + Sockets,
     N: Node<Suite> + Holding,
@@ -459,7 +459,7 @@ fn tell_end<R: Eprint, P: SocketPort>(alloc: Global, runtime: &R, port: &P, ende
 const EVERY_ADDRESS: &str =
     "answers leave from the address that the system picks, and a client that asked another address of this machine doesn't know them: bind one address";
 
-// `listening on A.B.C.D:PORT`, on the standard error, and at 0.0.0.0 a line more. A notice that can't be written is nobody's failure.
+// `listening on A.B.C.D:PORT`, on the standard error, and at 0.0.0.0 a line more. A notice that can't be written is no failure.
 fn tell_address<R: Eprint, P: SocketPort>(alloc: Global, runtime: &R, port: &P) {
     if let Some(peer) = port.address() {
         if let Ok(line) = address_line(alloc, peer) {

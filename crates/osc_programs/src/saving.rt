@@ -5,7 +5,7 @@ ghost use Rattle.osc_programs.specs.Storing as spec;
 
 use crate::ended::Ended;
 use crate::store::{refused, refused_by_io, sync_folder};
-use osc_store::{OpenError, whole_file};
+use osc_store::{OpenStoreError, whole_file};
 use osc_tree::Tree;
 use std::alloc::{AllocError, Global};
 use std::fs::{self, File, OpenOptions};
@@ -142,5 +142,5 @@ fn in_the_way(rt: &HostRuntime, to: &str, place: &str) -> Ended
     if let Ok(line) = format!(in rt.alloc(); "store {to}: {place} is there already") {
         let _told = rt.eprintln(line.as_str());
     }
-    Ended::Unopened(OpenError::Failed)
+    Ended::Unopened(OpenStoreError::Failed)
 }

@@ -30,8 +30,8 @@ use osc_model::{Code, Entry, Path, Resource, StepNotes};
 use osc_server::Server;
 use osc_settings::ResourceSetting;
 use osc_store::{
-    FRAMED_LOG, FileKeeper, KeepError, Keeper, Keeping, OpenError, Start, Unknown, Wary, draw_mark,
-    read_store,
+    FRAMED_LOG, FileKeeper, KeepError, Keeper, Keeping, OpenStoreError, Start, Unknown, Wary,
+    draw_mark, read_store,
 };
 use osc_tree::Tree;
 use osc_turn::laws::one_path_changes;
@@ -346,7 +346,7 @@ fn opened<S: Start>(
     rt: &HostRuntime,
     file: &str,
     start: S,
-) -> Result<(FileKeeper<FileFrom<S>>, Tree), OpenError>
+) -> Result<(FileKeeper<FileFrom<S>>, Tree), OpenStoreError>
     ensures { IfOk result (λ opened. spec.IsOpened view recovers (image_at S.Start) opened.0.store opened.1) }
 {
     let mark = draw_mark(rt)?;
@@ -382,7 +382,7 @@ fn make_store(rt: &HostRuntime, file: &str, first: &[ResourceSetting]) -> Result
         return Err(Ended::OutOfMemory);
     };
     if is_lost(rt, &new) {
-        return Err(refused(rt, file, file, OpenError::EmptyFile));
+        return Err(refused(rt, file, file, OpenStoreError::EmptyFile));
     }
     match blank_store(rt, file, &new) {
         Ok(blank) => fill_store(rt, file, &new, blank, first),
@@ -425,7 +425,7 @@ fn named(rt: &HostRuntime, file: &str, new: &NewFiles) -> Result<(), Ended>
 {
     if !is_missing(rt, file) {
         discard(rt, new);
-        return Err(refused(rt, file, file, OpenError::Busy));
+        return Err(refused(rt, file, file, OpenStoreError::Busy));
     }
     match put_in_place(rt, file, new) {
         Ok(()) => Ok(()),
@@ -554,13 +554,13 @@ pub(crate) fn tell_unkept<R: Eprint>(alloc: Global, runtime: &R, file: &str, end
 }
 
 /// The store at this path isn't opened, and a line tells why.
-pub(crate) fn refused(rt: &HostRuntime, file: &str, at: &str, error: OpenError) -> Ended
+pub(crate) fn refused(rt: &HostRuntime, file: &str, at: &str, error: OpenStoreError) -> Ended
     ensures ends { ends.NotOpened result }
 {
-    if error == OpenError::OutOfMemory {
+    if error == OpenStoreError::OutOfMemory {
         return Ended::OutOfMemory;
     }
-    if error == OpenError::Failed {
+    if error == OpenStoreError::Failed {
         if let Some(kind) = why_not(rt, at) {
             return refused_by(rt, file, kind);
         }
@@ -571,10 +571,12 @@ pub(crate) fn refused(rt: &HostRuntime, file: &str, at: &str, error: OpenError) 
     Ended::Unopened(error)
 }
 
-fn refused_line(alloc: Global, file: &str, error: OpenError) -> Result<String, AllocError> {
+fn refused_line(alloc: Global, file: &str, error: OpenStoreError) -> Result<String, AllocError> {
     match error {
-        OpenError::NoLog => Ok(format!(in alloc; "store {file}: its log {file}-wal is missing")?),
-        OpenError::ForeignLog => {
+        OpenStoreError::NoLog => Ok(format!(in alloc;
+            "store {file}: its log {file}-wal is missing"
+        )?),
+        OpenStoreError::ForeignLog => {
             Ok(format!(in alloc; "store {file}: its log {file}-wal is that of another file")?)
         }
         _ => Ok(format!(in alloc; "store {file}: {error}")?),
@@ -591,13 +593,13 @@ pub(crate) fn refused_by_io(rt: &HostRuntime, file: &str, error: &io::Error) -> 
 }
 
 fn refused_by(rt: &HostRuntime, file: &str, kind: ErrorKind) -> Ended
-    ensures value { result ≡ Ended.Unopened OpenError.Failed }
+    ensures value { result ≡ Ended.Unopened OpenStoreError.Failed }
     ensures ends { ends.NotOpened result }
 {
     if let Ok(line) = format!(in rt.alloc(); "store {file}: {kind}") {
         let _told = rt.eprintln(line.as_str());
     }
-    Ended::Unopened(OpenError::Failed)
+    Ended::Unopened(OpenStoreError::Failed)
 }
 
 // What the system says of the file.

@@ -8,7 +8,7 @@ ghost use Rattle.osc_log.specs.{Event, Tells, turned as turned_event};
 ghost use Rattle.osc_programs.specs.Turning as spec;
 
 use crate::ended::Ended;
-use crate::holding::{Asked, Holding};
+use crate::holding::{AskedNode, Holding};
 use crate::supply::moment_and_draw;
 use osc_ccm::Suite;
 use osc_log::laws::telling_goes_on;
@@ -21,7 +21,7 @@ use osc_turn::{
 };
 use std::alloc::Global;
 
-/// The node takes so many turns, unless one fails, and the log tells of each. What a step changed is kept before anything of the step is handed
+/// The node takes this number of turns, unless one fails, and the log tells of each. What a step changed is kept before anything of the step is handed
 /// to the port; where it isn't kept, nothing of that step is sent, and the turns end. A datagram that can't be sent is lost, as on the way; so
 /// is what came where there is no memory for its step.
 pub(crate) fn take_turns<
@@ -109,7 +109,7 @@ fn tell_turn<N: Holding, L: Log>(alloc: Global, log: &mut L, now: Moment, turned
         received: turned.received,
         step: &turned.step,
     };
-    log.turn(alloc, &turn, &Asked { node });
+    log.turn(alloc, &turn, &AskedNode { node });
 }
 
 /// One turn of the node, at the next moment and with the next draw.

@@ -33,7 +33,7 @@ unfolding kid_at
 kid_again None = refl
 kid_again (Some bytes) = refl
 
--- the flag bits of so many bytes of Partial IV, a kid and a kid context
+-- the flag bits of `size` bytes of Partial IV, a kid and a kid context
 abbrev flags_with : ℕ → Bool → Bool → ℕ
 flags_with size kid context = size + cond kid 8 0 + cond context 16 0
 
@@ -116,7 +116,7 @@ AreBytes-take n bytes h i =
       | inr le ↦ rw (get_or_past (take n bytes) i 0 (omega (arith, length-take n bytes))) (omega arith)
     ]
 
--- so many bytes of Partial IV were taken from the front
+-- `size` bytes of Partial IV were taken from the front
 record TakesNumber (size : ℕ) (bytes : List ℕ) (number : Option ℕ) (rest : List ℕ) : Type 0 where
   parts : bytes ≡ partial_iv_bytes number ++ rest
   size_is : length (partial_iv_bytes number) ≡ size

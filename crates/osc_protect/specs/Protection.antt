@@ -86,7 +86,7 @@ IsGenuine is_sealing key nonce aad sealed = (text : List ℕ) × is_sealing key 
 abbrev pub longest_message : ℕ
 longest_message = 1152
 
--- How long the protected message is, where the sealed text and a tag have so many bytes: only their number counts.
+-- How long the protected message is, where the sealed text and a tag have `size` bytes: only their number counts.
 abbrev pub length_of_request : ℕ → ContextName → ℕ → Message → ℕ
 length_of_request size name number m = length (spelling (request_with name number m (replicate size 0)))
 

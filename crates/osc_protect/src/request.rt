@@ -261,7 +261,7 @@ fn seal_text<A: Ciphers>(room: Room, number: SendNumber, draft: &mut Draft) -> N
 ///
 /// # Errors
 ///
-/// `RequestNotGenuine` exactly where what is sealed is the sealing of no text. Want of memory is no answer to that, unless more
+/// `RequestNotGenuine` exactly where what is sealed is the sealing of no text. Lack of memory is no answer to that, unless more
 /// is sealed than a datagram can hold.
 pub fn open_request<A: Ciphers>(
     alloc: Global,

@@ -240,7 +240,7 @@ fn nonce_of_response(
 ///
 /// # Errors
 ///
-/// `ResponseNotGenuine` exactly where what is sealed is the sealing of no text. Want of memory is no answer to that, unless more
+/// `ResponseNotGenuine` exactly where what is sealed is the sealing of no text. Lack of memory is no answer to that, unless more
 /// is sealed than a datagram can hold.
 pub fn open_response<A: Ciphers>(
     alloc: Global,

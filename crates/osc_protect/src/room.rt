@@ -61,7 +61,7 @@ impl Model for Room {
 }
 
 impl Room {
-    /// Room for one seal about the request of this number under the context of this name, and for a text of at most so many
+    /// Room for one seal about the request of this number under the context of this name, and for a text of at most `most`
     /// bytes; no text of a message is longer than 1152. The name gets one more owner.
     pub fn new(
         alloc: Global,

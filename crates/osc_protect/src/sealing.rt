@@ -38,7 +38,7 @@ pub(crate) fn size_with(message: &MessageBuilder, size: usize) -> usize
 }
 
 /// Writes the message with this code and option value, still without its payload; refused exactly where it is longer than a datagram
-/// may be with so many bytes of payload.
+/// may be with `size` bytes of payload.
 pub(crate) fn write_outer(
     out: &mut MessageBuilder,
     message: &MessageRef<'_>,

@@ -62,7 +62,7 @@ fn has_leading_zero(bytes: &[u8]) -> bool
     }
 }
 
-/// The Partial IV in so many bytes, and the bytes after it.
+/// The Partial IV in the first `size` bytes, and the bytes after it.
 #[tactic(auto, unfolding(crate::specs::Inner::ValueReading::partial_iv_at))]
 fn partial_iv_at(size: usize, bytes: &[u8]) -> Option<(Option<u64>, &[u8])>
     ensures { option_map (λ part. (part.0, part.1.now)) result ≡ spec.partial_iv_at size bytes.now }

@@ -15,7 +15,7 @@ use Rattle.osc_message.specs.declared.received.Received.{Received}
 use Rattle.osc_message.specs.declared.received.Received.TheVariants as received_as
 use Rattle.osc_proxy.specs.{case_of, answers, first_key, HostAndPort, peer_of, IsCarried}
 use Rattle.osc_proxy.specs.Exchanges.{Table}
-use Rattle.osc_proxy.specs.declared.case.Case.TheVariants.{Forwarded, Counted}
+use Rattle.osc_proxy.specs.declared.case.ForwardCase.TheVariants.{Forwarded, Counted}
 use Rattle.osc_proxy.specs.declared.targets.Target.{Target}
 
 abbrev pub OneReception : Type 0

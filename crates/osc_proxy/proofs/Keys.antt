@@ -68,7 +68,7 @@ none_from test (Some exchange ∷ rest) base e =
     let more : 1 + sum_by present rest ≡ sum_by present (Some exchange ∷ rest) = sym (sum_by-cons present (Some exchange) rest) in
     absurd (omega (arith, more, e))
 
--- where none is open there is none
+-- where no exchange is open there is none
 pub none_is_there : (test : Exchange → Bool) (table : Table) → count table ≡ 0 → first_key test table ≡ None
 none_is_there test table e = none_from test table.slots 0 e
 

@@ -16,7 +16,7 @@ use Rattle.osc_proxy.proofs.Its.{peer_same}
 
 -- ---- open messages
 
--- where none is open to the peer, none is acknowledged
+-- where no message is open to the peer, none is acknowledged
 none_named : (peer : Peer) (id : ℕ) (all : List Open) → has_open peer all ≡ false → acknowledged peer id all ≡ all
 none_named peer id [] none = refl
 none_named peer id (message ∷ rest) none =
@@ -27,7 +27,7 @@ none_named peer id (message ∷ rest) none =
 last_goes : (peer : Peer) (id : ℕ) (message : Open) → is_named peer id message ≡ true → acknowledged peer id (message ∷ []) ≡ []
 last_goes peer id message named = rw named refl
 
--- one more to a peer to whom none was open is acknowledged: those are left that were open before
+-- one more to a peer to whom no message was open is acknowledged: those are left that were open before
 pub acknowledged_again : (now : Moment) (peer : Peer) (id timeout : ℕ) (bytes : Bytes) (all : List Open) → has_open peer all ≡ false
     → acknowledged peer id (with_open now peer id timeout bytes all) ≡ all
 acknowledged_again now peer id timeout bytes all none =

@@ -22,11 +22,11 @@ use Rattle.osc_model.specs.declared.node.Moment.{Moment}
 use Rattle.osc_proxy.specs.{ended_by, first_key, is_named, goes_now, sends_own, Answers, AnswersNew, FitsBy, ForwardsBy, IsForwarded, IsRefused, Settles, answer_for, back_sends, counted, forwarded_by, key_for, named, bad_gateway, taken_up}
 use Rattle.osc_proxy.specs.State.{State}
 use Rattle.osc_proxy.specs.Passage.{Passage}
-use Rattle.osc_proxy.specs.declared.case.Case.{Case}
-use Rattle.osc_proxy.specs.declared.case.Case.TheVariants.{Refused, Forwarded, Counted, Unused}
+use Rattle.osc_proxy.specs.declared.case.Case.{ForwardCase}
+use Rattle.osc_proxy.specs.declared.case.ForwardCase.TheVariants.{Refused, Forwarded, Counted, Unused}
 use Rattle.osc_proxy.proofs.Ending.{one_back}
 
--- a step that sends so many datagrams, and does nothing else, but that it may refuse a request
+-- a step that sends at most two datagrams, and does nothing else, but that it may refuse a request
 pub record IsSmall (step : Step) : Type 0 where
   pub few : length step.out ≤ 2
   pub refused : Option RefusedRequest
@@ -93,7 +93,7 @@ settles_small None kind old came step new is = small step _ is.0 (omega arith)
 settles_small (Some key) kind old came step new is =
     small step _ is.told (omega (arith, one_back (named old came) is.exchange (bad_gateway old came.draw is.exchange)))
 
-new_small : (old : State) (came : Arrival Message) (case : Case) (step : Step) (new : State) → AnswersNew old came case step new → IsSmall step
+new_small : (old : State) (came : Arrival Message) (case : ForwardCase) (step : Step) (new : State) → AnswersNew old came case step new → IsSmall step
 new_small old came (Refused why) step new is = refused_small why old came step new is
 new_small old came (Forwarded to) step new is = forwards_small (key_for old came.what to) old came to step new is
 new_small old came (Counted key) step new is =

@@ -22,7 +22,7 @@ use Rattle.osc_message.specs.declared.received.Received.TheVariants as received_
 use Rattle.osc_proxy.specs.{case_of, HasOwnTokens, answers, count, first_key, free_key, get, answer, forwarded, forwarded_token, Hears, goes_now, sends_own, with_own, HostAndPort, Names, port_in, Answers, AnswersMessage, AnswersNew, Counts, FitsBy, ForwardsBy, IsForwarded, answer_for, back_kept, back_sends, counted, exchange_of, forwarded_by, kept_on, key_for, next_own, taken_up, CanSendTo, IsAnswerTo, IsAtRest, IsBroughtBack, IsCarried, IsLawfulProxy, IsPassedOn, TakesUp, acknowledged_at, answer_by, answer_id, answered_at, datagram_of, heard_with}
 use Rattle.osc_proxy.specs.Passage.{Passage}
 use Rattle.osc_proxy.specs.State.{State}
-use Rattle.osc_proxy.specs.declared.case.Case.TheVariants.{Forwarded, Counted}
+use Rattle.osc_proxy.specs.declared.case.ForwardCase.TheVariants.{Forwarded, Counted}
 use Rattle.osc_proxy.specs.declared.exchanges.Exchange.{Exchange}
 use Rattle.osc_proxy.proofs.Its.{peer_same}
 use Rattle.osc_proxy.proofs.Forwarded.{named_by_options}

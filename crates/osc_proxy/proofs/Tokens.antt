@@ -33,7 +33,7 @@ found_by_own table from message key exchange own is passes = by (first_key (answ
         let same : other ≡ key = cc in
         e ∙ ap Some same
 
--- where no exchange of the key with which the token begins is answered, none is
+-- where no exchange of the key with which the token begins is answered, no exchange is
 pub none_elsewhere : (table : Table) (from : Peer) (message : Message) (key : ℕ) (rest : List ℕ) → HasOwnTokens table → message.token ≡ key ∷ rest
     → ((exchange : Exchange) → get table key ≡ Some exchange → answers from message exchange ≡ false) → first_key (answers from message) table ≡ None
 none_elsewhere table from message key rest own token none = by (first_key (answers from message) table) refl

@@ -14,7 +14,7 @@ use Rattle.osc_coap.specs.{spelling}
 use Rattle.osc_proxy.specs.State.{State}
 use Rattle.osc_proxy.specs.{heard_with}
 
--- ---- none is found among those that are kept
+-- ---- nothing is found among those that are kept
 
 first_fails : {X : Type 0} (p q : X → Bool) (x : X) (rest : List X) → find p (cond (q x) (x ∷ rest) rest) ≡ None
     → ((q x && p x) ≡ false) × (find p rest ≡ None)

@@ -10,26 +10,26 @@ use Rattle.osc_message.specs.{is_confirmable}
 use Rattle.osc_proxy.specs.Exchanges.{Table, answers, first_key}
 use Rattle.osc_proxy.specs.ProxyUri.{HostAndPort}
 use Rattle.osc_proxy.specs.Route.{route}
-use Rattle.osc_proxy.specs.declared.case.Case.{Case}
-use Rattle.osc_proxy.specs.declared.case.Case.TheVariants.{Refused, Forwarded, Counted, Unused}
-use Rattle.osc_proxy.specs.declared.route.Route.{Route}
-use Rattle.osc_proxy.specs.declared.route.Route.TheVariants.{BadOption, NotFound, NotSupported, To}
+use Rattle.osc_proxy.specs.declared.case.Case.{ForwardCase}
+use Rattle.osc_proxy.specs.declared.case.ForwardCase.TheVariants.{Refused, Forwarded, Counted, Unused}
+use Rattle.osc_proxy.specs.declared.route.Route.{Destination}
+use Rattle.osc_proxy.specs.declared.route.Destination.TheVariants.{BadOption, NotFound, NotSupported, To}
 use Rattle.osc_proxy.specs.declared.targets.Target.{Target}
 
 -- a request is refused with the code of what hinders it (RFC 7252 sections 5.7.1 and 5.7.2), or forwarded
-abbrev pub routed : Route → Case
+abbrev pub routed : Destination → ForwardCase
 routed BadOption = Refused (code 4 2)
 routed NotFound = Refused (code 4 4)
 routed NotSupported = Refused (code 5 5)
 routed (To peer) = Forwarded peer
 
 -- a response counts for an exchange, or for none (section 5.3.2)
-abbrev pub counted : Option ℕ → Case
+abbrev pub counted : Option ℕ → ForwardCase
 counted None = Unused
 counted (Some key) = Counted key
 
 -- `named` is what the message's options name
-abbrev pub case_of : List Target → Table → Peer → Option HostAndPort → CoapMessage → Case
+abbrev pub case_of : List Target → Table → Peer → Option HostAndPort → CoapMessage → ForwardCase
 case_of targets exchanges from named message =
     if is_request_code message.code then routed (route targets message.options named)
     else if is_response_code message.code then counted (first_key (answers from message) exchanges)
@@ -41,6 +41,6 @@ ended_by ResetKind found = found
 ended_by kind found = None
 
 -- whether a new message may be answered: one of no use is where it is rejected
-abbrev pub IsNewAnswered : CoapMessage → Case → Type 0
+abbrev pub IsNewAnswered : CoapMessage → ForwardCase → Type 0
 IsNewAnswered message Unused = is_confirmable message.kind ≡ true
 IsNewAnswered message case = Unit {0}

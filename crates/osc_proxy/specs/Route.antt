@@ -6,8 +6,8 @@ use Rattle.osc_coap.specs.{NumberAndValue}
 use Rattle.osc_options.specs.{proxy_scheme, proxy_uri, uri_host, uri_port, has_unrecognised_unsafe, recognised, uint, value}
 use Rattle.osc_proxy.specs.ProxyUri.{HostAndPort, Reads}
 use Rattle.osc_proxy.specs.Targets.{peer_of}
-use Rattle.osc_proxy.specs.declared.route.Route.{Route}
-use Rattle.osc_proxy.specs.declared.route.Route.TheVariants.{BadOption, NotFound, NotSupported, To}
+use Rattle.osc_proxy.specs.declared.route.Route.{Destination}
+use Rattle.osc_proxy.specs.declared.route.Destination.TheVariants.{BadOption, NotFound, NotSupported, To}
 use Rattle.osc_proxy.specs.declared.targets.Target.{Target}
 
 -- ---- what the options of a request name for its target
@@ -37,16 +37,16 @@ is_for_proxy options = is_some (value proxy_uri (recognised 0 options)) || is_so
 
 -- ---- where it goes
 
-abbrev pub to_peer : Option Peer → Route
+abbrev pub to_peer : Option Peer → Destination
 to_peer None = NotSupported
 to_peer (Some peer) = To peer
 
-abbrev pub to_named : List Target → Option HostAndPort → Route
+abbrev pub to_named : List Target → Option HostAndPort → Destination
 to_named targets None = NotSupported
 to_named targets (Some named) = to_peer (peer_of targets named.0 named.1)
 
 -- the first of these that holds: it has an option that can't be forwarded; it is for no proxy; it names no target; it goes to one
-abbrev pub route : List Target → List NumberAndValue → Option HostAndPort → Route
+abbrev pub route : List Target → List NumberAndValue → Option HostAndPort → Destination
 route targets options named =
     if has_unrecognised_unsafe 0 options then BadOption
     else if is_for_proxy options then to_named targets named else NotFound

@@ -25,8 +25,8 @@ use Rattle.osc_proxy.specs.ProxyUri.{HostAndPort}
 use Rattle.osc_proxy.specs.Route.{Names}
 use Rattle.osc_proxy.specs.State.{State}
 use Rattle.osc_options.specs.{has_unrecognised_unsafe}
-use Rattle.osc_proxy.specs.declared.case.Case.{Case}
-use Rattle.osc_proxy.specs.declared.case.Case.TheVariants.{Refused, Forwarded, Counted, Unused}
+use Rattle.osc_proxy.specs.declared.case.Case.{ForwardCase}
+use Rattle.osc_proxy.specs.declared.case.ForwardCase.TheVariants.{Refused, Forwarded, Counted, Unused}
 use Rattle.osc_proxy.specs.declared.exchanges.Exchange.{Exchange}
 
 -- Each message here has a spelling, by which it is read again as that very message (section 3).
@@ -191,7 +191,7 @@ Settles (Some key) kind old came step new = Ends key old came step new
 
 -- A new message, in each case. One for no exchange is rejected, where it is confirmable, and else ignored; an acknowledgement
 -- acknowledges all the same.
-abbrev pub AnswersNew : State → Arrival Message → Case → Step → State → Type 0
+abbrev pub AnswersNew : State → Arrival Message → ForwardCase → Step → State → Type 0
 AnswersNew old came (Refused why) step new = IsRefused why old came step new
 AnswersNew old came (Forwarded to) step new = ForwardsBy (key_for old came.what to) old came to step new
 AnswersNew old came (Counted key) step new = Counts key old came step new

@@ -30,7 +30,7 @@ pub record IsCarried (message : Message) : Type 0 where
 pub record IsLawfulProxy (proxy : State) : Type 0 where
   pub own_tokens : HasOwnTokens proxy.exchanges
 
--- A confirmable message for this peer goes out at once: none is open to it, and there is room for one (section 4.7).
+-- A confirmable message for this peer goes out at once: no message is open to it, and there is room for one (section 4.7).
 pub record CanSendTo (proxy : State) (peer : Peer) : Type 0 where
   pub idle : has_open peer proxy.endpoint.sending ≡ false
   pub room : takes peer proxy.endpoint.sending ≡ true

@@ -11,7 +11,7 @@ ghost use Rattle.osc_proxy.specs.Route.{Names};
 
 use crate::exchanges::Exchanges;
 use crate::laws::something_is_named;
-use crate::route::{Route, route_of};
+use crate::route::{Destination, route_of};
 use crate::targets::Targets;
 use osc_coap::{Kind, MessageRef, is_request_code, is_response_code};
 use osc_message::MessageName;
@@ -19,7 +19,7 @@ use osc_model::{Code, Peer};
 
 /// What a new message is to a proxy.
 #[derive(Clone, Copy, Debug, PartialEq, Eq)]
-pub enum Case {
+pub enum ForwardCase {
     /// A request that isn't forwarded, and the code of its answer.
     Refused(Code),
     /// A request that is forwarded to this peer.
@@ -31,21 +31,21 @@ pub enum Case {
 }
 
 /// A request that goes here.
-fn routed(route: Route) -> Case
+fn routed(route: Destination) -> ForwardCase
     ensures case { result ≡ spec.routed route }
     ensures asks { (exchanges : Table) (from : AnyPeer) (message : AnyMessage) → 0 < message.code → names_one message.kind ≡ false
         → AsksFor exchanges from message result }
 {
     match route {
-        Route::BadOption => Case::Refused(Code::BAD_OPTION),
-        Route::NotFound => Case::Refused(Code::NOT_FOUND),
-        Route::NotSupported => Case::Refused(Code::PROXYING_NOT_SUPPORTED),
-        Route::To(peer) => Case::Forwarded(peer),
+        Destination::BadOption => ForwardCase::Refused(Code::BAD_OPTION),
+        Destination::NotFound => ForwardCase::Refused(Code::NOT_FOUND),
+        Destination::NotSupported => ForwardCase::Refused(Code::PROXYING_NOT_SUPPORTED),
+        Destination::To(peer) => ForwardCase::Forwarded(peer),
     }
 }
 
 /// A response.
-fn response_case(exchanges: &Exchanges, from: Peer, message: &MessageRef<'_>) -> Case
+fn response_case(exchanges: &Exchanges, from: Peer, message: &MessageRef<'_>) -> ForwardCase
     requires code { 0 < message.now.code }
     requires response { is_request_code_of message.now.code ≡ false }
     requires short { length (spelling message.now) ≤ datagram_limit }
@@ -53,8 +53,8 @@ fn response_case(exchanges: &Exchanges, from: Peer, message: &MessageRef<'_>) ->
     ensures asks { AsksFor exchanges.now from message.now result }
 {
     match exchanges.find(from, message) {
-        Some(key) => Case::Counted(key),
-        None => Case::Unused,
+        Some(key) => ForwardCase::Counted(key),
+        None => ForwardCase::Unused,
     }
 }
 
@@ -64,7 +64,7 @@ pub(crate) fn case_of(
     exchanges: &Exchanges,
     from: Peer,
     message: &MessageRef<'_>,
-) -> Case
+) -> ForwardCase
     requires short { length (spelling message.now) ≤ datagram_limit }
     requires apart { is_request_code_of message.now.code ≡ true → names_one message.now.kind ≡ false }
     ensures case { (named : Option HostAndPort) × Names message.now.options named
@@ -77,7 +77,7 @@ pub(crate) fn case_of(
     } else if is_response_code(message.code()) {
         response_case(exchanges, from, message)
     } else {
-        Case::Unused
+        ForwardCase::Unused
     }
 }
 

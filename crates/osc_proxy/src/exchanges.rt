@@ -10,7 +10,7 @@ use crate::Endpoint;
 use crate::deadline::first_of;
 use crate::token::Token;
 use osc_coap::MessageRef;
-use osc_message::{Buffer, MessageName, is_acknowledgement};
+use osc_message::{MessageName, MessageRoom, is_acknowledgement};
 use osc_model::limits::EXCHANGE_LIFETIME;
 use osc_model::{Bytes, Moment, Peer};
 use slab::Slab;
@@ -48,8 +48,8 @@ pub struct Exchange {
 /// Room for an answer without options and payload, so that an exchange ends without memory.
 #[derive(Drop)]
 pub struct FailureRoom {
-    sent: Buffer,
-    kept: Buffer,
+    sent: MessageRoom,
+    kept: MessageRoom,
 }
 
 impl Model for FailureRoom {
@@ -74,8 +74,8 @@ impl FailureRoom {
         ensures { IfOk result (λ room. room ≡ tt) }
     {
         Ok(FailureRoom {
-            sent: Buffer::new(alloc, LONGEST_FAILURE)?,
-            kept: Buffer::new(alloc, LONGEST_FAILURE)?,
+            sent: MessageRoom::new(alloc, LONGEST_FAILURE)?,
+            kept: MessageRoom::new(alloc, LONGEST_FAILURE)?,
         })
     }
 
@@ -137,7 +137,7 @@ fn end_of(exchange: &Exchange) -> u64
     exchange.opened.ms + EXCHANGE_LIFETIME
 }
 
-/// Whether no answer came for so long that none is awaited any more.
+/// Whether no answer came for so long that it isn't awaited any more.
 fn is_overdue(now: Moment, exchange: &Exchange) -> bool
     ensures { result ≡ spec.is_overdue now exchange.now }
 {
@@ -170,7 +170,7 @@ pub(crate) fn withdraw(endpoint: &mut Endpoint, exchange: &Exchange)
 }
 
 impl Exchanges {
-    /// None is open. Refused only for lack of memory.
+    /// No exchange is open. Refused only for lack of memory.
     pub fn new(alloc: Global) -> Result<Exchanges, AllocError>
         ensures { IfOk result (λ exchanges. exchanges ≡ spec.none_open) }
     {
@@ -217,7 +217,7 @@ impl Exchanges {
         let _key = self.open.insert_reserved(exchange);
     }
 
-    /// Room for the next exchange: that of one that was answered, or, where none is left, new memory.
+    /// Room for the next exchange: that of one that was answered, or, where there is none left, new memory.
     pub(crate) fn take_room(&mut self, alloc: Global) -> Result<FailureRoom, AllocError>
         ensures { self.new ≡ self.old }
     {
@@ -283,7 +283,7 @@ impl Exchanges {
         None
     }
 
-    /// The first moment at which the end of an exchange is due, in ms, or none where none is open.
+    /// The first moment at which the end of an exchange is due, in ms, or none where no exchange is open.
     pub fn first_end(&self) -> Option<u64>
         ensures reached { (now : AnyMoment) → is_reached now result ≡ any_overdue now self.now }
         ensures open { 0 < spec.count self.now → IsSome result }

@@ -22,13 +22,13 @@ mod ticking;
 mod token;
 mod unsafe_options;
 
-pub use case::Case;
+pub use case::ForwardCase;
 pub use exchanges::{Exchange, Exchanges, FailureRoom};
 pub use forwarding::{answer_message, forwarded_message, forwarded_token};
 pub use osc_model::limits::DEFAULT_PORT;
 pub use proxy::Proxy;
-pub use proxy_uri::{Origin, read_proxy_uri};
-pub use route::{Route, route_of};
+pub use proxy_uri::{TargetName, read_proxy_uri};
+pub use route::{Destination, route_of};
 pub use targets::{Target, Targets};
 pub use token::Token;
 pub use unsafe_options::has_unrecognised_unsafe;

@@ -22,7 +22,7 @@ ghost use Rattle.osc_proxy.specs.declared.exchanges.Exchange.{Exchange as AnyExc
 
 use crate::Endpoint;
 use crate::answering::{answer_back, failing};
-use crate::case::{Case, case_of, ended_by};
+use crate::case::{ForwardCase, case_of, ended_by};
 use crate::deadline::{first_of, messages_deadline};
 use crate::exchanges::{Exchanges, FailureRoom};
 use crate::forwarding::{forwarded_message, forwarded_token};
@@ -212,7 +212,7 @@ impl Proxy {
         &mut self,
         alloc: Global,
         came: Arrival<'_>,
-        case: Case,
+        case: ForwardCase,
     ) -> Result<Step, AllocError>
         requires { AsksFor self.old.exchanges came.from came.what case }
         ensures answered { IfOk result (λ step. AnswersNew self.old came.entry case step self.new) }
@@ -221,10 +221,10 @@ impl Proxy {
         ensures needs_memory { OnErr result (IsNewAnswered came.entry.what case) }
     {
         match case {
-            Case::Refused(why) => self.refuse(alloc, came, why),
-            Case::Forwarded(to) => self.forward(alloc, came, to),
-            Case::Counted(key) => self.count(alloc, came, key),
-            Case::Unused => self.pass_over(alloc, came),
+            ForwardCase::Refused(why) => self.refuse(alloc, came, why),
+            ForwardCase::Forwarded(to) => self.forward(alloc, came, to),
+            ForwardCase::Counted(key) => self.count(alloc, came, key),
+            ForwardCase::Unused => self.reject(alloc, came),
         }
     }
 
@@ -257,7 +257,7 @@ impl Proxy {
     }
 
     /// Rejects a message that is for no exchange, where it is confirmable, and else ignores it; an acknowledgement acknowledges all the same.
-    fn pass_over(&mut self, alloc: Global, came: Arrival<'_>) -> Result<Step, AllocError>
+    fn reject(&mut self, alloc: Global, came: Arrival<'_>) -> Result<Step, AllocError>
         ensures sent { IfOk result (λ step. step ≡ sends (rejection came.entry.from came.entry.what.kind came.entry.what.id)) }
         ensures kept { OnOk result (self.new ≡ record self.old { endpoint = settled self.old.endpoint came.entry.at came.entry.from (heard.Message came.entry.what) handling.Dropped }) }
         ensures fits { IfOk result (λ step. AreSendable step.out) }
@@ -270,7 +270,7 @@ impl Proxy {
             message,
             ..
         } = came;
-        let step = self.endpoint.pass_over(alloc, at, from, message)?;
+        let step = self.endpoint.reject(alloc, at, from, message)?;
         Ok(step)
     }
 

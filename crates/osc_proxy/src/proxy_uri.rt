@@ -8,7 +8,7 @@ use osc_model::limits::DEFAULT_PORT;
 
 /// The host and the port that a request names for its target.
 #[derive(Clone, Copy, Debug, PartialEq, Eq)]
-pub struct Origin<'a> {
+pub struct TargetName<'a> {
     /// The host, as it is spelled.
     pub host: &'a [u8],
     /// The UDP port.
@@ -115,7 +115,7 @@ fn port_behind(rest: &[u8]) -> Option<u16>
 
 /// The host and the port that follow the scheme.
 #[tactic(auto, unfolding(crate::specs::Inner::Reading::authority))]
-fn authority(bytes: &[u8]) -> Option<Origin<'_>>
+fn authority(bytes: &[u8]) -> Option<TargetName<'_>>
     ensures { option_map (λ origin. (origin.host.now, origin.port)) result ≡ spec.authority bytes.now }
 {
     let (host, rest) = bytes.split_at(host_length(bytes));
@@ -123,12 +123,12 @@ fn authority(bytes: &[u8]) -> Option<Origin<'_>>
         return None;
     }
     let port = port_behind(rest)?;
-    Some(Origin { host, port })
+    Some(TargetName { host, port })
 }
 
 /// The host and the port, read from left to right.
 #[tactic(auto, unfolding(crate::specs::Inner::Reading::host_and_port))]
-fn host_and_port(uri: &[u8]) -> Option<Origin<'_>>
+fn host_and_port(uri: &[u8]) -> Option<TargetName<'_>>
     ensures { option_map (λ origin. (origin.host.now, origin.port)) result ≡ spec.host_and_port uri.now }
 {
     authority(uri.strip_prefix(b"coap://")?)
@@ -137,8 +137,8 @@ fn host_and_port(uri: &[u8]) -> Option<Origin<'_>>
 /// The host and the port that a Proxy-Uri names, where it has the form `coap://host`, with `:port` or without, and with a last `/`
 /// or without; none where it has another form, a path or a query among them, or names port 0 or one above 65535.
 ///
-/// The scheme is spelled in lower case. A port has 1 to 5 digits, and is 5683 where none is named. The host is lent from the bytes.
-pub fn read_proxy_uri(uri: &[u8]) -> Option<Origin<'_>>
+/// The scheme is spelled in lower case. A port has 1 to 5 digits, and is 5683 where no port is named. The host is lent from the bytes.
+pub fn read_proxy_uri(uri: &[u8]) -> Option<TargetName<'_>>
     ensures { Reads uri.now (option_map (λ origin. (origin.host.now, origin.port)) result) }
 {
     host_and_port(uri)

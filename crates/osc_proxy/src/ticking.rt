@@ -92,8 +92,8 @@ struct Sent {
     lost: bool,
 }
 
-/// Ends each exchange that is over by 5.04. The datagrams go after the others, or, without memory for them, are lost. Where none is over, it
-/// takes no memory.
+/// Ends each exchange that is over by 5.04. The datagrams go after the others, or, without memory for them, are lost. If no exchange is
+/// over, it takes no memory.
 fn answer_all(
     exchanges: &mut Exchanges,
     endpoint: &mut Endpoint,

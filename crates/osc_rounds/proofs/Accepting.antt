@@ -31,10 +31,10 @@ use Rattle.osc_run.specs.{response_note}
 use Rattle.osc_client.specs.{AskComes, Comes, IsSealedFor, context_after, notes_of, waits_after, case_of as client_case, Answers as ClientAnswers, AnswersNew as ClientAnswersNew, Counts, Hears as ClientHears}
 use Rattle.osc_client.specs.Answering as comes
 use Rattle.osc_client.specs.State.{State as Client}
-use Rattle.osc_client.specs.declared.answering.Outcome.{Outcome}
-use Rattle.osc_client.specs.declared.answering.Outcome.TheVariants.{Answers}
-use Rattle.osc_client.specs.declared.case.Case.{Case}
-use Rattle.osc_client.specs.declared.case.Case.TheVariants.{Counted}
+use Rattle.osc_client.specs.declared.answering.AnswerEffect.{AnswerEffect}
+use Rattle.osc_client.specs.declared.answering.AnswerEffect.TheVariants.{Answers}
+use Rattle.osc_client.specs.declared.case.ResponseCase.{ResponseCase}
+use Rattle.osc_client.specs.declared.case.ResponseCase.TheVariants.{Counted}
 use Rattle.osc_client.specs.declared.waiting.Awaited.{Awaited}
 use Rattle.osc_client.specs.declared.waiting.Awaited.TheVariants.{Ask}
 use Rattle.osc_client.specs.declared.waiting.OpenAsk.{OpenAsk}
@@ -191,19 +191,19 @@ module _ (is_sealing : Sealings) (laws : ReplyLaws is_sealing)
           subst (λ (n : ℕ). is_sealing (algorithm_of context.name) (key_of context.name side.Server) (response_nonce context.name n None) (aad_of context.name n) (plain_bytes m) made.sealed) (sym number_is)
           (subst (λ (n : ContextName). is_sealing (algorithm_of n) (key_of n side.Server) (response_nonce n number None) (aad_of n number) (plain_bytes m) made.sealed) (sym name_is) made.is_sealed)
 
-      abbrev outcome_due : Outcome
+      abbrev outcome_due : AnswerEffect
       outcome_due = Answers (response_note name number None (reply_text reply)) reply
 
       noted_as : (own : Option ℕ) (text : List ℕ) (other : Reply) → own ≡ None → text ≡ reply_text reply → reply ≡ other
-          → let due : Outcome = Answers (response_note context.name ask.number own text) other in due ≡ outcome_due
+          → let due : AnswerEffect = Answers (response_note context.name ask.number own text) other in due ≡ outcome_due
       noted_as own text other a b c =
-          ap (λ (n : ContextName). let o : Outcome = Answers (response_note n ask.number own text) other in o) name_is
-          ∙ ap (λ (n : ℕ). let o : Outcome = Answers (response_note name n own text) other in o) number_is
-          ∙ ap (λ (x : Option ℕ). let o : Outcome = Answers (response_note name number x text) other in o) a
-          ∙ ap (λ (t : List ℕ). let o : Outcome = Answers (response_note name number None t) other in o) b
-          ∙ ap (λ (r : Reply). let o : Outcome = Answers (response_note name number None (reply_text reply)) r in o) (sym c)
+          ap (λ (n : ContextName). let o : AnswerEffect = Answers (response_note n ask.number own text) other in o) name_is
+          ∙ ap (λ (n : ℕ). let o : AnswerEffect = Answers (response_note name n own text) other in o) number_is
+          ∙ ap (λ (x : Option ℕ). let o : AnswerEffect = Answers (response_note name number x text) other in o) a
+          ∙ ap (λ (t : List ℕ). let o : AnswerEffect = Answers (response_note name number None t) other in o) b
+          ∙ ap (λ (r : Reply). let o : AnswerEffect = Answers (response_note name number None (reply_text reply)) r in o) (sym c)
 
-      answers_so : (outcome : Outcome) → AskComes is_sealing context ask p outcome → outcome ≡ outcome_due
+      answers_so : (outcome : AnswerEffect) → AskComes is_sealing context ask p outcome → outcome ≡ outcome_due
       answers_so outcome (comes.AskComes.failed plain error is) = absurd (both_ways (has_oscore p.options) is_protected plain)
       answers_so outcome (comes.AskComes.other plain error is) = absurd (both_ways (has_oscore p.options) is_protected plain)
       answers_so outcome (comes.AskComes.malformed plain none is) = absurd (none said reads)
@@ -237,7 +237,7 @@ module _ (is_sealing : Sealings) (laws : ReplyLaws is_sealing)
   abbrev context : ClientContextState
   context = record { name = name; next = awaits.next }
 
-  abbrev due : Outcome
+  abbrev due : AnswerEffect
   due = Answers (response_note name number None (reply_text reply)) reply
 
   abbrev request_answered : AnsweredRequest
@@ -252,9 +252,9 @@ module _ (is_sealing : Sealings) (laws : ReplyLaws is_sealing)
       (subst (λ (w : Awaited). Comes is_sealing old.desk old.context w p it.outcome) what_is it.comes) in
       let outcome_is : it.outcome ≡ due = answers_so is_sealing laws name number m p made reply carries.within carries.least carries.most carries.plaintext carries.inside context ask refl refl it.outcome comes_to in
       record {
-        told = it.told ∙ ap (λ (o : Outcome). let s : Step = record { out = sent_to from (acknowledgement p); notes = notes_of o } in s) outcome_is;
-        context = ap (λ (c : Client). c.context) it.kept ∙ ap (λ (o : Outcome). context_after o old.context) outcome_is;
-        waiting = ap (λ (c : Client). c.waiting) it.kept ∙ ap (λ (o : Outcome). waits_after o it.waiting) outcome_is;
+        told = it.told ∙ ap (λ (o : AnswerEffect). let s : Step = record { out = sent_to from (acknowledgement p); notes = notes_of o } in s) outcome_is;
+        context = ap (λ (c : Client). c.context) it.kept ∙ ap (λ (o : AnswerEffect). context_after o old.context) outcome_is;
+        waiting = ap (λ (c : Client). c.waiting) it.kept ∙ ap (λ (o : AnswerEffect). waits_after o it.waiting) outcome_is;
         desk = ap (λ (c : Client). c.desk) it.kept;
         next_hop = ap (λ (c : Client). c.next_hop) it.kept;
         origin = ap (λ (c : Client). c.origin) it.kept;
@@ -277,4 +277,4 @@ module _ (is_sealing : Sealings) (laws : ReplyLaws is_sealing)
       awaits.id (awaits.token ∙ sym carries.token) in
       let so : ClientAnswersNew is_sealing old came (client_case old.next_hop from old.waiting p) step new =
       subst (λ (h : Heard). ClientAnswers is_sealing old (in_bytes came) h step new) heard_is hears.answers in
-      counted (subst (λ (c : Case). ClientAnswersNew is_sealing old came c step new) case_is so)
+      counted (subst (λ (c : ResponseCase). ClientAnswersNew is_sealing old came c step new) case_is so)

@@ -47,14 +47,14 @@ use Rattle.osc_authz.specs.declared.post.PostReply.{PostReply}
 use Rattle.osc_authz.specs.declared.post.PostReply.TheVariants.{New}
 use Rattle.osc_server.specs.{standing_of, case_of as server_case, Hears as ServerHears, Answers as ServerAnswers, AnswersNew as ServerAnswersNew, AnswersPost, post_reply, reply_to}
 use Rattle.osc_server.specs.State.{State as Server}
-use Rattle.osc_server.specs.declared.case.Case.{Case as ServerCase}
-use Rattle.osc_server.specs.declared.case.Case.TheVariants.{Posted}
+use Rattle.osc_server.specs.declared.case.RequestCase.{RequestCase as ServerCase}
+use Rattle.osc_server.specs.declared.case.RequestCase.TheVariants.{Posted}
 use Rattle.osc_client.specs.{Comes, ExchangeComes, context_after, ended_by, notes_of, waits_after, case_of as client_case, Hears as ClientHears, post_with, Answers as ClientAnswers, AnswersNew as ClientAnswersNew, Counts, IsHost}
 use Rattle.osc_client.specs.Answering as comes
 use Rattle.osc_client.specs.State.{State as Client}
-use Rattle.osc_client.specs.declared.answering.Outcome.{Outcome}
-use Rattle.osc_client.specs.declared.case.Case.{Case as ClientCase}
-use Rattle.osc_client.specs.declared.case.Case.TheVariants.{Counted}
+use Rattle.osc_client.specs.declared.answering.AnswerEffect.{AnswerEffect}
+use Rattle.osc_client.specs.declared.case.ResponseCase.{ResponseCase as ClientCase}
+use Rattle.osc_client.specs.declared.case.ResponseCase.TheVariants.{Counted}
 use Rattle.osc_client.specs.declared.waiting.Awaited.{Awaited}
 use Rattle.osc_client.specs.declared.waiting.Awaited.TheVariants.{Exchange}
 use Rattle.osc_client.specs.declared.waiting.Waiting.{Waiting}
@@ -319,7 +319,7 @@ module _ (is_sealing : Sealings) (laws : ExchangeLaws is_sealing)
     abbrev response : Message
     response = agreement kind to under is.answer
 
-    makes : (outcome : Outcome) → ExchangeComes holder its response outcome
+    makes : (outcome : AnswerEffect) → ExchangeComes holder its response outcome
         → (held : SecurityContext) × IsHeld agreed now entries held × (outcome ≡ ended_by (Ok (made_of held)))
     makes outcome (comes.protected plain stays) = absurd (both_ways (has_oscore response.options) plain refl)
     makes outcome (comes.ExchangeComes.other plain error success stays) = absurd (both_ways false (sym success) refl)
@@ -333,15 +333,15 @@ module _ (is_sealing : Sealings) (laws : ExchangeLaws is_sealing)
       abbrev back : Arrival Message
       back = record { at = later; from = hop; draw = draw; what = response }
 
-      abbrev ending : Outcome → Waiting → EndpointState → Client
+      abbrev ending : AnswerEffect → Waiting → EndpointState → Client
       ending outcome waiting endpoint = record old { context = context_after outcome old.context; waiting = waits_after outcome waiting; endpoint = endpoint }
 
-      kept_so : (outcome : Outcome) (waiting : Waiting) (held : SecurityContext) (endpoint : EndpointState) → outcome ≡ ended_by (Ok (made_of held)) → after ≡ ending outcome waiting endpoint
+      kept_so : (outcome : AnswerEffect) (waiting : Waiting) (held : SecurityContext) (endpoint : EndpointState) → outcome ≡ ended_by (Ok (made_of held)) → after ≡ ending outcome waiting endpoint
           → after ≡ record old { context = Some (made_of held); waiting = None; endpoint = after.endpoint }
       kept_so outcome waiting held endpoint ends kept =
           kept
           ∙ ap (λ (e : EndpointState). ending outcome waiting e) (sym (ap (λ (c : Client). c.endpoint) kept))
-          ∙ ap (λ (o : Outcome). ending o waiting after.endpoint) ends
+          ∙ ap (λ (o : AnswerEffect). ending o waiting after.endpoint) ends
 
       counted : Counts is_sealing old back third after → (held : SecurityContext) × IsHeld agreed now entries held × IsEnded old hop response held third after
       counted it =
@@ -351,7 +351,7 @@ module _ (is_sealing : Sealings) (laws : ExchangeLaws is_sealing)
             made.0,
             made.1,
             record {
-              told = it.told ∙ ap (λ (o : Outcome). let s : Step = record { out = sent_to hop (acknowledgement response); notes = notes_of o } in s) made.2;
+              told = it.told ∙ ap (λ (o : AnswerEffect). let s : Step = record { out = sent_to hop (acknowledgement response); notes = notes_of o } in s) made.2;
               kept = kept_so it.outcome it.waiting made.0 _ made.2 it.kept;
             },
           )

@@ -31,8 +31,8 @@ use Rattle.osc_authz.specs.{holder_at, meant, accepted}
 use Rattle.osc_run.specs.{Replies as AppliesTo}
 use Rattle.osc_server.specs.{met, standing_of, case_of as server_case, Answers as ServerAnswers, AnswersNew as ServerAnswersNew, AnswersProtected, IsMeant, IsRefused, IsSealed, Sends, Serves, notes_of_request, refused, reply_to, served, Hears as ServerHears}
 use Rattle.osc_server.specs.State.{State as Server}
-use Rattle.osc_server.specs.declared.case.Case.{Case}
-use Rattle.osc_server.specs.declared.case.Case.TheVariants.{Protected}
+use Rattle.osc_server.specs.declared.case.RequestCase.{RequestCase}
+use Rattle.osc_server.specs.declared.case.RequestCase.TheVariants.{Protected}
 use Rattle.osc_server.specs.declared.refusal.Refusal.{Refusal}
 use Rattle.osc_server.specs.declared.refusal.Refusal.TheVariants.{Malformed, NoContext, Replayed, NotGenuine}
 use Rattle.osc_rounds.specs.{AreForServer, AwaitsRequest, IsForServer, IsServed, OpenedRequest, a_uri_host, nothing, in_bytes}
@@ -272,4 +272,4 @@ module _ (is_sealing : Sealings) (laws : RequestLaws is_sealing)
       ∙ protected_case old.open_scope m v made.sealed for_server (laws.value_short name number awaits.lawful.context awaits.lawful.client_id) in
       let so : ServerAnswersNew is_sealing old came (server_case old.open_scope p) step new =
       subst (λ (h : Heard). ServerAnswers is_sealing old (in_bytes came) h step new) heard_is hears.answers in
-      answered_so (subst (λ (c : Case). ServerAnswersNew is_sealing old came c step new) case_is so)
+      answered_so (subst (λ (c : RequestCase). ServerAnswersNew is_sealing old came c step new) case_is so)

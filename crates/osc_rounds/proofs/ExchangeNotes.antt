@@ -39,7 +39,7 @@ use Rattle.osc_authz.specs.declared.post.PostReply.{PostReply}
 use Rattle.osc_authz.specs.declared.post.PostReply.TheVariants.{New}
 use Rattle.osc_server.specs.{standing_of, case_of as server_case, Hears as ServerHears, Answers as ServerAnswers, AnswersNew as ServerAnswersNew, AnswersPost, nonce_of_post, notes_of_post, refusal_of_post}
 use Rattle.osc_server.specs.State.{State as Server}
-use Rattle.osc_server.specs.declared.case.Case.{Case as ServerCase}
+use Rattle.osc_server.specs.declared.case.RequestCase.{RequestCase as ServerCase}
 use Rattle.osc_client.specs.{IsLawfulClient, Exchanges, begins, begun_by, busy, post_by, post_with, HostAndPort, through}
 use Rattle.osc_client.specs.Sending as sending
 use Rattle.osc_client.specs.State.{State as Client}

@@ -6,7 +6,7 @@ use Rattle.osc_model.specs.{same_peer}
 use Rattle.osc_model.specs.declared.node.Moment.{Moment}
 use Rattle.osc_model.specs.declared.node.Peer.{Peer}
 use Rattle.osc_dedup.specs.{Entry, is_alive, is_of, looked, most_entries, staying, with_note}
-use Rattle.osc_dedup.specs.declared.table.Noted.{Noted}
+use Rattle.osc_dedup.specs.declared.table.Remembered.{Remembered}
 
 module _ (later : Moment) (peer : Peer) (id : ℕ) where
   -- none of these that lives is of this message
@@ -55,7 +55,7 @@ and_false : (b : Bool) → (b && false) ≡ false
 and_false true = refl
 and_false false = refl
 
-pub still_unheard : (now later : Moment) (peer from : Peer) (id other : ℕ) (noted : Noted) (seen : List Entry) → other ≢ id
+pub still_unheard : (now later : Moment) (peer from : Peer) (id other : ℕ) (noted : Remembered) (seen : List Entry) → other ≢ id
     → looked later peer other seen ≡ None → looked later peer other (with_note now from id noted seen) ≡ None
 still_unheard now later peer from id other noted seen isnt none =
     let others = staying now from id seen in

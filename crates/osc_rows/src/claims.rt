@@ -1,4 +1,4 @@
-//! What claims come to.
+//! What claims give.
 
 use crate::context::write_id_context;
 use crate::line::Line;

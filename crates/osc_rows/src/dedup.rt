@@ -2,7 +2,7 @@
 
 use crate::line::Line;
 use crate::words::Word;
-use osc_dedup::{Duplicates, Noted};
+use osc_dedup::{Duplicates, Remembered};
 use osc_model::{Moment, Peer};
 use std::alloc::{AllocError, Global};
 
@@ -13,7 +13,7 @@ const PEER: Peer = Peer {
     port: 5683,
 };
 
-/// `noted COUNT AT PEER ID`: so many messages of one peer are noted at 0, by the IDs from 1 on, until 247 s. Whether the message of this
+/// `noted COUNT AT PEER ID`: `COUNT` messages of one peer are noted at 0, by the IDs from 1 on, until 247 s. Whether the message of this
 /// peer and ID is noted at that moment.
 pub fn noted(alloc: Global, words: &[Word<'_>], line: &mut Line) -> Option<()> {
     let [count, at, peer, id] = words else {
@@ -28,7 +28,7 @@ pub fn noted(alloc: Global, words: &[Word<'_>], line: &mut Line) -> Option<()> {
 fn table_of(alloc: Global, count: u16) -> Result<Duplicates, AllocError> {
     let mut table = Duplicates::new(alloc)?;
     for id in 0..count {
-        let noted = Noted {
+        let noted = Remembered {
             until: 247_000,
             reply: None,
         };

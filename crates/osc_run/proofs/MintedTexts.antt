@@ -1,4 +1,4 @@
--- What the text of minted claims comes to.
+-- What the text of minted claims gives.
 use Rattle.std.proofs.Common.{◌≡◌, List, ℕ, Ok, sym, ap, ◌∙◌, arith}
 use Rattle.osc_model.specs.Grant.{Grant}
 use Rattle.osc_model.specs.Scope.{Scope}
@@ -9,7 +9,7 @@ use Rattle.osc_token.specs.{ComesTo, FitTheirTypes, HasLawfulParts, claims_item}
 use Rattle.osc_token.specs.declared.claims.Claims.{Claims}
 use Rattle.osc_run.specs.{IsTextOf}
 
--- it comes to the claims, or to nothing
+-- it gives the claims, or nothing
 abbrev pub MintedLaw : Type 0
 MintedLaw =
     (claims read : Claims) (entries : List Entry) (granted : Scope) (audience : List ℕ) (now : Moment)

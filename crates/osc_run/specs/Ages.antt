@@ -15,7 +15,7 @@ AreNext [] old new = ⊥
 AreNext (w ∷ []) old new = ⊥
 AreNext (w ∷ v ∷ earlier) old new = ((old ≡ v) × (new ≡ w)) ⊎ AreNext (v ∷ earlier) old new
 
--- In this run a post made the entry's context, and the entry came less than so many seconds after it, in whole seconds as the end of a
+-- In this run a post made the entry's context, and the entry came less than `seconds` seconds after it, in whole seconds as the end of a
 -- token is (RFC 8392 section 3.1.4).
 pub record IsYoung (run : List WorldState) (seconds : ℕ) (entry : Entry) : Type 0 where
   pub old : WorldState

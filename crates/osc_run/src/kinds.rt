@@ -39,7 +39,7 @@ ghost use Rattle.osc_run.specs.Runs.{IsTextOf};
 
 use osc_ccm::Aead;
 
-/// The text of minted claims comes to no more than a grant that has them, which is what a run asks of its tokens.
+/// The text of minted claims gives no more than a grant that has them, which is what a run asks of its tokens.
 pub fn minted_texts()
     ensures { (claims : AnyClaims) (entries : List Entry) (grant : Grant)
         → FitTheirTypes claims → IsScope claims.scope entries

@@ -59,7 +59,7 @@ pub fn none_revoked()
 }
 
 /// In every run a request is served under a context that a post of this run made. At a server with a greatest age of contexts it comes less than
-/// so many seconds after that post. So what was held back on its way for longer is worth nothing.
+/// that number of seconds after that post. So what was held back on its way for longer is worth nothing.
 pub fn contexts_are_young()
     ensures { (w : WorldState) → AreYoung w }
 {}

@@ -6,9 +6,9 @@ use Rattle.std.proofs.Math.Seq.{drop-append_seam}
 use Rattle.std.proofs.lemmas.List.{take-append-le, drop-append-le, map-append}
 use Rattle.std.proofs.lemmas.List.Elements.{All-head, All-tail}
 use Rattle.osc_scope.specs.Inner.Kept.{pair_at, pairs_at, IsWithin}
-use Rattle.osc_scope.specs.declared.kept.Place.{Place}
+use Rattle.osc_scope.specs.declared.kept.EntryPlace.{EntryPlace}
 
-same_pair : (texts more : List ℕ) (place : Place) → IsWithin (length texts) place → pair_at (texts ++ more) place ≡ pair_at texts place
+same_pair : (texts more : List ℕ) (place : EntryPlace) → IsWithin (length texts) place → pair_at (texts ++ more) place ≡ pair_at texts place
 same_pair texts more place within =
     let size = place.end - place.start in
     let long : size ≤ length (drop place.start texts) = omega (arith, within.0, within.1, length-drop place.start texts) in
@@ -18,13 +18,13 @@ same_pair texts more place within =
     ap (λ cut. (cut, place.mask)) text
 
 -- with more texts after them, the pairs stay
-pub same_pairs : (texts more : List ℕ) (places : List Place) → All (IsWithin (length texts)) places → pairs_at (texts ++ more) places ≡ pairs_at texts places
+pub same_pairs : (texts more : List ℕ) (places : List EntryPlace) → All (IsWithin (length texts)) places → pairs_at (texts ++ more) places ≡ pairs_at texts places
 same_pairs texts more [] h = refl
 same_pairs texts more (place ∷ places) h = λ i.
     same_pair texts more place (All-head (IsWithin (length texts)) place places h) i
     ∷ same_pairs texts more places (All-tail (IsWithin (length texts)) place places h) i
 
-pub own_pair : (texts text : List ℕ) (place : Place) → place.start ≡ length texts → place.end ≡ length (texts ++ text)
+pub own_pair : (texts text : List ℕ) (place : EntryPlace) → place.start ≡ length texts → place.end ≡ length (texts ++ text)
     → pair_at (texts ++ text) place ≡ (text, place.mask)
 own_pair texts text place from to =
     let size : length text ≤ place.end - place.start = omega (arith, from, to, length-append texts text) in
@@ -32,7 +32,7 @@ own_pair texts text place from to =
     ap (λ t. (t, place.mask)) (ap (take (place.end - place.start)) cut ∙ take_all (place.end - place.start) text size)
 
 -- the text that was added makes one pair more
-pub one_more_pair : (texts text all : List ℕ) (places new : List Place) (place : Place) → All (IsWithin (length texts)) places
+pub one_more_pair : (texts text all : List ℕ) (places new : List EntryPlace) (place : EntryPlace) → All (IsWithin (length texts)) places
     → all ≡ texts ++ text → new ≡ places ++ place ∷ [] → place.start ≡ length texts → place.end ≡ length all
     → pairs_at all new ≡ pairs_at texts places ++ (text, place.mask) ∷ []
 one_more_pair texts text all places new place h added pushed from to =

@@ -12,7 +12,7 @@ use Rattle.std.proofs.lemmas.List.Elements.{All-cons, All-weaker, All-from_recur
 use Rattle.std.proofs.lemmas.List.Sorted.{All-permutation, IsPermutation-insert}
 use Rattle.osc_model.specs.{path_cmp}
 use Rattle.osc_scope.specs.Inner.Kept.{pair_at, pairs_at, IsWithin, is_before, AreInOrder, IsPlaceOf}
-use Rattle.osc_scope.specs.declared.kept.Place.{Place}
+use Rattle.osc_scope.specs.declared.kept.EntryPlace.{EntryPlace}
 use Rattle.osc_scope.proofs.KeptLemmas.{same_pairs, own_pair}
 
 pub total : IsTotalOrder path_cmp
@@ -46,14 +46,14 @@ partitioned path (p ∷ ps) up = go (partitioned path ps up.1)
     go rest (suc i) zero d le l h = absurd (omega arith)
     go rest (suc i) (suc j) d le l h = rest i j d (omega arith) (omega arith) h
 
-some_place : Place
+some_place : EntryPlace
 some_place = record { start = 0; end = 0; mask = 0 }
 
-module _ (texts : List ℕ) (places : List Place) (path : List ℕ) where
-  abbrev pub is_before_at : Place → Bool
+module _ (texts : List ℕ) (places : List EntryPlace) (path : List ℕ) where
+  abbrev pub is_before_at : EntryPlace → Bool
   is_before_at place = is_before path (pair_at texts place)
 
-  read : (k : ℕ) (d : List ℕ × ℕ) (e : Place) → k < length places → get_or (pairs_at texts places) k d ≡ pair_at texts (get_or places k e)
+  read : (k : ℕ) (d : List ℕ × ℕ) (e : EntryPlace) → k < length places → get_or (pairs_at texts places) k d ≡ pair_at texts (get_or places k e)
   read k d e l = get_or-map (pair_at texts) places k e d l
 
   -- the places are parted where their pairs are
@@ -78,7 +78,7 @@ module _ (texts : List ℕ) (places : List Place) (path : List ℕ) where
 -- ---- one more entry
 
 -- the text that was added makes one pair more, at the place that it was given
-pub inserted_pair : (texts text all : List ℕ) (places new : List Place) (i : ℕ) (place : Place) → All (IsWithin (length texts)) places
+pub inserted_pair : (texts text all : List ℕ) (places new : List EntryPlace) (i : ℕ) (place : EntryPlace) → All (IsWithin (length texts)) places
     → all ≡ texts ++ text → new ≡ insert places i place → place.start ≡ length texts → place.end ≡ length all
     → pairs_at all new ≡ insert (pairs_at texts places) i (text, place.mask)
 inserted_pair texts text all places new i place h added put from to =
@@ -88,7 +88,7 @@ inserted_pair texts text all places new i place h added put from to =
     ∙ (λ j. sym (take-map f i places) j ++ own_pair texts text place from (to ∙ ap length added) j ∷ sym (drop-map f i places) j)
     ∙ (λ j. insert (same_pairs texts text places h j) i (text, place.mask))
 
-pub inserted_within : (texts text all : List ℕ) (places new : List Place) (i : ℕ) (place : Place) → All (IsWithin (length texts)) places
+pub inserted_within : (texts text all : List ℕ) (places new : List EntryPlace) (i : ℕ) (place : EntryPlace) → All (IsWithin (length texts)) places
     → all ≡ texts ++ text → new ≡ insert places i place → place.start ≡ length texts → place.end ≡ length all → All (IsWithin (length all)) new
 inserted_within texts text all places new i place h added put from to =
     let size : length all ≡ length texts + length text = ap length added ∙ length-append texts text in

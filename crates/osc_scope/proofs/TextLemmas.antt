@@ -53,7 +53,7 @@ entry_is text path words mask lacks is is_path w = (
   is ∙ ap (λ rest. path ++ 58 ∷ rest) (sym (parted_cut 43 words) ∙ ap (parted_by 43) w.spelled),
 )
 
--- a text without `:` is none
+-- a text without `:` is no entry
 pub needs_colon : (text : List ℕ) → Lacks 58 text → (entry : Written) → IsEntry entry → text ≡ entry_text entry → ⊥
 needs_colon text lacks entry e is = not_lacking 58 entry.path (parted_by 43 (words_of entry)) (subst (Lacks 58) is lacks)
 

@@ -21,8 +21,8 @@ impl Scope {
     ///
     /// # Errors
     ///
-    /// `BadScope` where the bytes are none: a text that is no path, or a set that has no method or another bit, too. Want of
-    /// memory where they are one CBOR item.
+    /// `BadScope` where the bytes are no scope: a text that is no path, or a set that has no method or another bit, too.
+    /// `Memory` for lack of memory, where they are one CBOR item.
     pub fn from_cbor(alloc: Global, bytes: &[u8]) -> Result<Scope, ScopeError>
         // What is read is the scope of its entries ..
         ensures found { IfOk result (λ scope. (entries : List Entry) × IsScope bytes.now entries × (scope ≡ scope_of entries)) }

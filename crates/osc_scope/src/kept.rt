@@ -10,7 +10,7 @@ use std::marker::Model;
 
 /// Where the text of an entry's path is among all texts, and its set of methods.
 #[derive(Clone, Copy, Debug)]
-struct Place {
+struct EntryPlace {
     start: usize,
     end: usize,
     mask: u64,
@@ -21,7 +21,7 @@ struct Place {
 pub(crate) struct Entries {
     // One after the other.
     texts: Vec<u8>,
-    places: Vec<Place>,
+    places: Vec<EntryPlace>,
 }
 
 impl Model for Entries {
@@ -58,7 +58,7 @@ impl Entries {
         let start = self.texts.len();
         self.texts.extend_from_slice(text)?;
         let end = self.texts.len();
-        self.places.push(Place { start, end, mask })?;
+        self.places.push(EntryPlace { start, end, mask })?;
         Ok(())
     }
 
@@ -71,7 +71,7 @@ impl Entries {
         let start = self.texts.len();
         self.texts.extend_from_slice(text)?;
         let end = self.texts.len();
-        self.places.insert(index, Place { start, end, mask })?;
+        self.places.insert(index, EntryPlace { start, end, mask })?;
         Ok(())
     }
 
@@ -124,7 +124,7 @@ impl Entries {
 }
 
 /// The text that is at this place; none of it lies past the end.
-fn text_at<'a>(texts: &'a [u8], place: &Place) -> &'a [u8]
+fn text_at<'a>(texts: &'a [u8], place: &EntryPlace) -> &'a [u8]
     ensures { result.now ≡ (pair_at texts.now place.now).0 }
 {
     let (_, text) = texts.split_at(place.start.min(texts.len()));
@@ -133,7 +133,7 @@ fn text_at<'a>(texts: &'a [u8], place: &Place) -> &'a [u8]
 }
 
 /// Whether the text that is there is before this path.
-fn is_before_at(texts: &[u8], place: &Place, path: &[u8]) -> bool
+fn is_before_at(texts: &[u8], place: &EntryPlace, path: &[u8]) -> bool
     ensures { result ≡ is_before path.now (pair_at texts.now place.now) }
 {
     text_at(texts, place).cmp(path).is_lt()
@@ -143,7 +143,7 @@ fn is_before_at(texts: &[u8], place: &Place, path: &[u8]) -> bool
 #[derive(Drop)]
 pub(crate) struct EntryRefs<'a> {
     texts: &'a [u8],
-    left: &'a [Place],
+    left: &'a [EntryPlace],
 }
 
 impl<'a> Model for EntryRefs<'a> {

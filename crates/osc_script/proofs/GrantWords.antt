@@ -130,7 +130,7 @@ algorithm_again words last not_before expires SixteenByteTag s a = ap (λ (ws : 
 abbrev pub can_be_sealed : List ℕ → Option ℕ → Option ℕ → Algorithm → Type 0
 can_be_sealed scope not_before expires alg = length (spelling (claims_item (claims_of 1 scope not_before expires alg))) ≤ most_claims
 
--- what a grant's words come to
+-- what a grant's words give
 pub record GrantSaid (args : List (List ℕ)) (line : Line) : Type 0 where
   pub client : ClientName
   pub name : List ℕ

@@ -7,8 +7,8 @@ use Rattle.std.proofs.lemmas.Slice.Eq.{bytes_eq-Decides}
 use Rattle.osc_model.specs.declared.code.Method.{Method}
 use Rattle.osc_model.specs.declared.code.Method.TheVariants as method
 use Rattle.osc_script.specs.declared.client_name.ClientName.{ClientName}
-use Rattle.osc_script.specs.declared.node.Node.{Node}
-use Rattle.osc_script.specs.declared.node.Node.TheVariants.{Server, Client, Proxy, Stranger}
+use Rattle.osc_script.specs.declared.node.Node.{NodeName}
+use Rattle.osc_script.specs.declared.node.NodeName.TheVariants.{Server, Client, Proxy, Stranger}
 use Rattle.osc_script.specs.declared.proxy_name.ProxyName.{ProxyName}
 use Rattle.osc_model.specs.declared.node.Peer.{Peer}
 use Rattle.osc_script.specs.{client_name, proxy_name, name_of, local, address_of, Reads, SpellsMethod}
@@ -136,16 +136,16 @@ proxy_word (a ∷ b ∷ c ∷ word) found least most letter e = absurd (omega ar
 
 -- ---- nodes
 
-node_is : (x y : Node) → Some x ≡ Some y → x ≡ y
+node_is : (x y : NodeName) → Some x ≡ Some y → x ≡ y
 node_is x y e = cc
 
-named_found : (client : Option ClientName) (proxy : Option ProxyName) (node : Node) → one_named client proxy ≡ Some node
+named_found : (client : Option ClientName) (proxy : Option ProxyName) (node : NodeName) → one_named client proxy ≡ Some node
     → ((c : ClientName) × (client ≡ Some c) × (Client c ≡ node)) ⊎ ((p : ProxyName) × (proxy ≡ Some p) × (Proxy p ≡ node))
 named_found (Some c) proxy node e = inl (c, refl, node_is (Client c) node e)
 named_found None (Some p) node e = inr (p, refl, node_is (Proxy p) node e)
 named_found None None node e = absurd cc
 
-pub node_found : (word : List ℕ) (node : Node) → node_in word ≡ Some node → word ≡ name_of node
+pub node_found : (word : List ℕ) (node : NodeName) → node_in word ≡ Some node → word ≡ name_of node
 unfolding node_in
 node_found word node e =
     elim (chosen (bytes_eq word (name_of Server)) _ _ _ e) [
@@ -163,33 +163,33 @@ no_client : (proxy : ProxyName) → client_in (proxy_name proxy) ≡ None
 unfolding client_in
 no_client proxy = refl
 
-pub node_again : (node : Node) → node_in (name_of node) ≡ Some node
+pub node_again : (node : NodeName) → node_in (name_of node) ≡ Some node
 unfolding node_in
 node_again Server = refl
 node_again (Client client) = rw (client_again client) refl
 node_again (Proxy proxy) = rw (no_client proxy, proxy_again proxy) refl
 node_again Stranger = refl
 
-worker_is : (node found : Node) → unless_stranger node ≡ Some found → (node ≡ found) × (found ≢ Stranger)
+worker_is : (node found : NodeName) → unless_stranger node ≡ Some found → (node ≡ found) × (found ≢ Stranger)
 worker_is Server found e = let is : Server ≡ found = node_is Server found e in (is, λ s. let no : Server ≡ Stranger = is ∙ s in absurd cc)
 worker_is (Client client) found e = let is : Client client ≡ found = node_is (Client client) found e in (is, λ s. let no : Client client ≡ Stranger = is ∙ s in absurd cc)
 worker_is (Proxy proxy) found e = let is : Proxy proxy ≡ found = node_is (Proxy proxy) found e in (is, λ s. let no : Proxy proxy ≡ Stranger = is ∙ s in absurd cc)
 worker_is Stranger found e = absurd cc
 
-pub worker_found : (word : List ℕ) (node : Node) → worker_in word ≡ Some node → (word ≡ name_of node) × (node ≢ Stranger)
+pub worker_found : (word : List ℕ) (node : NodeName) → worker_in word ≡ Some node → (word ≡ name_of node) × (node ≢ Stranger)
 unfolding worker_in
 worker_found word node e =
     let a = step_found (node_in word) unless_stranger node e in
     let b = worker_is a.0 node a.2 in
     (node_found word a.0 a.1 ∙ ap name_of b.0, b.1)
 
-is_worker : (node : Node) → node ≢ Stranger → unless_stranger node ≡ Some node
+is_worker : (node : NodeName) → node ≢ Stranger → unless_stranger node ≡ Some node
 is_worker Server h = refl
 is_worker (Client client) h = refl
 is_worker (Proxy proxy) h = refl
 is_worker Stranger h = absurd (h refl)
 
-pub worker_again : (node : Node) → node ≢ Stranger → worker_in (name_of node) ≡ Some node
+pub worker_again : (node : NodeName) → node ≢ Stranger → worker_in (name_of node) ≡ Some node
 unfolding worker_in
 worker_again node h = rw (node_again node) (is_worker node h)
 
@@ -238,7 +238,7 @@ client_word (a ∷ b ∷ c ∷ word) found least most letter e = absurd (omega a
 
 -- an address that is none of them
 pub no_node : (peer : Peer) → (peer ≡ address_of Server → ⊥) → (peer ≡ address_of Stranger → ⊥) → ((client : ClientName) → peer ≡ local (7000 + client.digit) → ⊥)
-    → ((proxy : ProxyName) → peer ≡ local (6000 + proxy.digit) → ⊥) → (node : Node) → peer ≡ address_of node → ⊥
+    → ((proxy : ProxyName) → peer ≡ local (6000 + proxy.digit) → ⊥) → (node : NodeName) → peer ≡ address_of node → ⊥
 no_node peer server stranger client proxy Server e = server e
 no_node peer server stranger client proxy (Client name) e = client name e
 no_node peer server stranger client proxy (Proxy name) e = proxy name e

@@ -6,7 +6,7 @@ use Rattle.std.proofs.lemmas.List.Folds.{list_any-append}
 use Rattle.std.proofs.lemmas.List.Sums.{sum_by-append}
 use Rattle.osc_script.specs.declared.client_name.ClientName.{ClientName}
 use Rattle.osc_script.specs.declared.line.Line.{Line}
-use Rattle.osc_script.specs.declared.place.Place.{Place}
+use Rattle.osc_script.specs.declared.place.Place.{LinesAbove}
 use Rattle.osc_script.specs.declared.proxy_name.ProxyName.{ProxyName}
 use Rattle.osc_script.specs.{grants, is_event, is_put, is_revocation, makes, moment_after, moment_behind, routes}
 use Rattle.osc_script.specs.Inner.Place.{IsPlace}
@@ -29,7 +29,7 @@ moment_more : (moment : ℕ) (above : List Line) (line : Line) → moment_after 
 moment_more moment [] line = refl
 moment_more moment (l ∷ above) line = moment_more (moment_behind moment l) above line
 
-pub place_more : (above : List Line) (line : Line) (place next : Place) → IsPlace above place
+pub place_more : (above : List Line) (line : Line) (place next : LinesAbove) → IsPlace above place
     → next.has_event ≡ (place.has_event || is_event line) → next.moment.ms ≡ moment_behind place.moment.ms line → next.puts ≡ place.puts + cond (is_put line) 1 0
     → next.has_revoked ≡ (place.has_revoked || is_revocation line)
     → ((client : ClientName) → slice_index_or next.granted client.digit false ≡ (slice_index_or place.granted client.digit false || grants client line))

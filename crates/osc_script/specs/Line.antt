@@ -15,8 +15,8 @@ use Rattle.osc_script.specs.Words.{words_of, SpellsFormat, SpellsBytes, SpellsKe
 use Rattle.osc_script.specs.declared.line.Line.{Line}
 use Rattle.osc_script.specs.declared.line.Line.TheVariants.{Skipped, Put, Open, Revoked, Grant, Proxy, Via, At, Draw, Drop, Skip, Exchange, Ask, Tick, Restart, Deliver, Alter, Graft, Inject, Lie, Quiet}
 use Rattle.osc_script.specs.declared.client_name.ClientName.{ClientName}
-use Rattle.osc_script.specs.declared.node.Node.{Node}
-use Rattle.osc_script.specs.declared.node.Node.TheVariants as node
+use Rattle.osc_script.specs.declared.node.Node.{NodeName}
+use Rattle.osc_script.specs.declared.node.NodeName.TheVariants as node
 use Rattle.osc_script.specs.declared.proxy_name.ProxyName.{ProxyName}
 
 -- no words, or a comment
@@ -156,7 +156,7 @@ abbrev pub IsMade : List Line → ProxyName → Type 0
 IsMade above proxy = list_any (makes proxy) above ≡ true
 
 -- a client needs a grant, a proxy a line that makes it, and the other nodes neither
-abbrev pub IsKnown : List Line → Node → Type 0
+abbrev pub IsKnown : List Line → NodeName → Type 0
 IsKnown above node.Server = Unit {0}
 IsKnown above (node.Client client) = IsGranted above client
 IsKnown above (node.Proxy proxy) = IsMade above proxy

@@ -25,7 +25,7 @@ pub use client_name::ClientName;
 pub use forms::form_of;
 pub use grants::{TOKEN_KEY, grant_claims, token_iv};
 pub use line::{Change, Changes, Line, Script};
-pub use node::Node;
+pub use node::NodeName;
 pub use proxy_name::ProxyName;
 pub use read::{ScriptError, read_script};
 pub use shown::Shown;

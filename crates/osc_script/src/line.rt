@@ -3,7 +3,7 @@
 ghost use Rattle.std.specs.Prelude.{◌≡◌};
 
 use crate::client_name::ClientName;
-use crate::node::Node;
+use crate::node::NodeName;
 use crate::proxy_name::ProxyName;
 use osc_model::{Algorithm, Bytes, Moment, Path, Request, Resource};
 use std::marker::Model;
@@ -52,7 +52,7 @@ impl Changes {
 /// and a count: `68+69*2` is `hii`. METHOD is `GET`, `POST`, `PUT` or `DELETE`. CLIENT is `c1` to `c9`, PROXY `p1` to `p9`; NODE,
 /// FROM and TO are `s`, a client, a proxy, or `x`. J and K count the datagrams from 1, as they are sent.
 ///
-/// Of a datagram's bytes and of a payload's the first 1,153 are here: with so many it is too long, whatever comes after them.
+/// Of a datagram's bytes and of a payload's the first 1,153 are here: with that many it is too long, whatever comes after them.
 #[derive(Debug, Drop)]
 pub enum Line {
     /// Nothing: the line is empty, or begins with `#`.
@@ -118,11 +118,11 @@ pub enum Line {
     },
     /// `tick NODE`: a node, which isn't `x`, does what is due.
     Tick {
-        node: Node,
+        node: NodeName,
     },
     /// `restart NODE`: a node, which isn't `x`, starts again.
     Restart {
-        node: Node,
+        node: NodeName,
     },
     /// `deliver K`: the datagram goes to its addressee, also again.
     Deliver {
@@ -142,8 +142,8 @@ pub enum Line {
     },
     /// `inject FROM TO BYTES`: a datagram of these bytes comes from a node to a node, which may be the same.
     Inject {
-        from: Node,
-        to: Node,
+        from: NodeName,
+        to: NodeName,
         bytes: Bytes,
     },
     /// `lie CLIENT NUMBER METHOD PATH BYTES`: a request protected under this number, at most 1099511627775, is sent from the

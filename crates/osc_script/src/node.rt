@@ -100,7 +100,7 @@ impl ProxyName {
 
 /// A node, with its name and its address in a simulation.
 #[derive(Clone, Copy, Debug, PartialEq, Eq)]
-pub enum Node {
+pub enum NodeName {
     /// `s`, 127.0.0.1:5683.
     Server,
     /// `c1` to `c9`, 127.0.0.1:7001 to 127.0.0.1:7009.
@@ -126,16 +126,16 @@ fn local(port: u16) -> Peer
     Peer::v4([127, 0, 0, 1], port)
 }
 
-impl Node {
+impl NodeName {
     /// Its name in a script and in a trace.
     pub fn name(self) -> &'static str
         ensures { result.now ≡ spec.name_of self }
     {
         match self {
-            Node::Server => "s",
-            Node::Client(client) => client.name(),
-            Node::Proxy(proxy) => proxy.name(),
-            Node::Stranger => "x",
+            NodeName::Server => "s",
+            NodeName::Client(client) => client.name(),
+            NodeName::Proxy(proxy) => proxy.name(),
+            NodeName::Stranger => "x",
         }
     }
 
@@ -144,26 +144,26 @@ impl Node {
         ensures { result ≡ spec.address_of self }
     {
         match self {
-            Node::Server => local(DEFAULT_PORT),
-            Node::Client(client) => client.address(),
-            Node::Proxy(proxy) => proxy.address(),
-            Node::Stranger => local(STRANGER_PORT),
+            NodeName::Server => local(DEFAULT_PORT),
+            NodeName::Client(client) => client.address(),
+            NodeName::Proxy(proxy) => proxy.address(),
+            NodeName::Stranger => local(STRANGER_PORT),
         }
     }
 
     /// The node of an address.
-    pub fn at(peer: Peer) -> Option<Node>
+    pub fn at(peer: Peer) -> Option<NodeName>
         ensures some { IfSome result (λ node. peer ≡ spec.address_of node) }
-        ensures none { IfNone result ((node : Node) → ¬ (peer ≡ spec.address_of node)) }
+        ensures none { IfNone result ((node : NodeName) → ¬ (peer ≡ spec.address_of node)) }
     {
         if peer == local(DEFAULT_PORT) {
-            Some(Node::Server)
+            Some(NodeName::Server)
         } else if peer == local(STRANGER_PORT) {
-            Some(Node::Stranger)
+            Some(NodeName::Stranger)
         } else {
             match ClientName::at(peer) {
-                Some(client) => Some(Node::Client(client)),
-                None => Some(Node::Proxy(ProxyName::at(peer)?)),
+                Some(client) => Some(NodeName::Client(client)),
+                None => Some(NodeName::Proxy(ProxyName::at(peer)?)),
             }
         }
     }

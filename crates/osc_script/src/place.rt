@@ -10,14 +10,14 @@ ghost use Rattle.osc_script.specs.declared.proxy_name.ProxyName.{ProxyName as An
 
 use crate::client_name::ClientName;
 use crate::line::Line;
-use crate::node::Node;
+use crate::node::NodeName;
 use crate::proxy_name::ProxyName;
 use osc_model::limits::MOST_RESOURCES;
 use osc_model::{Moment, Path};
 
 /// What is kept of the lines above, so that not each line goes over all of them.
 #[derive(Clone, Copy, Debug)]
-pub(crate) struct Place {
+pub(crate) struct LinesAbove {
     has_event: bool,
     /// The last moment that a line set.
     moment: Moment,
@@ -33,9 +33,9 @@ pub(crate) struct Place {
     routed: [bool; 10],
 }
 
-impl Place {
+impl LinesAbove {
     /// The place of the first line.
-    pub(crate) const FIRST: Place = Place {
+    pub(crate) const FIRST: LinesAbove = LinesAbove {
         has_event: false,
         moment: Moment::START,
         puts: 0,
@@ -47,7 +47,7 @@ impl Place {
 
     /// The place after this line, if it may be here, after the lines above it. A line that puts, of which a script has
     /// at most 1024, goes over those lines; no other does.
-    pub(crate) fn behind(self, above: &[Line], line: &Line) -> Option<Place>
+    pub(crate) fn behind(self, above: &[Line], line: &Line) -> Option<LinesAbove>
         requires { IsPlace above.now self }
         ensures some { IfSome result (λ next. MayFollow above.now line.now × IsPlace (above.now ++ line.now ∷ []) next) }
         ensures none { IfNone result (¬ MayFollow above.now line.now) }
@@ -134,25 +134,25 @@ impl Place {
     }
 
     // Whether a line above grants to the node where it is a client, or makes it where it is a proxy.
-    fn knows(self, above: &[Line], node: Node) -> bool
+    fn knows(self, above: &[Line], node: NodeName) -> bool
         requires { IsPlace above.now self }
         ensures { IsTrue result ↔ IsKnown above.now node }
     {
         match node {
-            Node::Server => true,
-            Node::Client(client) => self.has_granted(above, client),
-            Node::Proxy(proxy) => self.has_made(above, proxy),
-            Node::Stranger => true,
+            NodeName::Server => true,
+            NodeName::Client(client) => self.has_granted(above, client),
+            NodeName::Proxy(proxy) => self.has_made(above, proxy),
+            NodeName::Stranger => true,
         }
     }
 
     // The place after a line that may be here.
-    fn with(self, above: &[Line], line: &Line) -> Place
+    fn with(self, above: &[Line], line: &Line) -> LinesAbove
         requires is { IsPlace above.now self }
         requires may { MayFollow above.now line.now }
         ensures { IsPlace (above.now ++ line.now ∷ []) result }
     {
-        Place {
+        LinesAbove {
             has_event: self.has_event || is_event(line),
             moment: moment_behind(self.moment, line),
             puts: self.puts_with(above, line),

@@ -8,7 +8,7 @@ ghost use Rattle.osc_script.specs.Values.{Reads};
 ghost use Rattle.osc_script.specs.declared.read.ScriptError.TheVariants.{OutOfMemory};
 
 use crate::line::{Line, Script};
-use crate::place::Place;
+use crate::place::LinesAbove;
 use crate::split::parts;
 use crate::text;
 use std::alloc::{AllocError, AllocFailed, Global};
@@ -61,7 +61,7 @@ fn read_lines(alloc: Global, texts: &[&[u8]]) -> Result<Vec<Line>, ScriptError>
     ensures bad { (n : ℕ) → result ≡ Err (ScriptError.BadLine n) → IsFirstBadIn (map (λ text. text.now) texts.now) n }
 {
     let mut lines = Vec::new(alloc);
-    let mut place = Place::FIRST;
+    let mut place = LinesAbove::FIRST;
     for text in texts {
         let Some(line) = next_line(alloc, &mut place, &lines, text)? else {
             return Err(ScriptError::BadLine(lines.len() as u64 + 1));
@@ -84,7 +84,7 @@ fn without_empty_last<'a, 'b>(parts: &'b [&'a [u8]]) -> &'b [&'a [u8]]
 // What the text stands for, after the lines above it, whose place goes on where it stands for something.
 fn next_line(
     alloc: Global,
-    place: &mut Place,
+    place: &mut LinesAbove,
     above: &[Line],
     text: &[u8],
 ) -> Result<Option<Line>, AllocError>

@@ -9,7 +9,7 @@ use crate::words::{nonce, number, worker};
 use osc_model::Moment;
 use std::alloc::{AllocError, Global};
 
-// The moment of so many milliseconds.
+// The moment of this number of milliseconds.
 fn moment_of(ms: u64) -> Option<Moment>
     ensures { result ≡ moment_in ms }
 {

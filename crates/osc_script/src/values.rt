@@ -53,7 +53,7 @@ pub fn scope(alloc: Global, text: &str) -> Result<Option<Bytes>, AllocError>
 
 // ---- bytes in hexadecimal
 
-/// So many bytes.
+/// `N` bytes.
 pub fn array<const N: usize>(text: &str) -> Option<[u8; N]>
     ensures { Reads (SpellsHexWithin N N text.now) result }
 {

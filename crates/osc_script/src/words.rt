@@ -5,7 +5,7 @@ ghost use Rattle.std.specs.Prelude.{◌≡◌, ◌≢◌, length, slice_index, t
 ghost use Rattle.osc_script.specs.Inner.Reading.{number_in, short_number_in, request_number_in, format_in, client_in, client_with, proxy_in, proxy_with, node_in, one_named, worker_in, method_in, hex_in, nonce_in, repeated_in, part_in, parts_in, bytes_in, kept_in, short_bytes_in, date_in, dates_in, one_date, algorithm_in};
 
 use crate::client_name::ClientName;
-use crate::node::Node;
+use crate::node::NodeName;
 use crate::proxy_name::ProxyName;
 use crate::split::parts;
 use crate::values::decoded;
@@ -108,38 +108,38 @@ fn proxy_of(digit: u8) -> Option<ProxyName>
 
 /// A node's name.
 #[tactic(auto, unfolding(crate::specs::Inner::Reading::node_in))]
-pub(crate) fn node(word: &str) -> Option<Node>
+pub(crate) fn node(word: &str) -> Option<NodeName>
     ensures { result ≡ node_in word.now }
 {
-    if word == Node::Server.name() {
-        Some(Node::Server)
-    } else if word == Node::Stranger.name() {
-        Some(Node::Stranger)
+    if word == NodeName::Server.name() {
+        Some(NodeName::Server)
+    } else if word == NodeName::Stranger.name() {
+        Some(NodeName::Stranger)
     } else {
         one_named(client(word.as_bytes()), proxy(word.as_bytes()))
     }
 }
 
 // The client, or else the proxy.
-fn one_named(client: Option<ClientName>, proxy: Option<ProxyName>) -> Option<Node>
+fn one_named(client: Option<ClientName>, proxy: Option<ProxyName>) -> Option<NodeName>
     ensures { result ≡ one_named client proxy }
 {
     match client {
-        Some(client) => Some(Node::Client(client)),
-        None => Some(Node::Proxy(proxy?)),
+        Some(client) => Some(NodeName::Client(client)),
+        None => Some(NodeName::Proxy(proxy?)),
     }
 }
 
 /// The name of a node that does something.
 #[tactic(auto, unfolding(crate::specs::Inner::Reading::worker_in))]
-pub(crate) fn worker(word: &str) -> Option<Node>
+pub(crate) fn worker(word: &str) -> Option<NodeName>
     ensures { result ≡ worker_in word.now }
 {
     match node(word)? {
-        Node::Stranger => None,
-        Node::Client(client) => Some(Node::Client(client)),
-        Node::Proxy(proxy) => Some(Node::Proxy(proxy)),
-        Node::Server => Some(Node::Server),
+        NodeName::Stranger => None,
+        NodeName::Client(client) => Some(NodeName::Client(client)),
+        NodeName::Proxy(proxy) => Some(NodeName::Proxy(proxy)),
+        NodeName::Server => Some(NodeName::Server),
     }
 }
 
@@ -213,7 +213,7 @@ pub(crate) fn algorithm<'a, 'b>(words: &'a [&'b str]) -> (&'a [&'b str], Algorit
     }
 }
 
-/// The first 1,153 of the bytes of a word: a datagram with so many is too long, whatever comes after them.
+/// The first 1,153 of the bytes of a word: a datagram with that many is too long, whatever comes after them.
 #[tactic(auto, unfolding(crate::specs::Inner::Reading::kept_in))]
 pub(crate) fn kept_bytes(alloc: Global, word: &[u8]) -> Result<Option<Bytes>, AllocError>
     ensures { IfOk result (λ found. found ≡ kept_in word.now) }
@@ -221,7 +221,7 @@ pub(crate) fn kept_bytes(alloc: Global, word: &[u8]) -> Result<Option<Bytes>, Al
     first_bytes(alloc, word, MOST_KEPT)
 }
 
-/// All bytes of a word, if they are at most so many.
+/// All bytes of a word, if they are at most `most`.
 pub(crate) fn short_bytes(
     alloc: Global,
     word: &[u8],

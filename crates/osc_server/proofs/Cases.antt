@@ -6,10 +6,10 @@ use Rattle.osc_model.specs.Scope.{Scope}
 use Rattle.osc_model.specs.declared.code.Method.TheVariants.{Post}
 use Rattle.osc_model.specs.declared.request.Request.{Request}
 use Rattle.osc_server.specs.{IsNewAnswered, is_authz_info, is_open_get, unprotected_case}
-use Rattle.osc_server.specs.declared.case.Case.{Case}
-use Rattle.osc_server.specs.declared.case.Case.TheVariants.{Posted, NotPosted, OpenGet, Unauthorised}
+use Rattle.osc_server.specs.declared.case.Case.{RequestCase}
+use Rattle.osc_server.specs.declared.case.RequestCase.TheVariants.{Posted, NotPosted, OpenGet, Unauthorised}
 
-one_of : (message : Message) (a : Bool) (x y : Case) → IsNewAnswered message x → IsNewAnswered message y → IsNewAnswered message (if a then x else y)
+one_of : (message : Message) (a : Bool) (x y : RequestCase) → IsNewAnswered message x → IsNewAnswered message y → IsNewAnswered message (if a then x else y)
 one_of message true x y p q = p
 one_of message false x y p q = q
 

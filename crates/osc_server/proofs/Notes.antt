@@ -9,7 +9,7 @@ use Rattle.osc_coap.specs.declared.kind.Kind.{Kind}
 use Rattle.osc_coap.specs.declared.kind.Kind.TheVariants.{Confirmable, NonConfirmable, Acknowledgement, Reset}
 use Rattle.osc_coap.specs.{HasSpelling, Spells, spelling}
 use Rattle.osc_coap.specs.Message.{Message}
-use Rattle.osc_dedup.specs.declared.table.Noted.{Noted}
+use Rattle.osc_dedup.specs.declared.table.Remembered.{Remembered}
 use Rattle.osc_dedup.specs.{most_entries, Entry, is_alive, is_of, staying, with_note, alive}
 use Rattle.osc_model.specs.Arrival.{Arrival}
 use Rattle.osc_model.specs.declared.bytes.Bytes.{Bytes}
@@ -28,7 +28,7 @@ IsKept entry = ForSome entry.noted.reply IsMessage
 
 -- ---- a note more
 
-with_note_kept : (now : Moment) (peer : Peer) (id : ℕ) (new : Noted) (seen : List Entry) → ForSome new.reply IsMessage → KeepsMessages seen → KeepsMessages (with_note now peer id new seen)
+with_note_kept : (now : Moment) (peer : Peer) (id : ℕ) (new : Remembered) (seen : List Entry) → ForSome new.reply IsMessage → KeepsMessages seen → KeepsMessages (with_note now peer id new seen)
 with_note_kept now peer id new seen message kept =
     let others = staying now peer id seen in
     let stay : All IsKept others = All-filter (λ entry. is_alive now entry && not (is_of peer id entry)) IsKept seen kept.noted in

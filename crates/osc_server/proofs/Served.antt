@@ -18,14 +18,14 @@ use Rattle.osc_message.specs.{datagram}
 use Rattle.osc_server.specs.Inner.Parts.{IsReady, IsReplied, IsServedAs, IsTakenFor, Standing, noted_by}
 use Rattle.osc_server.specs.State.{State}
 use Rattle.osc_server.specs.{Met, IsOpened, Serves}
-use Rattle.osc_server.specs.declared.serving.Served.{Served}
-use Rattle.osc_server.specs.declared.serving.Taken.{Taken}
+use Rattle.osc_server.specs.declared.serving.Served.{SealedAnswer}
+use Rattle.osc_server.specs.declared.serving.ReservedAnswer.{ReservedAnswer}
 
 -- what serves of this server
 abbrev pub standing : State → Standing
 standing old = record { tree = old.tree; desk = old.desk; endpoint = old.endpoint }
 
-pub serves : (is_sealing : Sealings) (old : State) (came : Arrival Message) (request : SealedRequest) (served : Served) (tree : Tree) (step : Step) (new : State)
+pub serves : (is_sealing : Sealings) (old : State) (came : Arrival Message) (request : SealedRequest) (served : SealedAnswer) (tree : Tree) (step : Step) (new : State)
     → IsServedAs is_sealing (standing old) came request served tree
     → step ≡ record { out = served.out; notes = served.notes }
     → new ≡ record old {
@@ -64,7 +64,7 @@ serves is_sealing old came request served tree step new is sent kept =
 
 -- what becomes of it under the context as it is once it took the number
 pub served_as : (is_sealing : Sealings) (old : Standing) (came : Arrival Message) (request : SealedRequest)
-    (held context : SecurityContext) (taken number : ℕ) (text : List ℕ) (served : Served) (new : Tree)
+    (held context : SecurityContext) (taken number : ℕ) (text : List ℕ) (served : SealedAnswer) (new : Tree)
     → IsOpened is_sealing (record { tree = old.tree; table = old.desk.table }) came request held text → context ≡ taking taken held → number ≡ request.number
     → IsReplied is_sealing old came (record { held = context; holder = holder_at request.kid old.desk.table; number = number; text = text }) served new
     → IsServedAs is_sealing old came request served new
@@ -89,7 +89,7 @@ served_as is_sealing old came request held context taken number text served new 
     }
 
 -- what is noted of the opening, with the memory beside it
-pub ready : (is_sealing : Sealings) (tag : Tags) (server : Met) (came : Arrival Message) (request : SealedRequest) (note : Note) (taken : Taken)
+pub ready : (is_sealing : Sealings) (tag : Tags) (server : Met) (came : Arrival Message) (request : SealedRequest) (note : Note) (taken : ReservedAnswer)
     → taken.note ≡ note → IsTakenFor tag server.tree taken → taken.holder ≡ holder_at request.kid server.table
     → (held : SecurityContext) × IsOpened is_sealing server came request held note.plaintext × (note ≡ opening_note held.name request.number note.plaintext)
     → IsReady is_sealing tag server came request taken

@@ -29,8 +29,8 @@ use Rattle.osc_run.specs.{opening_note, reply_note, Replies as AppliesTo, IsServ
 use Rattle.osc_options.specs.{read_request, IsWithinRanges}
 use Rattle.osc_server.specs.{case_of, core, again, Answers, AnswersNew, AnswersPost, AnswersProtected, Sends, Serves, nonce_of_post, notes_of_post, posting, notes_of_request, refusal_of_post, refused, served}
 use Rattle.osc_server.specs.State.{State}
-use Rattle.osc_server.specs.declared.case.Case.{Case}
-use Rattle.osc_server.specs.declared.case.Case.TheVariants as case
+use Rattle.osc_server.specs.declared.case.RequestCase.{RequestCase}
+use Rattle.osc_server.specs.declared.case.RequestCase.TheVariants as case
 
 -- ---- what the crates below know of the kinds
 
@@ -119,7 +119,7 @@ module _ (is_sealing : Sealings) (laws : Laws is_sealing) (old : State) (step : 
   protected_kind came (refused refusal why sends) = sends_idly old came _ _ step new sends
   protected_kind came (served it) = served_kind came it
 
-  new_kind : (came : Arrival Message) (it : Case) → length came.draw.0 ≡ 32 → AnswersNew is_sealing old came it step new → ServerStep (core old) came.at step.notes (core new)
+  new_kind : (came : Arrival Message) (it : RequestCase) → length came.draw.0 ≡ 32 → AnswersNew is_sealing old came it step new → ServerStep (core old) came.at step.notes (core new)
   new_kind came case.Unused drawn (e, same) = quietly old came.at step new (ap (λ s. s.notes) e) (ap (λ s. s.tree) same) (ap (λ s. s.desk) same)
   new_kind came case.BadOption drawn it = sends_idly old came _ _ step new it
   new_kind came case.ProxyAsked drawn it = sends_idly old came _ _ step new it

@@ -30,8 +30,8 @@ use Rattle.osc_run.specs.{IsOpenOf, IsSealOf, opening_note, reply_note}
 use Rattle.osc_token.specs.{token_note}
 use Rattle.osc_server.specs.{case_of, Answers, AnswersNew, AnswersProtected, Serves, notes_of_post, post_reply, posting, refusal_age, refusal_code, refusal_number, refused_for, reply_to, refused, served, AreTold, IsOpenedOf, IsToldOf, request_came, sealed_now, sent_before, token_came, unprotected}
 use Rattle.osc_server.specs.State.{State}
-use Rattle.osc_server.specs.declared.case.Case.{Case}
-use Rattle.osc_server.specs.declared.case.Case.TheVariants as case
+use Rattle.osc_server.specs.declared.case.Case.{RequestCase}
+use Rattle.osc_server.specs.declared.case.RequestCase.TheVariants as case
 
 -- ---- replies without protection have no option 9
 
@@ -135,7 +135,7 @@ module _ (is_sealing : Sealings)
   rejection_told Acknowledgement id = told_nothing
   rejection_told Reset id = told_nothing
 
-  told_new : (message : Message) (it : Case) (step : Step) (new : State) → Spells came.what message → AnswersNew is_sealing old (read_as came message) it step new
+  told_new : (message : Message) (it : RequestCase) (step : Step) (new : State) → Spells came.what message → AnswersNew is_sealing old (read_as came message) it step new
       → AreTold is_sealing old came step
   told_new message case.Unused step new spelled (e, same) = as_sent step _ e (rejection_told message.kind message.id)
   told_new message case.BadOption step new spelled it = replied_told message (bare (code 4 2)) (refused_for (code 4 2) None) step refl opens_nothing it.sent

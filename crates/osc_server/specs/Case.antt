@@ -14,8 +14,8 @@ use Rattle.osc_scope.specs.declared.verdict.Verdict.TheVariants.{Granted}
 use Rattle.osc_message.specs.declared.heard.Heard.{Heard}
 use Rattle.osc_message.specs.declared.heard.Heard.TheVariants as heard
 use Rattle.osc_message.specs.{is_confirmable}
-use Rattle.osc_server.specs.declared.case.Case.{Case}
-use Rattle.osc_server.specs.declared.case.Case.TheVariants.{Unused, BadOption, ProxyAsked, Protected, Posted, NotPosted, OpenGet, Unauthorised}
+use Rattle.osc_server.specs.declared.case.Case.{RequestCase}
+use Rattle.osc_server.specs.declared.case.RequestCase.TheVariants.{Unused, BadOption, ProxyAsked, Protected, Posted, NotPosted, OpenGet, Unauthorised}
 
 abbrev pub has_option : ℕ → List NumberAndValue → Bool
 has_option number options = list_any (λ option. option.0 == number) options
@@ -35,40 +35,40 @@ is_open_get open_scope request = (request.code.0 == method_number Get) && is_gra
 
 -- an option that isn't understood is refused where the request is confirmable, and the request ignored otherwise
 -- (RFC 7252 section 5.4.1)
-abbrev pub refused_option : CoapMessage → Case
+abbrev pub refused_option : CoapMessage → RequestCase
 refused_option message = if is_confirmable message.kind then BadOption else Unused
 
 -- a GET that needs no protection, or a request that does
-abbrev pub open_case : Scope → Request → Case
+abbrev pub open_case : Scope → Request → RequestCase
 open_case open_scope request =
     if is_open_get open_scope request then OpenGet (record { scope = open_scope; request = request }) else Unauthorised
 
 -- An unprotected request that wants no proxy: at authz-info a POST or another method; elsewhere a GET that needs no protection,
 -- or any other request.
-abbrev pub unprotected_case : Scope → Request → Case
+abbrev pub unprotected_case : Scope → Request → RequestCase
 unprotected_case open_scope request =
     if is_authz_info request.path then (if request.code.0 == method_number Post then Posted else NotPosted)
     else open_case open_scope request
 
 -- a request that wants no proxy, by the value of OSCORE's option, if it has one
-abbrev pub case_by : Scope → CoapMessage → Option (List ℕ) → Case
+abbrev pub case_by : Scope → CoapMessage → Option (List ℕ) → RequestCase
 case_by open_scope message (Some bytes) = Protected bytes
 case_by open_scope message None = unprotected_case open_scope (request_of message)
 
 -- A critical option that isn't recognised; a wish for a proxy (section 5.10.2); OSCORE's option, whatever the code and the
 -- path outside are (RFC 8613 section 8.2); a request without protection.
-abbrev pub request_case : Scope → CoapMessage → Case
+abbrev pub request_case : Scope → CoapMessage → RequestCase
 request_case open_scope message =
     if is_some (unrecognised_critical 0 message.options) then refused_option message
     else if has_option proxy_uri message.options || has_option proxy_scheme message.options then ProxyAsked
     else case_by open_scope message (value oscore message.options)
 
 -- A server sends no request, so it waits for no response (RFC 7252 section 5.3.2).
-abbrev pub case_of : Scope → CoapMessage → Case
+abbrev pub case_of : Scope → CoapMessage → RequestCase
 case_of open_scope message = if is_request_code message.code then request_case open_scope message else Unused
 
 -- whether a new message is answered: one of no use is where it is rejected
-abbrev pub IsNewAnswered : CoapMessage → Case → Type 0
+abbrev pub IsNewAnswered : CoapMessage → RequestCase → Type 0
 IsNewAnswered message Unused = is_confirmable message.kind ≡ true
 IsNewAnswered message case = Unit {0}
 

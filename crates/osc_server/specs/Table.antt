@@ -36,8 +36,8 @@ use Rattle.osc_authz.specs.declared.post.PostReply.TheVariants.{New, Known}
 use Rattle.osc_run.specs.{opening_note, reply_note, Replies as AppliesTo}
 use Rattle.osc_server.specs.Case.{case_of}
 use Rattle.osc_server.specs.State.{State}
-use Rattle.osc_server.specs.declared.case.Case.{Case}
-use Rattle.osc_server.specs.declared.case.Case.TheVariants.{Unused, BadOption, ProxyAsked, Protected, Posted, NotPosted, OpenGet, Unauthorised}
+use Rattle.osc_server.specs.declared.case.Case.{RequestCase}
+use Rattle.osc_server.specs.declared.case.RequestCase.TheVariants.{Unused, BadOption, ProxyAsked, Protected, Posted, NotPosted, OpenGet, Unauthorised}
 use Rattle.osc_server.specs.declared.refusal.Refusal.{Refusal}
 use Rattle.osc_server.specs.declared.refusal.Refusal.TheVariants.{Malformed, NoContext, Replayed, NotGenuine}
 
@@ -224,7 +224,7 @@ module _ (is_sealing : Sealings) where
 
   -- A new message, in each case. 4.02 Bad Option, 5.05 Proxying Not Supported, 4.05 Method Not Allowed and 4.01 Unauthorized go without
   -- payload. Of the tree nothing goes out unprotected but what answers a GET on an open path.
-  abbrev pub AnswersNew : State → Arrival Message → Case → Step → State → Type 0
+  abbrev pub AnswersNew : State → Arrival Message → RequestCase → Step → State → Type 0
   AnswersNew old came Unused step new = (step ≡ sends (rejection came.from came.what.kind came.what.id)) × (new ≡ old)
   AnswersNew old came BadOption step new = Refuses old came (code 4 2) step new
   AnswersNew old came ProxyAsked step new = Refuses old came (code 5 5) step new

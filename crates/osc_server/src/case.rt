@@ -16,7 +16,7 @@ use std::alloc::{AllocError, Global};
 /// What a server makes of a new message. The value of an OSCORE option is lent from the message, and a grant from the open scope and the
 /// request.
 #[derive(Debug, Drop)]
-pub enum Case<'m, 'g> {
+pub enum RequestCase<'m, 'g> {
     /// The server has no use for it: a response, or a request with a critical option that isn't understood which isn't confirmable.
     Unused,
     /// A confirmable request with a critical option that isn't understood.
@@ -46,44 +46,44 @@ fn is_authz_info(path: Option<&Path>) -> bool
 }
 
 /// A GET that the open scope grants, or another request that needs protection.
-fn open_case<'m, 'g>(open_scope: &'g Scope, request: &'g Request) -> Case<'m, 'g>
+fn open_case<'m, 'g>(open_scope: &'g Scope, request: &'g Request) -> RequestCase<'m, 'g>
     ensures case { result ≡ spec.open_case open_scope.now request.now }
     ensures get { AsksGet result }
     ensures value { (message : AnyMessage) → HasValue message result }
 {
     if request.code.0 != GET {
-        return Case::Unauthorised;
+        return RequestCase::Unauthorised;
     }
     match Grant::of(open_scope, request) {
-        Ok(grant) => Case::OpenGet(grant),
-        Err(_) => Case::Unauthorised,
+        Ok(grant) => RequestCase::OpenGet(grant),
+        Err(_) => RequestCase::Unauthorised,
     }
 }
 
 /// What is made of a request with an option that isn't understood.
-fn refused_option<'m, 'g>(message: &MessageRef<'m>) -> Case<'m, 'g>
+fn refused_option<'m, 'g>(message: &MessageRef<'m>) -> RequestCase<'m, 'g>
     ensures case { result ≡ spec.refused_option message.now }
     ensures get { AsksGet result }
     ensures value { HasValue message.now result }
 {
     if is_confirmable(message.kind()) {
-        Case::BadOption
+        RequestCase::BadOption
     } else {
-        Case::Unused
+        RequestCase::Unused
     }
 }
 
 /// Which case an unprotected request is that wants no proxy.
-fn unprotected_case<'m, 'g>(open_scope: &'g Scope, request: &'g Request) -> Case<'m, 'g>
+fn unprotected_case<'m, 'g>(open_scope: &'g Scope, request: &'g Request) -> RequestCase<'m, 'g>
     ensures case { result ≡ spec.unprotected_case open_scope.now request.now }
     ensures get { AsksGet result }
     ensures value { (message : AnyMessage) → HasValue message result }
 {
     if is_authz_info(request.path.as_ref()) {
         if request.code.0 == POST {
-            Case::Posted
+            RequestCase::Posted
         } else {
-            Case::NotPosted
+            RequestCase::NotPosted
         }
     } else {
         open_case(open_scope, request)
@@ -97,7 +97,7 @@ fn request_case<'m, 'g>(
     open_scope: &'g Scope,
     message: &MessageRef<'m>,
     place: &'g mut Option<Request>,
-) -> Result<Case<'m, 'g>, AllocError>
+) -> Result<RequestCase<'m, 'g>, AllocError>
     ensures case { IfOk result (λ case. case ≡ spec.request_case open_scope.now message.now) }
     ensures get { IfOk result AsksGet }
     ensures value { IfOk result (HasValue message.now) }
@@ -113,10 +113,10 @@ fn request_case<'m, 'g>(
         return Ok(refused_option(message));
     }
     if has_proxy_uri || has_proxy_scheme {
-        return Ok(Case::ProxyAsked);
+        return Ok(RequestCase::ProxyAsked);
     }
     match oscore {
-        Some(value) => Ok(Case::Protected(value)),
+        Some(value) => Ok(RequestCase::Protected(value)),
         None => {
             let request = place.insert(request_of_message(alloc, message)?);
             Ok(unprotected_case(open_scope, request))
@@ -131,7 +131,7 @@ pub fn case_of<'m, 'g>(
     open_scope: &'g Scope,
     message: &MessageRef<'m>,
     place: &'g mut Option<Request>,
-) -> Result<Case<'m, 'g>, AllocError>
+) -> Result<RequestCase<'m, 'g>, AllocError>
     ensures case { IfOk result (λ case. case ≡ spec.case_of open_scope.now message.now) }
     ensures get { IfOk result AsksGet }
     ensures value { IfOk result (HasValue message.now) }
@@ -140,6 +140,6 @@ pub fn case_of<'m, 'g>(
     if is_request_code(message.code()) {
         request_case(alloc, open_scope, message, place)
     } else {
-        Ok(Case::Unused)
+        Ok(RequestCase::Unused)
     }
 }

@@ -8,7 +8,7 @@ use crate::Endpoint;
 use crate::answer::sent_reply;
 use osc_authz::{PostError, PostReply};
 use osc_coap::laws::length_of_spelling;
-use osc_message::{Arrival, Buffer, ReplyRoom};
+use osc_message::{Arrival, MessageRoom, ReplyRoom};
 use osc_model::limits::ACE_CBOR;
 use osc_model::{Bytes, Code, Datagrams, Note, RefusedRequest, Reply, SharedBytes, StepNotes};
 use std::alloc::Global;
@@ -20,7 +20,7 @@ pub const POST_PAYLOAD: usize = 16;
 pub const POST_ANSWER: usize = 31;
 
 /// The reply to a post, in room for its payload; takes no memory.
-fn post_reply(alloc: Global, payload: Buffer, answer: Result<PostReply, PostError>) -> Reply
+fn post_reply(alloc: Global, payload: MessageRoom, answer: Result<PostReply, PostError>) -> Reply
     requires { payload ≡ 16 }
     ensures reply { result ≡ post_reply_of answer }
     ensures short { length result.payload ≤ 16 }
@@ -39,7 +39,7 @@ fn post_reply(alloc: Global, payload: Buffer, answer: Result<PostReply, PostErro
 /// The message that answers a post, as it goes to the peer and as its bytes are kept for a repeat, in room for it; takes no memory.
 pub fn post_answer(
     alloc: Global,
-    payload: Buffer,
+    payload: MessageRoom,
     room: ReplyRoom,
     endpoint: &Endpoint,
     came: &Arrival<'_>,

@@ -20,16 +20,16 @@ ghost use Rattle.osc_server.specs.Table.{Answers, AnswersNew, AnswersPost, Answe
 
 use crate::Endpoint;
 use crate::answer::{refusal_to, sent_as, sent_reply};
-use crate::case::{Case, case_of};
+use crate::case::{RequestCase, case_of};
 use crate::in_hand::InHand;
 use crate::posting::{POST_ANSWER, POST_PAYLOAD, notes_of, post_answer};
 use crate::refusal::Refusal;
-use crate::serving::{ProtectedRequest, Served, prepared, sealed_request, serve_opened};
+use crate::serving::{SealedAnswer, SealedArrival, prepared, sealed_request, serve_opened};
 use osc_authz::laws::marks_stay;
 use osc_authz::{Post, RevokedMarks, ServerDesk, Standing};
 use osc_ccm::Ciphers;
 use osc_message::laws::{what_is_heard, what_nodes_send};
-use osc_message::{Arrival, Buffer, Handling, Heard, ReplyRoom, Ticked, rejection};
+use osc_message::{Arrival, Handling, Heard, MessageRoom, ReplyRoom, Ticked, rejection};
 use osc_model::limits::GET;
 use osc_model::{
     Bytes, Code, Datagrams, Draw, Moment, Path, Peer, RefusedRequest, Reply, Step, StepNotes,
@@ -248,17 +248,17 @@ impl Server {
     {
         let mut place = None;
         match case_of(alloc, &self.open_scope, &came.message, &mut place)? {
-            Case::Unused => pass_over(alloc, &came),
-            Case::BadOption => self.refuse(alloc, came, Code::BAD_OPTION),
-            Case::ProxyAsked => self.refuse(alloc, came, Code::PROXYING_NOT_SUPPORTED),
-            Case::Protected(value) => self.protected::<A>(alloc, came, &value),
-            Case::Posted => self.posted::<A>(alloc, came),
-            Case::NotPosted => self.refuse(alloc, came, Code::METHOD_NOT_ALLOWED),
-            Case::OpenGet(grant) => {
+            RequestCase::Unused => reject(alloc, &came),
+            RequestCase::BadOption => self.refuse(alloc, came, Code::BAD_OPTION),
+            RequestCase::ProxyAsked => self.refuse(alloc, came, Code::PROXYING_NOT_SUPPORTED),
+            RequestCase::Protected(value) => self.protected::<A>(alloc, came, &value),
+            RequestCase::Posted => self.posted::<A>(alloc, came),
+            RequestCase::NotPosted => self.refuse(alloc, came, Code::METHOD_NOT_ALLOWED),
+            RequestCase::OpenGet(grant) => {
                 let reply = open_reply(alloc, self.desk.revoked(), &mut self.tree, &grant);
                 self.give(alloc, came, &reply)
             }
-            Case::Unauthorised => self.refuse(alloc, came, Code::UNAUTHORIZED),
+            RequestCase::Unauthorised => self.refuse(alloc, came, Code::UNAUTHORIZED),
         }
     }
 
@@ -336,7 +336,7 @@ impl Server {
         ensures same { self.new.open_scope ≡ self.old.open_scope }
         ensures err { OnErr result (self.new ≡ self.old) }
     {
-        let payload = Buffer::new(alloc, POST_PAYLOAD)?;
+        let payload = MessageRoom::new(alloc, POST_PAYLOAD)?;
         let room = ReplyRoom::new(alloc, POST_ANSWER)?;
         let body = came.message.payload().unwrap_or(&[]);
         let on = Standing {
@@ -376,7 +376,7 @@ impl Server {
             return self.complain(alloc, came, Refusal::Malformed);
         };
         marks_stay();
-        let request = ProtectedRequest { came: &came, says };
+        let request = SealedArrival { came: &came, says };
         match prepared::<A>(
             alloc,
             &self.desk,
@@ -386,7 +386,7 @@ impl Server {
             &mut self.in_hand,
         ) {
             Ok(Ok(taken)) => {
-                let Served { out, reply, notes } = serve_opened::<A>(
+                let SealedAnswer { out, reply, notes } = serve_opened::<A>(
                     alloc,
                     &mut self.desk,
                     &mut self.tree,
@@ -494,7 +494,7 @@ fn path_changed(notes: &StepNotes) -> Option<&Path>
 
 /// A message that a server has no use for: a confirmable one is rejected by a Reset, any other is ignored. Nothing that a server sends waits
 /// for an acknowledgement, so there is nothing to settle.
-fn pass_over(alloc: Global, came: &Arrival<'_>) -> Result<Step, AllocError>
+fn reject(alloc: Global, came: &Arrival<'_>) -> Result<Step, AllocError>
     ensures step { IfOk result (λ step. step ≡ sends (rejection_of came.now.from came.now.what.kind came.now.what.id)) }
     ensures sent { IfOk result (λ step. SendsTo came.now.from step.out) }
     ensures needs_memory { OnErr result (is_confirmable_of came.now.what.kind ≡ true) }

@@ -40,9 +40,9 @@ use osc_scope::{Scope, Verdict};
 use osc_tree::Tree;
 use std::alloc::{AllocError, Global};
 
-/// What a protected request came to: the protected reply, and what is noted.
+/// The result of a protected request: the protected reply, and what is noted.
 #[derive(Drop)]
-pub struct Served {
+pub struct SealedAnswer {
     /// The datagram of the protected reply.
     pub out: Datagrams,
     /// Its bytes, for a repeat of the request.
@@ -59,7 +59,7 @@ const MESSAGE_BESIDE_SEALED: usize = 14;
 
 /// A protected request: what came, and what it says before it is opened.
 #[derive(Drop)]
-pub struct ProtectedRequest<'a> {
+pub struct SealedArrival<'a> {
     /// What came.
     pub came: &'a Arrival<'a>,
     /// What its message says.
@@ -70,7 +70,7 @@ pub struct ProtectedRequest<'a> {
 ///
 /// # Errors
 ///
-/// Exactly where the message is none.
+/// Exactly where the message isn't one.
 pub fn sealed_request<'a>(
     value: &OscoreValue<'a>,
     message: &MessageRef<'a>,
@@ -87,7 +87,7 @@ fn meant_context<'a>(
     desk: &'a ServerDesk,
     tree: &Tree,
     marks: &RevokedMarks,
-    request: &ProtectedRequest<'_>,
+    request: &SealedArrival<'_>,
 ) -> Option<&'a ServerContext>
     requires says { IsRequest request.now.came.now.what request.now.says }
     requires marked { AreMarked tree.now desk.now.table marks.now }
@@ -105,7 +105,7 @@ fn fresh_context<'a, A: Ciphers>(
     desk: &'a ServerDesk,
     tree: &Tree,
     marks: &RevokedMarks,
-    request: &ProtectedRequest<'_>,
+    request: &SealedArrival<'_>,
 ) -> Result<&'a ServerContext, Refusal>
     requires says { IsRequest request.now.came.now.what request.now.says }
     requires marked { AreMarked tree.now desk.now.table marks.now }
@@ -180,7 +180,7 @@ struct AnswerRoom {
 
 /// What an opened request asks, and the memory of all that follows, taken before anything changes.
 #[derive(Drop)]
-pub struct Taken {
+pub struct ReservedAnswer {
     /// The note of the opening.
     note: Note,
     /// The request, or the code that answers the text: for the entry, as the name and the text.
@@ -233,9 +233,9 @@ fn sent<A: Ciphers>(
 }
 
 /// A protected request that opened, with the memory of all that follows, or why it isn't served; or that memory was refused.
-pub type Prepared = Result<Result<Taken, Refusal>, AllocError>;
+pub type Prepared = Result<Result<ReservedAnswer, Refusal>, AllocError>;
 
-impl Taken {
+impl ReservedAnswer {
     /// Reads what was opened, and takes the memory of all that follows.
     #[inline(never)]
     fn new<A: Ciphers>(
@@ -243,7 +243,7 @@ impl Taken {
         tree: &Tree,
         note: Note,
         holder: Option<SharedBytes>,
-    ) -> Result<Taken, AllocError>
+    ) -> Result<ReservedAnswer, AllocError>
         requires { note.aad ≡ aad_of note.context note.number }
         ensures holder { IfOk result (λ taken. taken.holder ≡ holder) }
         ensures note { IfOk result (λ taken. taken.note ≡ note) }
@@ -258,7 +258,7 @@ impl Taken {
             seal: Room::answering(alloc, &note, most)?,
             datagram: ReplyRoom::new(alloc, MESSAGE_BESIDE_SEALED + most + tag)?,
         };
-        Ok(Taken {
+        Ok(ReservedAnswer {
             note,
             read,
             context,
@@ -268,7 +268,7 @@ impl Taken {
         })
     }
 
-    /// What the request comes to with this reply, which is protected under the number that the context accepted; takes no memory.
+    /// The result of the request with this reply, which is protected under the number that the context accepted; takes no memory.
     fn answered<A: Ciphers>(
         self,
         context: &ServerContext,
@@ -276,7 +276,7 @@ impl Taken {
         endpoint: &Endpoint,
         came: &Arrival<'_>,
         reply: Reply,
-    ) -> Served
+    ) -> SealedAnswer
         requires number { number ≡ accepted_of context.now.name Server number.number }
         requires noted { self.note ≡ opening_note context.now.name number.number self.note.plaintext }
         requires taken { (tree : AnyTree) × IsTakenFor A.TAG tree self × IsReplyOf (reply_length tree self.read) reply }
@@ -285,7 +285,7 @@ impl Taken {
             × IsSentAs came.now.from answer result.out result.reply }
         ensures noted { result.notes ≡ notes_of_request came.now.at context.now self.holder number.number self.note.plaintext reply }
     {
-        let Taken {
+        let ReservedAnswer {
             note,
             read,
             context: name,
@@ -303,7 +303,7 @@ impl Taken {
             moment: came.at,
             reply,
         };
-        Served {
+        SealedAnswer {
             out,
             reply: bytes,
             notes: StepNotes::of_request(sealed, note, entry, holder),
@@ -318,9 +318,9 @@ pub fn serve_opened<A: Ciphers>(
     desk: &mut ServerDesk,
     tree: &mut Tree,
     endpoint: &Endpoint,
-    request: &ProtectedRequest<'_>,
-    taken: Taken,
-) -> Served
+    request: &SealedArrival<'_>,
+    taken: ReservedAnswer,
+) -> SealedAnswer
     requires { IsReady A.is_sealing A.TAG (record { tree = tree.old; table = desk.old.table }) request.now.came.now request.now.says taken }
     ensures served { IsServedAs A.is_sealing (record { tree = tree.old; desk = desk.old; endpoint = endpoint.now }) request.now.came.now request.now.says result tree.new }
     ensures accepted { desk.new ≡ record desk.old { table = accepted request.now.says.kid request.now.says.number desk.old.table } }
@@ -356,7 +356,7 @@ fn opened<A: Ciphers>(
     desk: &ServerDesk,
     tree: &Tree,
     marks: &RevokedMarks,
-    request: &ProtectedRequest<'_>,
+    request: &SealedArrival<'_>,
 ) -> Result<Result<Note, Refusal>, AllocError>
     requires says { IsRequest request.now.came.now.what request.now.says }
     requires marked { AreMarked tree.now desk.now.table marks.now }
@@ -395,7 +395,7 @@ fn taken_for<A: Ciphers>(
     desk: &ServerDesk,
     tree: &Tree,
     marks: &RevokedMarks,
-    request: &ProtectedRequest<'_>,
+    request: &SealedArrival<'_>,
 ) -> Prepared
     requires says { IsRequest request.now.came.now.what request.now.says }
     requires marked { AreMarked tree.now desk.now.table marks.now }
@@ -405,7 +405,7 @@ fn taken_for<A: Ciphers>(
     match opened::<A>(alloc, desk, tree, marks, request)? {
         Ok(note) => {
             let holder = holder_of(desk, &request.says)?;
-            let taken = Taken::new::<A>(alloc, tree, note, holder)?;
+            let taken = ReservedAnswer::new::<A>(alloc, tree, note, holder)?;
             Ok(Ok(taken))
         }
         Err(refusal) => Ok(Err(refusal)),
@@ -420,7 +420,7 @@ pub fn prepared<A: Ciphers>(
     desk: &ServerDesk,
     tree: &Tree,
     marks: &RevokedMarks,
-    request: &ProtectedRequest<'_>,
+    request: &SealedArrival<'_>,
     in_hand: &mut InHand,
 ) -> Prepared
     requires says { IsRequest request.now.came.now.what request.now.says }
@@ -443,7 +443,7 @@ fn prepared_in_hand<A: Ciphers>(
     desk: &ServerDesk,
     tree: &Tree,
     marks: &RevokedMarks,
-    request: &ProtectedRequest<'_>,
+    request: &SealedArrival<'_>,
     in_hand: &mut InHand,
 ) -> Prepared
     requires says { IsRequest request.now.came.now.what request.now.says }
@@ -466,7 +466,7 @@ fn may_revoke(
     desk: &ServerDesk,
     tree: &Tree,
     marks: &RevokedMarks,
-    request: &ProtectedRequest<'_>,
+    request: &SealedArrival<'_>,
     prepared: &Prepared,
 ) -> bool
     requires says { IsRequest request.now.came.now.what request.now.says }

@@ -1,4 +1,4 @@
--- Values in a row, at most so many.
+-- Values in a row, at most a given number.
 use Rattle.std.proofs.Common.{◌≡◌, ◌≤◌, ◌<◌, ℕ, List, length, Option, Some, None, Result, Ok, Err, refl, sym, ap, subst, inl, arith, MatchResult}
 use Rattle.std.specs.Option.{is_some, option_and_then}
 use Rattle.toml.specs.Data.{Data, Items, Members, array, as_array, get_member}
@@ -25,7 +25,7 @@ are_few most Stands listed values (Err Memory) few h = tt
 
 -- ---- at a key
 
--- an array of at most so many is at the key
+-- an array of at most `most` values is at the key
 abbrev pub FewAt : {X : Type 0} → ℕ → (Data → X → Type 0) → List ℕ → Members → List X → Type 0
 FewAt most Stands name document xs = ListedAt name Stands document xs × (length xs ≤ most)
 

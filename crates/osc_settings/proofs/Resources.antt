@@ -12,7 +12,7 @@ use Rattle.osc_settings.specs.declared.resource.ResourceSetting.{ResourceSetting
 use Rattle.osc_settings.proofs.Parts.{wrong_at}
 use Rattle.osc_settings.proofs.Spelled.{is_table}
 
--- a part that is none is in no whole
+-- a part that isn't one is in no whole
 pub refused_within : {X Y : Type 0} (P : X → Type 0) (Q : Y → Type 0) (error : ValueError) → ((y : Y) → Q y → (x : X) × P x) → IsRefusal P error → IsRefusal Q error
 refused_within P Q Bad has none = λ y q. let found = has y q in none found.0 found.1
 refused_within P Q Memory has none = tt

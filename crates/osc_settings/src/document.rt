@@ -157,7 +157,7 @@ pub(crate) fn address_at(
     }
 }
 
-/// So many bytes at a key.
+/// `N` bytes at a key.
 pub(crate) fn array_at<const N: usize>(
     key: SettingsKey,
     table: &Table,

@@ -51,7 +51,7 @@ fn is_printed(alloc: Global, address: SocketAddrV4, text: &str) -> Result<bool, 
     Ok(printed.as_str() == text)
 }
 
-/// So many bytes in hexadecimal.
+/// `N` bytes in hexadecimal.
 pub(crate) fn array<const N: usize>(text: &str) -> Result<[u8; N], ValueError>
     ensures { MatchResult result (SpellsBytes N N text.now) (IsRefusal (SpellsBytes N N text.now)) }
 {

@@ -13,7 +13,7 @@ draw_of event =
 abbrev pub beginning_with : List ℕ → Draw → Draw
 beginning_with first draw = record { 0 = first ++ drop 8 draw.0 }
 
--- The bytes of the event before which so many happened: those of its number, but for the first eight where the last `draw` line gave
+-- The bytes of the event before which this number of events happened: those of its number, but for the first eight where the last `draw` line gave
 -- them for this very event.
 abbrev pub drawn : Option DrawnBefore → ℕ → Draw
 drawn None before = draw_of (before + 1)

@@ -6,8 +6,8 @@ use Rattle.osc_options.specs.{path_options}
 use Rattle.osc_run.specs.declared.noted.Actor.{Actor}
 use Rattle.osc_run.specs.declared.noted.Actor.TheVariants as actor
 use Rattle.osc_script.specs.{address_of}
-use Rattle.osc_script.specs.declared.node.Node.{Node}
-use Rattle.osc_script.specs.declared.node.Node.TheVariants as node
+use Rattle.osc_script.specs.declared.node.NodeName.{NodeName}
+use Rattle.osc_script.specs.declared.node.NodeName.TheVariants as node
 use Rattle.osc_script.specs.declared.line.Change.{Change}
 use Rattle.osc_script.specs.declared.line.Line.{Line}
 use Rattle.osc_script.specs.declared.line.Line.TheVariants as line
@@ -48,8 +48,8 @@ what_grafted sent header body = nothing_comes sent
 abbrev pub text_of : Request → List ℕ
 text_of request = plaintext_spelling (record { code = request.code.0; options = path_options request.path; payload = payload_of request.payload })
 
--- the node of this name; the stranger is none
-abbrev pub actor_of : Names → Node → Option Actor
+-- the node of this name; the stranger isn't one
+abbrev pub actor_of : Names → NodeName → Option Actor
 actor_of names node.Server = Some actor.Server
 actor_of names (node.Client client) = Some (actor.Client (number_of names.clients client))
 actor_of names (node.Proxy proxy) = Some (actor.Proxy (proxy_number names.proxies proxy))

@@ -12,12 +12,13 @@ use Rattle.osc_run.specs.declared.noted.Actor.{Actor}
 use Rattle.osc_run.specs.declared.noted.Actor.TheVariants.{Client}
 use Rattle.osc_script.specs.{name_of, address_of}
 use Rattle.osc_script.specs.declared.client_name.ClientName.{ClientName}
-use Rattle.osc_script.specs.declared.node.Node.{Node}
+use Rattle.osc_script.specs.declared.node.NodeName.{NodeName}
 use Rattle.osc_world.specs.{State}
 use Rattle.osc_world.specs.declared.log.Record.{Record}
 use Rattle.osc_world.specs.declared.log.SentDatagram.{SentDatagram}
 use Rattle.osc_simulation.specs.Names.{name_of_number}
-use Rattle.osc_simulation.specs.Text.{line, code_text, format_text, short_text}
+use Rattle.osc_simulation.specs.Text.{line, format_text, short_text}
+use Rattle.osc_model.specs.{code_text}
 use Rattle.osc_simulation.specs.Trace.{message_text, or_nothing, wanted_bytes_text}
 
 -- ---- what was served
@@ -65,8 +66,8 @@ step_text clients minted (Some step) = served_text clients minted step.notes.ser
 
 -- the name of the node that is there, or `?`
 pub data NamesPeer (peer : Peer) (text : List ℕ) : Type 0 where
-  of_node : (node : Node) → peer ≡ address_of node → text ≡ name_of node → NamesPeer peer text
-  of_none : ((node : Node) → ¬ (peer ≡ address_of node)) → text ≡ codes "?" → NamesPeer peer text
+  of_node : (node : NodeName) → peer ≡ address_of node → text ≡ name_of node → NamesPeer peer text
+  of_none : ((node : NodeName) → ¬ (peer ≡ address_of node)) → text ≡ codes "?" → NamesPeer peer text
 
 -- TYPE CODE of a message, or `?` of bytes that are none
 pub data TellsMessage (bytes text : List ℕ) : Type 0 where

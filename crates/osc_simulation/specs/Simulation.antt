@@ -15,12 +15,12 @@ use Rattle.osc_run.specs.Premise.{Premise}
 use Rattle.osc_options.specs.{read_request}
 use Rattle.osc_world.specs.{settled, skipped, Rounds, Beginning, Enrols, begun, new_proxy, State, Happens}
 use Rattle.osc_world.specs.declared.event.What.{What}
-use Rattle.osc_world.specs.declared.start.Holder.{Holder}
+use Rattle.osc_world.specs.declared.start.NewHolder.{NewHolder}
 use Rattle.osc_script.specs.{claims_of, iv_of, token_key, address_of, client_name, IsScript}
 use Rattle.osc_script.specs.declared.client_name.ClientName.{ClientName}
 use Rattle.osc_script.specs.declared.line.Line.{Line}
 use Rattle.osc_script.specs.declared.line.Line.TheVariants.{Put, Open, Revoked, Grant, Via, At, Draw, Drop, Skip, Quiet}
-use Rattle.osc_script.specs.declared.node.Node.TheVariants.{Server, Client, Proxy}
+use Rattle.osc_script.specs.declared.node.NodeName.TheVariants.{Server, Client, Proxy}
 use Rattle.osc_script.specs.declared.read.ScriptError.{ScriptError}
 use Rattle.osc_script.specs.declared.read.ScriptError.TheVariants.{BadLine, OutOfMemory}
 use Rattle.osc_script.specs.declared.proxy_name.ProxyName.{ProxyName}
@@ -88,7 +88,7 @@ way_by None = record { next_hop = address_of Server; origin = None }
 way_by (Some proxy) = record { next_hop = address_of (Proxy proxy); origin = Some server_origin }
 
 -- a client that a line grants these claims to, as the grant of this number, from 1: it is at its address, and sends as the lines say
-abbrev pub holder_of : List Line → ℕ → ClientName → Claims → Holder
+abbrev pub holder_of : List Line → ℕ → ClientName → Claims → NewHolder
 holder_of lines number client claims =
     record { at = address_of (Client client); way = way_by (proxy_of client lines); claims = claims; iv = iv_of number }
 

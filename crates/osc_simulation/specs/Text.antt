@@ -6,10 +6,6 @@ use Rattle.hex.specs.Hex.{encode_lower}
 abbrev pub line : List ℕ → List ℕ
 line text = text ++ 10 ∷ []
 
--- class, a dot and two digits of detail (RFC 7252 section 3)
-abbrev pub code_text : ℕ → List ℕ
-code_text code = decimal (code / 32) ++ codes "." ++ decimal (code % 32 / 10) ++ decimal (code % 32 % 10)
-
 abbrev pub format_text : Option ℕ → List ℕ
 format_text None = codes "none"
 format_text (Some format) = decimal format

@@ -9,7 +9,8 @@ use Rattle.osc_options.specs.{oscore}
 use Rattle.osc_model.specs.{Answer}
 use Rattle.osc_model.specs.Tree.{Tree}
 use Rattle.osc_model.specs.declared.resource.Resource.{Resource}
-use Rattle.osc_simulation.specs.Text.{line, code_text, format_text, short_text}
+use Rattle.osc_simulation.specs.Text.{line, format_text, short_text}
+use Rattle.osc_model.specs.{code_text}
 
 -- TYPE CODE, and `oscore` after them where the message has an OSCORE option
 abbrev pub message_text : Message → List ℕ

@@ -32,7 +32,7 @@ impl Draws for ScriptDraws {
     }
 }
 
-/// What the event after so many others is given as random bytes.
+/// What the event after `before` others is given as random bytes.
 fn draw_behind(before: usize) -> Draw
     ensures { result ≡ spec.draw_of (before + 1) }
 {

@@ -7,7 +7,7 @@ use crate::lying::text_of;
 use crate::names::{Names, number_of, proxy_number};
 use osc_model::{Bytes, Peer, Request};
 use osc_run::Actor;
-use osc_script::{Change, Line, Node};
+use osc_script::{Change, Line, NodeName};
 use osc_world::{SentDatagram, What};
 use std::alloc::{AllocError, Global};
 
@@ -116,15 +116,15 @@ fn nothing_comes(sent: &[SentDatagram]) -> What
     }
 }
 
-/// The node of this name; the stranger is none.
-fn actor_of(names: &Names, node: Node) -> Option<Actor>
+/// The node of this name; the stranger isn't one.
+fn actor_of(names: &Names, node: NodeName) -> Option<Actor>
     ensures { result ≡ spec.actor_of names.now node }
 {
     match node {
-        Node::Server => Some(Actor::Server),
-        Node::Client(client) => Some(Actor::Client(number_of(names.clients(), client))),
-        Node::Proxy(proxy) => Some(Actor::Proxy(proxy_number(names.proxies(), proxy))),
-        Node::Stranger => None,
+        NodeName::Server => Some(Actor::Server),
+        NodeName::Client(client) => Some(Actor::Client(number_of(names.clients(), client))),
+        NodeName::Proxy(proxy) => Some(Actor::Proxy(proxy_number(names.proxies(), proxy))),
+        NodeName::Stranger => None,
     }
 }
 

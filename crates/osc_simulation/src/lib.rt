@@ -23,4 +23,4 @@ pub use record::{learnt_text, sent_at, served_words, step_of};
 pub use set_up::{first_world, start_of};
 pub use simulate::trace_script;
 pub use stage::Stage;
-pub use trace::{CodeText, TraceForm, bad_line_text, end_text};
+pub use trace::{TraceForm, bad_line_text, end_text};

@@ -5,11 +5,11 @@ ghost use Rattle.osc_simulation.specs.Records as spec;
 ghost use Rattle.osc_simulation.specs.Records.{NamesPeer, PrintAllRecords, PrintAllSent, PrintsRecord, PrintsSent, TellsMessage};
 
 use crate::names::name_of_number;
-use crate::trace::{CodeText, format_text, message_text, short_text, wanted_bytes_text};
+use crate::trace::{format_text, message_text, short_text, wanted_bytes_text};
 use osc_coap::MessageRef;
 use osc_model::{Bytes, ClientResult, Code, Entry, Peer, Reply};
 use osc_run::{Actor, Minted, Noted};
-use osc_script::{ClientName, Node};
+use osc_script::{ClientName, NodeName};
 use osc_world::{Record, SentDatagram, World};
 use std::alloc::{AllocError, Global};
 use std::cmp::min;
@@ -137,7 +137,7 @@ pub fn served_words(
     ensures { IfOk result (λ text. string_bytes text ≡ spec.served_words clients.now minted.now entry.now) }
 {
     let holder = holder_name(clients, minted, &entry.context.secret);
-    let code = CodeText(entry.reply.code.0);
+    let code = entry.reply.code;
     format!(in alloc; "served {holder} {} {code}", entry.number)
 }
 
@@ -196,7 +196,7 @@ pub fn learnt_text(alloc: Global, learnt: &ClientResult) -> Result<String, Alloc
 fn answer_text(alloc: Global, reply: &Reply) -> Result<String, AllocError>
     ensures { IfOk result (λ text. string_bytes text ≡ spec.learnt_text (Answer reply.now)) }
 {
-    let code = CodeText(reply.code.0);
+    let code = reply.code;
     let format = format_text(alloc, reply.format)?;
     let payload = short_text(alloc, reply.payload.as_slice())?;
     format!(in alloc; "answer {code} {format} {payload}")
@@ -205,7 +205,7 @@ fn answer_text(alloc: Global, reply: &Reply) -> Result<String, AllocError>
 fn unverified_text(alloc: Global, code: Code) -> Result<String, AllocError>
     ensures { IfOk result (λ text. string_bytes text ≡ spec.learnt_text (Unverified code)) }
 {
-    let code = CodeText(code.0);
+    let code = code;
     format!(in alloc; "unverified {code}")
 }
 
@@ -251,7 +251,7 @@ fn sent_line(
 fn peer_name(peer: Peer) -> &'static str
     ensures { NamesPeer peer result.now }
 {
-    match Node::at(peer) {
+    match NodeName::at(peer) {
         Some(node) => node.name(),
         None => "?",
     }

@@ -4,7 +4,7 @@ ghost use Rattle.std.specs.FinMap as map;
 ghost use Rattle.std.specs.FinSet as set;
 ghost use Rattle.osc_model.specs.{default_port};
 ghost use Rattle.osc_script.specs.{iv_of, address_of};
-ghost use Rattle.osc_script.specs.declared.node.Node.TheVariants.{Client, Server};
+ghost use Rattle.osc_script.specs.declared.node.NodeName.TheVariants.{Client, Server};
 ghost use Rattle.osc_world.specs.{Beginning, Enrols};
 ghost use Rattle.osc_simulation.specs.Names.{names_in};
 ghost use Rattle.osc_simulation.specs.Simulation as spec;
@@ -19,10 +19,10 @@ use osc_model::{Bytes, Method, Path};
 use osc_proxy::{Target, Targets};
 use osc_scope::Scope;
 use osc_script::laws::key_of_tokens;
-use osc_script::{ClientName, Line, Node, ProxyName, TOKEN_KEY, grant_claims, token_iv};
+use osc_script::{ClientName, Line, NodeName, ProxyName, TOKEN_KEY, grant_claims, token_iv};
 use osc_token::{Audience, Claims};
 use osc_tree::Tree;
-use osc_world::{EnrollError, Holder, Start, World};
+use osc_world::{EnrollError, NewHolder, Start, World};
 use std::alloc::{AllocError, Global};
 
 // The server's host, by which proxies know it.
@@ -80,7 +80,7 @@ fn add(alloc: Global, start: &mut Start, proxy: ProxyName) -> Result<(), AllocEr
     ensures { OnOk result (start.new ≡ spec.with_new_proxy start.old proxy) }
 {
     let targets = targets(alloc)?;
-    match start.add_proxy(alloc, Node::Proxy(proxy).address(), targets) {
+    match start.add_proxy(alloc, NodeName::Proxy(proxy).address(), targets) {
         Ok(()) => Ok(()),
         Err(_) => Err(AllocError),
     }
@@ -101,7 +101,7 @@ fn server_target(alloc: Global) -> Result<Target, AllocError>
     Ok(Target {
         host: Bytes::from_slice(alloc, SERVER_HOST)?,
         port: DEFAULT_PORT,
-        peer: Node::Server.address(),
+        peer: NodeName::Server.address(),
     })
 }
 
@@ -115,7 +115,7 @@ fn first_start(alloc: Global, lines: &[Line]) -> Result<Start, AllocError>
     let open_scope = open_scope(alloc, lines)?;
     let audience = Audience::new(alloc, "s")?;
     let revoked = revocation_path(lines)?;
-    let server = Node::Server.address();
+    let server = NodeName::Server.address();
     let start = Start::new(alloc, tree, open_scope, TOKEN_KEY, audience, server);
     Ok(with_revoked(start, revoked))
 }
@@ -198,7 +198,7 @@ fn enroll_all(alloc: Global, start: &mut Start, lines: &[Line]) -> Result<(), Al
     Ok(())
 }
 
-// Enrolls the client that the line grants to, if it does, after so many, in a script of these lines.
+// Enrolls the client that the line grants to, if it does, after this number of others, in a script of these lines.
 fn enroll(
     alloc: Global,
     start: &mut Start,
@@ -228,7 +228,7 @@ fn enroll(
     Ok(())
 }
 
-// The number of the grant after so many. No script has more than nine, one for each client.
+// The number of the grant after this number of them. No script has more than nine, one for each client.
 fn next_number(enrolled: u8) -> Result<u8, AllocError>
     ensures { IfOk result (λ number. number ≡ enrolled + 1) }
 {
@@ -262,11 +262,11 @@ fn way_by(alloc: Global, proxy: Option<ProxyName>) -> Result<Route, AllocError>
 {
     match proxy {
         Some(proxy) => Ok(Route {
-            next_hop: Node::Proxy(proxy).address(),
+            next_hop: NodeName::Proxy(proxy).address(),
             origin: Some(server_origin(alloc)?),
         }),
         None => Ok(Route {
-            next_hop: Node::Server.address(),
+            next_hop: NodeName::Server.address(),
             origin: None,
         }),
     }
@@ -284,11 +284,11 @@ fn server_origin(alloc: Global) -> Result<Origin, AllocError>
 }
 
 // The client with the token of the grant of this number, which claims this.
-fn holder(number: u8, client: ClientName, way: Route, claims: Claims) -> Holder
+fn holder(number: u8, client: ClientName, way: Route, claims: Claims) -> NewHolder
     ensures { result ≡ record { at = address_of (Client client); way = way; claims = claims; iv = iv_of number } }
 {
-    Holder {
-        at: Node::Client(client).address(),
+    NewHolder {
+        at: NodeName::Client(client).address(),
         way,
         claims,
         iv: token_iv(number),
@@ -297,7 +297,7 @@ fn holder(number: u8, client: ClientName, way: Route, claims: Claims) -> Holder
 
 // A grant of a script has a scope that can be read and is short enough for a token, and no other node is at its client's address:
 // only lack of memory refuses it.
-fn admit(alloc: Global, start: &mut Start, holder: Holder) -> Result<(), AllocError>
+fn admit(alloc: Global, start: &mut Start, holder: NewHolder) -> Result<(), AllocError>
     ensures { OnOk result (Enrols spec.is_sealing start.old holder start.new) }
 {
     match start.enroll::<Suite>(alloc, holder) {

@@ -176,7 +176,7 @@ fn count_events(stage: &Stage) -> usize
     stage.world().records().len()
 }
 
-// What the events print that came after so many.
+// What the events print that came after this number of them.
 fn text_behind(
     alloc: Global,
     with_bytes: bool,
@@ -196,7 +196,7 @@ fn text_behind(
     )
 }
 
-// The records after so many.
+// The records after this number of them.
 fn behind(records: &[Record], before: usize) -> &[Record]
     ensures { result.now ≡ drop before records.now }
 {

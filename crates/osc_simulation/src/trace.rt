@@ -6,10 +6,10 @@ ghost use Rattle.osc_simulation.specs.Text as text;
 ghost use Rattle.osc_simulation.specs.Trace as spec;
 
 use osc_coap::MessageRef;
-use osc_model::{Datagram, Path, Reply, Resource, Step};
+use osc_model::{Code, Datagram, Path, Reply, Resource, Step};
 use osc_options::has_option;
 use osc_options::numbers::OSCORE;
-use osc_script::{ClientName, Node};
+use osc_script::{ClientName, NodeName};
 use osc_tree::Tree;
 use std::alloc::{AllocError, Global};
 use std::fmt;
@@ -28,7 +28,7 @@ pub(crate) fn message_text(alloc: Global, message: &MessageRef<'_>) -> Result<St
     ensures { IfOk result (λ part. string_bytes part ≡ spec.message_text message.now) }
 {
     let kind = message.kind();
-    let code = CodeText(message.code());
+    let code = Code(message.code());
     let mark = if has_option(message, OSCORE) {
         " oscore"
     } else {
@@ -50,19 +50,6 @@ pub(crate) fn wanted_bytes_text(
     }
     let digits = hex::encode(alloc, bytes)?;
     format!(in alloc; " {digits}")
-}
-
-/// A code as the standard writes it, as `2.05`.
-#[derive(Clone, Copy)]
-pub struct CodeText(pub u8);
-
-impl fmt::Display for CodeText {
-    ghost output = { λ code. Some (text.code_text code.0) };
-
-    fn fmt<W: fmt::Write>(&self, f: &mut fmt::Formatter<W>) -> fmt::Result {
-        let detail = self.0 % 32;
-        write!(f, "{}.{}{}", self.0 / 32, detail / 10, detail % 10)
-    }
 }
 
 /// The end lines: the resources, how many requests are in the history, and whether what is assumed of the run held.
@@ -181,7 +168,7 @@ fn alone_line(
     ensures { IfOk result (λ line. string_bytes line ≡ spec.alone_line (client_name client) answer.now) }
 {
     let client = client.name();
-    let code = CodeText(answer.1.code.0);
+    let code = answer.1.code;
     format!(in alloc; "alone {client} {} {code}\n", answer.0)
 }
 

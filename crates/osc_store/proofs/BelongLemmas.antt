@@ -3,15 +3,15 @@ use Rattle.std.proofs.Common.{◌≡◌, ◌⊎◌, inl, inr, refl, IsTrue}
 use Rattle.std.specs.Bool.{⊤}
 use Rattle.sqlite_wal.specs.Recovery.{Image}
 use Rattle.osc_store.specs.Causes.{is_refusal}
-use Rattle.osc_store.specs.declared.error.OpenError.{OpenError}
-use Rattle.osc_store.specs.declared.error.OpenError.TheVariants as opening
+use Rattle.osc_store.specs.declared.error.OpenStoreError.{OpenStoreError}
+use Rattle.osc_store.specs.declared.error.OpenStoreError.TheVariants as opening
 use Rattle.sqlite_trees.specs.declared.error.StoreError.{StoreError}
 use Rattle.sqlite_trees.specs.declared.error.StoreError.TheVariants as call
 use Rattle.osc_store.specs.{by_fault, Fails, Refuses, WhyNotOpened}
 use Rattle.osc_store.proofs.FindLemmas.{once_named}
 
 -- what fails with the files taken for one store isn't refused so
-pub no_refusal : {P : Type 0} (F L H O : Type 0) (e : OpenError) → IsTrue (is_refusal e) → Fails F L H O e → P
+pub no_refusal : {P : Type 0} (F L H O : Type 0) (e : OpenStoreError) → IsTrue (is_refusal e) → Fails F L H O e → P
 no_refusal F L H O opening.EmptyFile is h = absurd h
 no_refusal F L H O opening.NoLog is h = absurd h
 no_refusal F L H O opening.ForeignLog is h = absurd h
@@ -28,7 +28,7 @@ abbrev OneOf : StoreError → Type 0
 OneOf kind = (kind ≡ call.Io) ⊎ ((kind ≡ call.Corrupt) ⊎ (kind ≡ call.Full))
 
 -- the same, once a failure of the disk is named
-pub stops_named : (image : Image) (F L H O : Type 0) (e : OpenError) (kind : StoreError) → OneOf kind
+pub stops_named : (image : Image) (F L H O : Type 0) (e : OpenStoreError) (kind : StoreError) → OneOf kind
     → Fails F L H O e ⊎ Refuses image ⊥ e → WhyNotOpened (λ k. F × (kind ≡ k)) L H O (by_fault kind e)
 stops_named image F L H O e kind is (inl why) = once_named F L H O e kind is why
 stops_named image F L H O opening.EmptyFile kind is (inr why) = elim is [ inl a ↦ rw a tt | inr b ↦ elim b [ inl c ↦ rw c tt | inr d ↦ rw d tt ] ]
@@ -44,7 +44,7 @@ stops_named image F L H O opening.OtherVersion kind is (inr why) = absurd why
 stops_named image F L H O opening.Damaged kind is (inr why) = absurd why
 
 -- and what is told of the two
-pub refusal_told : (image : Image) (F L H O : Type 0) (e : OpenError) (kind : StoreError) → OneOf kind → Fails F L H O e ⊎ Refuses image ⊥ e → Refuses image ⊤ (by_fault kind e)
+pub refusal_told : (image : Image) (F L H O : Type 0) (e : OpenStoreError) (kind : StoreError) → OneOf kind → Fails F L H O e ⊎ Refuses image ⊥ e → Refuses image ⊤ (by_fault kind e)
 refusal_told image F L H O opening.EmptyFile kind is (inl why) = absurd why
 refusal_told image F L H O opening.NoLog kind is (inl why) = absurd why
 refusal_told image F L H O opening.ForeignLog kind is (inl why) = absurd why
@@ -61,7 +61,7 @@ refusal_told image F L H O opening.OtherVersion kind is why = elim is [ inl a �
 refusal_told image F L H O opening.Damaged kind is why = elim is [ inl a ↦ rw a tt | inr b ↦ elim b [ inl c ↦ rw c tt | inr d ↦ rw d tt ] ]
 
 -- a refusal stays one once a failure of the disk is named
-pub refusal_named : (e : OpenError) (kind : StoreError) → OneOf kind → IsTrue (is_refusal (by_fault kind e)) → IsTrue (is_refusal e)
+pub refusal_named : (e : OpenStoreError) (kind : StoreError) → OneOf kind → IsTrue (is_refusal (by_fault kind e)) → IsTrue (is_refusal e)
 refusal_named opening.EmptyFile kind is h = refl
 refusal_named opening.NoLog kind is h = refl
 refusal_named opening.ForeignLog kind is h = refl

@@ -25,8 +25,8 @@ use Rattle.sqlite_pool.specs.Stored.{reserved, stored_size, trimmed, used_size, 
 use Rattle.sqlite_pool.specs.StoredLaws.{recovers_once}
 use Rattle.sqlite_pool.proofs.ProbeLemmas.{size_by_log, size_by_file, not_blank}
 use Rattle.sqlite_pool.proofs.ResealLemmas.{adopts_of}
-use Rattle.osc_store.specs.declared.error.OpenError.{OpenError}
-use Rattle.osc_store.specs.declared.error.OpenError.TheVariants as opening
+use Rattle.osc_store.specs.declared.error.OpenStoreError.{OpenStoreError}
+use Rattle.osc_store.specs.declared.error.OpenStoreError.TheVariants as opening
 use Rattle.sqlite_trees.specs.declared.error.StoreError.{StoreError}
 use Rattle.sqlite_trees.specs.declared.error.StoreError.TheVariants as call
 use Rattle.osc_store.specs.{by_fault, of_probe, IsEmpty, IsStore, ReadsAs, page, Fails, HasSound, WhyNotOpened, image_of}
@@ -129,7 +129,7 @@ log_cause a b size image Held log.Closed cause reads = λ w. elim cause [ inl ba
 log_cause a b size image Held log.NoSuchPage cause reads = λ w. elim cause [ inl bad ↦ let e = bad.0 in cc | inr huge ↦ let e = huge.0 in cc ]
 log_cause a b size image Held log.Exists cause reads = λ w. elim cause [ inl bad ↦ let e = bad.0 in cc | inr huge ↦ let e = huge.0 in cc ]
 
-pub fails_wider : (F F' L L' H H' O O' : Type 0) (e : OpenError) → (F → F') → (L → L') → (H' → ¬ (¬ H)) → (O → O') → Fails F L H O e → Fails F' L' H' O' e
+pub fails_wider : (F F' L L' H H' O O' : Type 0) (e : OpenStoreError) → (F → F') → (L → L') → (H' → ¬ (¬ H)) → (O → O') → Fails F L H O e → Fails F' L' H' O' e
 fails_wider F F' L L' H H' O O' opening.OutOfMemory f l h o was = tt
 fails_wider F F' L L' H H' O O' opening.Full f l h o was = l was
 fails_wider F F' L L' H H' O O' opening.Failed f l h o was = f was
@@ -175,7 +175,7 @@ pub empty_is_something : (image : Image) → IsEmpty image → ¬ IsBlankFile pa
 empty_is_something image empty = sound_is_something image page (record { pages = empty.0; sized = page_sized; found = empty.1; sound = empty.2.0.sound })
 
 -- a failure of the disk, once it is named
-pub once_named : (F L H O : Type 0) (e : OpenError) (kind : StoreError) → (kind ≡ call.Io) ⊎ ((kind ≡ call.Corrupt) ⊎ (kind ≡ call.Full)) → Fails F L H O e
+pub once_named : (F L H O : Type 0) (e : OpenStoreError) (kind : StoreError) → (kind ≡ call.Io) ⊎ ((kind ≡ call.Corrupt) ⊎ (kind ≡ call.Full)) → Fails F L H O e
     → WhyNotOpened (λ k. F × (kind ≡ k)) L H O (by_fault kind e)
 once_named F L H O opening.Failed kind (inl is) h = rw is (h, refl)
 once_named F L H O opening.Failed kind (inr (inl is)) h = rw is (inl (h, refl))

@@ -58,7 +58,7 @@ gives_by size log pages at version sized taken low one last is = record {
   is = is;
 }
 
--- none is the first page's
+-- no frame is the first page's
 pub gives_none : (size : ℕ) (log pages : List ℕ) (version : ℕ) → (¬ IsIgnored log → be32 log 8 ≡ size)
     → AreFramesOf size log pages ⊎ ((length pages ≡ 0) × ((k : ℕ) → ¬ Replays size log k))
     → ((i : ℕ) → i < length pages → slice_index pages i ≢ 1) → ¬ GivesVersion log version

@@ -105,7 +105,7 @@ module _ {D : Type 0} {g : Ghosts D} (old mid : Unopened D g) (pages : PageMap) 
   pub still_found : Fits (image old) (state_of old).page_size → ¬ IsBlankFile page (image old) → (tree : Tree) → FindsTree (image old) tree → ∥ FindsTree (image mid) tree ∥₁
   still_found fits some tree found = carry (image old) (image mid) (state_of old).page_size tree fits some (RecoversAs-from (state_of old).page_size (image old) (image mid) pages before again) found
 
--- only pages of 4096 bytes with a sum have so many that are used
+-- only pages of 4096 bytes with a sum have `page` bytes that are used
 pub only_new : (size : PageSize) (b : Bool) → page ≡ used_size (bytes_of size) b → (bytes_of size ≡ 4096) × (b ≡ true)
 only_new size true is = (omega (arith, is), refl)
 only_new size false is = absurd (omega (arith, is, size.aligned))

@@ -3,8 +3,8 @@ use Rattle.std.specs.Prelude.{◌≡◌, ◌≢◌, ◌⊎◌, ◌≤◌, ◌<�
 use Rattle.sqlite_wal.specs.Format.{be32, page_number}
 use Rattle.sqlite_wal.specs.PageSize.{IsPageSize}
 use Rattle.sqlite_wal.specs.Recovery.{Image, Replays, frame, frame_at}
-use Rattle.osc_store.specs.declared.error.OpenError.{OpenError}
-use Rattle.osc_store.specs.declared.error.OpenError.TheVariants.{EmptyFile, ForeignLog, NoLog}
+use Rattle.osc_store.specs.declared.error.OpenStoreError.{OpenStoreError}
+use Rattle.osc_store.specs.declared.error.OpenStoreError.TheVariants.{EmptyFile, ForeignLog, NoLog}
 
 -- the user version of a database file: bytes 60 to 63 of its header
 abbrev pub version_in : List ℕ → ℕ
@@ -63,7 +63,7 @@ pub record BelongTogether (image : Image) : Type 0 where
   pub own : ¬ IsForeignLog image
 
 -- why the two are refused, where `other` is said of each error that tells something else
-abbrev pub Refuses : Image → Type 0 → OpenError → Type 0
+abbrev pub Refuses : Image → Type 0 → OpenStoreError → Type 0
 Refuses image other EmptyFile = IsHollow image
 Refuses image other NoLog = LacksLog image
 Refuses image other ForeignLog = IsForeignLog image

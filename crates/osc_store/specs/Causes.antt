@@ -9,8 +9,8 @@ use Rattle.sqlite_wal.specs.declared.error.Error.{Error as LogError}
 use Rattle.sqlite_wal.specs.declared.error.Error.TheVariants as log
 use Rattle.osc_store.specs.declared.error.KeepError.{KeepError}
 use Rattle.osc_store.specs.declared.error.KeepError.TheVariants as keeping
-use Rattle.osc_store.specs.declared.error.OpenError.{OpenError}
-use Rattle.osc_store.specs.declared.error.OpenError.TheVariants as opening
+use Rattle.osc_store.specs.declared.error.OpenStoreError.{OpenStoreError}
+use Rattle.osc_store.specs.declared.error.OpenStoreError.TheVariants as opening
 
 abbrev pub told : StoreError → KeepError
 told call.OutOfMemory = keeping.OutOfMemory
@@ -20,13 +20,13 @@ told call.Full = keeping.Full
 told call.Broken = keeping.Closed
 told call.Unstorable = keeping.TooLong
 
-abbrev pub of_open : FileError → OpenError
+abbrev pub of_open : FileError → OpenStoreError
 of_open file.OutOfMemory = opening.OutOfMemory
 of_open file.Io = opening.Failed
 of_open file.Full = opening.Full
 of_open file.Refused = opening.Damaged
 
-abbrev pub of_probe : LogError → OpenError
+abbrev pub of_probe : LogError → OpenStoreError
 of_probe log.OutOfMemory = opening.OutOfMemory
 of_probe (log.Io e) = opening.Failed
 of_probe log.Full = opening.Full
@@ -63,18 +63,18 @@ IsTooLong path None = ⊥
 IsTooLong path (Some resource) = 10 ^ 9 < 54 + length path + length resource.payload
 
 -- the error of a store that was just opened, where the files say later which failure of the disk it was
-abbrev pub of_call : StoreError → OpenError
+abbrev pub of_call : StoreError → OpenStoreError
 of_call call.OutOfMemory = opening.OutOfMemory
 of_call _ = opening.Failed
 
 -- a failure of the disk, by its name
-abbrev pub by_fault : StoreError → OpenError → OpenError
+abbrev pub by_fault : StoreError → OpenStoreError → OpenStoreError
 by_fault call.Corrupt opening.Failed = opening.Damaged
 by_fault call.Full opening.Failed = opening.Full
 by_fault kind e = e
 
 -- what is told of the content of the files
-abbrev pub is_of_content : OpenError → Bool
+abbrev pub is_of_content : OpenStoreError → Bool
 is_of_content opening.NoStore = true
 is_of_content opening.OtherVersion = true
 is_of_content opening.Damaged = true
@@ -85,7 +85,7 @@ is_of_content opening.ForeignLog = true
 is_of_content _ = false
 
 -- the files aren't taken for one store
-abbrev pub is_refusal : OpenError → Bool
+abbrev pub is_refusal : OpenStoreError → Bool
 is_refusal opening.EmptyFile = true
 is_refusal opening.NoLog = true
 is_refusal opening.ForeignLog = true

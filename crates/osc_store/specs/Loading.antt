@@ -4,8 +4,8 @@ use Rattle.sqlite_value.specs.Order.{Row}
 use Rattle.sqlite_trees.specs.Tree.{Trees}
 use Rattle.sqlite_trees.specs.View.{View}
 use Rattle.osc_model.specs.Tree.{Tree}
-use Rattle.osc_store.specs.declared.loading.Taken.{Taken as Kind}
-use Rattle.osc_store.specs.declared.loading.Taken.TheVariants.{Taken, End, Refused}
+use Rattle.osc_store.specs.declared.loading.NextRow.{NextRow as Kind}
+use Rattle.osc_store.specs.declared.loading.NextRow.TheVariants.{NextRow, End, Refused}
 use Rattle.osc_store.specs.Rows.{Holds, IsServable, rows_of}
 
 -- the rows so far are the tree's, and the cursor has the others
@@ -22,6 +22,6 @@ abbrev pub IsForeign : Trees → Type 0
 IsForeign db = (tree : Tree) → IsServable tree → ¬ Holds db tree
 
 abbrev pub Took : Kind → View → Tree → Type 0
-Took Taken v tree = Reads v tree
+Took NextRow v tree = Reads v tree
 Took End v tree = Holds v.trees tree
 Took Refused v tree = IsForeign v.trees

@@ -26,8 +26,8 @@ use Rattle.sqlite_store.specs.Unopened.{files_of, image, state_of, StopsCreating
 use Rattle.sqlite_store.specs.declared.store.FileStore.{FileStore}
 use Rattle.sqlite_store.specs.declared.store.open.Unopened.{Unopened}
 use Rattle.osc_model.specs.Tree.{Tree}
-use Rattle.osc_store.specs.declared.error.OpenError.{OpenError}
-use Rattle.osc_store.specs.declared.error.OpenError.TheVariants.{OutOfMemory, Full, Failed, Busy, Journal, NoStore, OtherVersion, Damaged, EmptyFile, NoLog, ForeignLog}
+use Rattle.osc_store.specs.declared.error.OpenStoreError.{OpenStoreError}
+use Rattle.osc_store.specs.declared.error.OpenStoreError.TheVariants.{OutOfMemory, Full, Failed, Busy, Journal, NoStore, OtherVersion, Damaged, EmptyFile, NoLog, ForeignLog}
 use Rattle.osc_store.specs.declared.listing.Listed.{Listed}
 use Rattle.osc_store.specs.declared.listing.Listed.TheVariants as listed
 use Rattle.osc_store.specs.declared.left.Left.{Left}
@@ -54,7 +54,7 @@ NamesSize image size = (¬ IsIgnored image.log → size ≡ be32 image.log 8) ×
 abbrev pub IsTooLong : Image → Type 0
 IsTooLong image = (size : ℕ) × NamesSize image size × log_files.IsHuge size image
 
--- the files recover to a sound database, in pages of which so many bytes are used
+-- the files recover to a sound database, in pages of which `size` bytes are used
 pub record HasSound (image : Image) (size : ℕ) : Type 0 where
   pub pages : PageMap
   pub sized : IsPageSize (stored_size size)
@@ -88,7 +88,7 @@ IsOtherVersion image = (size : ℕ) × (pages : PageMap) × Recovers size image 
 -- ---- why a start fails
 
 -- before a failure of the disk is named
-abbrev pub Fails : Type 0 → Type 0 → Type 0 → Type 0 → OpenError → Type 0
+abbrev pub Fails : Type 0 → Type 0 → Type 0 → Type 0 → OpenStoreError → Type 0
 Fails fault limit held other OutOfMemory = ⊤
 Fails fault limit held other Full = limit
 Fails fault limit held other Failed = fault
@@ -103,7 +103,7 @@ Fails fault limit held other ForeignLog = ⊥
 
 -- where `fault` says that the disk failed in this way, `limit` that the file met one of its format, `held` that the files are a store,
 -- and `other` that they are one of another version; `Refuses` says of the last three what they tell
-abbrev pub WhyNotOpened : (StoreError → Type 0) → Type 0 → Type 0 → Type 0 → OpenError → Type 0
+abbrev pub WhyNotOpened : (StoreError → Type 0) → Type 0 → Type 0 → Type 0 → OpenStoreError → Type 0
 WhyNotOpened fault limit held other OutOfMemory = ⊤
 WhyNotOpened fault limit held other Full = fault call.Full ⊎ limit
 WhyNotOpened fault limit held other Failed = fault call.Io
@@ -195,14 +195,14 @@ module _ {D : Type 0} {g : disk.Ghosts D} where
     pub goes_on : (tree : Tree) → FindsTree (image_of g files) tree → Leaves (outcomes_of g files) tree → Leaves (state it).may_leave tree
 
   -- what a start over these files left that failed; the same, where this was so of the files
-  pub record Spares (files : Files D) (now : Left D g) (given held other : Type 0) (e : OpenError) : Type 0 where
+  pub record Spares (files : Files D) (now : Left D g) (given held other : Type 0) (e : OpenStoreError) : Type 0 where
     pub honest : AreClean g files.log files.db
     pub counts : faults_of g files ≤ faults_left now
     pub cause : Fails (MoreFaults (faults_of g files) (faults_left now)) (IsFullLeft now) held other e
     pub goes_on : given → (tree : Tree) → FindsTree (image_of g files) tree → Leaves (outcomes_of g files) tree → Leaves (outcomes_left now) tree
 
   -- what a start over these files left that failed, which looked first whether the two belong together
-  pub record Stops (files : Files D) (now : Left D g) (e : OpenError) : Type 0 where
+  pub record Stops (files : Files D) (now : Left D g) (e : OpenStoreError) : Type 0 where
     pub honest : AreClean g files.log files.db
     pub counts : faults_of g files ≤ faults_left now
     pub cause : Fails (MoreFaults (faults_of g files) (faults_left now)) (IsFullLeft now) (IsStore (image_of g files)) (IsOtherVersion (image_of g files)) e ⊎ Refuses (image_of g files) ⊥ e

@@ -7,7 +7,7 @@ ghost use Rattle.sqlite_wal.specs.Reads.{AreClean, IsClean, OnlyReads};
 ghost use Rattle.osc_store.specs.Belonging.{BelongTogether, GivesVersion, IsLogged, IsMark, Refuses, SaysOther, version_in};
 ghost use Rattle.osc_store.specs.Opening.{Fails, IsTooLong, faults_of, image_of};
 
-use crate::error::OpenError;
+use crate::error::OpenStoreError;
 use crate::logged::{logged_version, number_at};
 use sqlite_disk::{Disk, Files};
 use std::alloc::Global;
@@ -28,7 +28,7 @@ const TAG: u32 = 0x05c;
 const OWN: u32 = 1 << 20;
 
 /// Refuses a database file without a byte beside a log, one that says that a log belongs to it, beside none, and one beside the log of another.
-pub(crate) fn check_pair<D: Disk>(alloc: Global, files: &mut Files<D>) -> Result<(), OpenError>
+pub(crate) fn check_pair<D: Disk>(alloc: Global, files: &mut Files<D>) -> Result<(), OpenStoreError>
     requires log { IsTrue (D.Disk.is_usable files.old.log) }
     requires db { IsTrue (D.Disk.is_usable files.old.db) }
     ensures ok { OnOk result (AreClean D.Disk files.new.log files.new.db → BelongTogether (image_of D.Disk files.old)) }
@@ -39,20 +39,20 @@ pub(crate) fn check_pair<D: Disk>(alloc: Global, files: &mut Files<D>) -> Result
     ensures db { OnlyReads D.Disk files.old.db files.new.db }
 {
     let Ok(log) = files.log.len() else {
-        return Err(OpenError::Failed);
+        return Err(OpenStoreError::Failed);
     };
     let Ok(db) = files.db.len() else {
-        return Err(OpenError::Failed);
+        return Err(OpenStoreError::Failed);
     };
     if db <= 1 && log >= FRAMED_LOG {
-        return Err(OpenError::EmptyFile);
+        return Err(OpenStoreError::EmptyFile);
     }
     let Ok(version) = version_of(&mut files.db) else {
-        return Err(OpenError::Failed);
+        return Err(OpenStoreError::Failed);
     };
     if log < LOG_HEADER {
         return if is_mark(version) {
-            Err(OpenError::NoLog)
+            Err(OpenStoreError::NoLog)
         } else {
             Ok(())
         };
@@ -61,14 +61,18 @@ pub(crate) fn check_pair<D: Disk>(alloc: Global, files: &mut Files<D>) -> Result
 }
 
 // Refuses a log that isn't that of a file with this user version.
-fn check_log<D: Disk>(alloc: Global, files: &mut Files<D>, version: u32) -> Result<(), OpenError>
+fn check_log<D: Disk>(
+    alloc: Global,
+    files: &mut Files<D>,
+    version: u32,
+) -> Result<(), OpenStoreError>
     requires log { IsTrue (D.Disk.is_usable files.old.log) }
     requires db { IsTrue (D.Disk.is_usable files.old.db) }
     ensures ok { OnOk result (AreClean D.Disk files.new.log files.new.db
         → (logged : ℕ) → GivesVersion (D.Disk.seen files.old.log) logged → IsLogged logged → ¬ SaysOther version logged) }
     ensures cause { IfErr result (λ e. AreClean D.Disk files.new.log files.new.db
         → Fails (MoreFaults (faults_of D.Disk files.old) (faults_of D.Disk files.new)) (IsTooLong (image_of D.Disk files.new)) ⊤ ⊥ e
-        ⊎ ((e ≡ OpenError.ForeignLog) × (logged : ℕ) × GivesVersion (D.Disk.seen files.old.log) logged × IsLogged logged × SaysOther version logged)) }
+        ⊎ ((e ≡ OpenStoreError.ForeignLog) × (logged : ℕ) × GivesVersion (D.Disk.seen files.old.log) logged × IsLogged logged × SaysOther version logged)) }
     ensures counts { faults_of D.Disk files.old ≤ faults_of D.Disk files.new }
     ensures log { OnlyReads D.Disk files.old.log files.new.log }
     ensures db { OnlyReads D.Disk files.old.db files.new.db }
@@ -77,7 +81,7 @@ fn check_log<D: Disk>(alloc: Global, files: &mut Files<D>, version: u32) -> Resu
         Ok(None) => Ok(()),
         Ok(Some(logged)) => {
             if is_of_another(version, logged) {
-                Err(OpenError::ForeignLog)
+                Err(OpenStoreError::ForeignLog)
             } else {
                 Ok(())
             }

@@ -32,7 +32,7 @@ pub enum KeepError {
 
 /// Why a store isn't opened.
 #[derive(Clone, Copy, Debug, PartialEq, Eq, Error)]
-pub enum OpenError {
+pub enum OpenStoreError {
     /// There was no memory.
     #[error("out of memory")]
     OutOfMemory,
@@ -83,47 +83,47 @@ pub(crate) fn told(error: StoreError) -> KeepError
 }
 
 // The error of opening the two files, as one of ours.
-pub(crate) fn of_open(error: FileError) -> OpenError
+pub(crate) fn of_open(error: FileError) -> OpenStoreError
     ensures value { result ≡ of_open error }
-    ensures kind { result ≢ OpenError.NoStore }
+    ensures kind { result ≢ OpenStoreError.NoStore }
 {
     match error {
-        FileError::OutOfMemory => OpenError::OutOfMemory,
-        FileError::Io => OpenError::Failed,
-        FileError::Full => OpenError::Full,
-        FileError::Refused => OpenError::Damaged,
+        FileError::OutOfMemory => OpenStoreError::OutOfMemory,
+        FileError::Io => OpenStoreError::Failed,
+        FileError::Full => OpenStoreError::Full,
+        FileError::Refused => OpenStoreError::Damaged,
     }
 }
 
 // The error of a look at the files, as one of ours.
-pub(crate) fn of_probe(error: LogError) -> OpenError
+pub(crate) fn of_probe(error: LogError) -> OpenStoreError
     ensures { result ≡ of_probe error }
 {
     match error {
-        LogError::OutOfMemory => OpenError::OutOfMemory,
-        LogError::Io(_) => OpenError::Failed,
-        LogError::Full => OpenError::Full,
-        _ => OpenError::Damaged,
+        LogError::OutOfMemory => OpenStoreError::OutOfMemory,
+        LogError::Io(_) => OpenStoreError::Failed,
+        LogError::Full => OpenStoreError::Full,
+        _ => OpenStoreError::Damaged,
     }
 }
 
 // The error of a store that was just opened. Which failure of the disk it was, the files tell.
-pub(crate) fn of_call(error: StoreError) -> OpenError
+pub(crate) fn of_call(error: StoreError) -> OpenStoreError
     ensures { result ≡ of_call error }
 {
     match error {
-        StoreError::OutOfMemory => OpenError::OutOfMemory,
-        _ => OpenError::Failed,
+        StoreError::OutOfMemory => OpenStoreError::OutOfMemory,
+        _ => OpenStoreError::Failed,
     }
 }
 
 // The same error, or the name of a failure of the disk.
-pub(crate) fn by_fault(kind: StoreError, error: OpenError) -> OpenError
+pub(crate) fn by_fault(kind: StoreError, error: OpenStoreError) -> OpenStoreError
     ensures { result ≡ by_fault kind error }
 {
     match (kind, error) {
-        (StoreError::Corrupt, OpenError::Failed) => OpenError::Damaged,
-        (StoreError::Full, OpenError::Failed) => OpenError::Full,
+        (StoreError::Corrupt, OpenStoreError::Failed) => OpenStoreError::Damaged,
+        (StoreError::Full, OpenStoreError::Failed) => OpenStoreError::Full,
         (_, error) => error,
     }
 }

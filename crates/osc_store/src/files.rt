@@ -11,7 +11,7 @@ ghost use Rattle.osc_store.specs.Starting.{FindsTree, IsStore, IsUnmade, Leaves}
 ghost use Rattle.osc_store.specs.Opening.{Fault, IsCleanLeft, IsFullLeft, IsLeftAlone, IsOnlyRead, IsOtherVersion, Spares, Stops, WhyNotOpened, image_of, outcomes_left, outcomes_of};
 
 use crate::belonging::check_pair;
-use crate::error::{OpenError, by_fault};
+use crate::error::{OpenStoreError, by_fault};
 use crate::left::Left;
 use crate::loading::adopt;
 use crate::starting::store_over;
@@ -28,7 +28,7 @@ pub fn open_files<D: Disk + Drop>(
     alloc: Global,
     files: Files<D>,
     seed: u64,
-) -> Result<(FileStore<D>, Tree), (OpenError, Left<D>)>
+) -> Result<(FileStore<D>, Tree), (OpenStoreError, Left<D>)>
     requires log { IsTrue (D.Disk.is_usable files.log) }
     requires db { IsTrue (D.Disk.is_usable files.db) }
     ensures kept { IfOk result (λ opened. IsTrue (view opened.0).is_clean → Keeps view recovers opened.0 opened.1) }
@@ -37,7 +37,7 @@ pub fn open_files<D: Disk + Drop>(
     ensures cause { IfErr result (λ e. IsCleanLeft e.1
         → WhyNotOpened (Fault files e.1) (IsFullLeft e.1) (IsStore (image_of D.Disk files)) (IsOtherVersion (image_of D.Disk files)) e.0) }
     ensures unharmed { IfErr result (λ e. IsCleanLeft e.1 → (tree : AnyTree) → Leaves (outcomes_of D.Disk files) tree → Leaves (outcomes_left e.1) tree) }
-    ensures read { IfErr result (λ e. e.0 ≡ OpenError.NoStore → IsOnlyRead files e.1) }
+    ensures read { IfErr result (λ e. e.0 ≡ OpenStoreError.NoStore → IsOnlyRead files e.1) }
     ensures belong { IfOk result (λ opened. IsTrue (view opened.0).is_clean → BelongTogether (image_of D.Disk files)) }
     ensures refused { IfErr result (λ e. IsCleanLeft e.1 → Refuses (image_of D.Disk files) ⊤ e.0) }
     ensures left_alone { IfErr result (λ e. IsCleanLeft e.1 → IsTrue (is_refusal e.0) → IsLeftAlone files e.1) }
@@ -57,7 +57,7 @@ fn open_checked<D: Disk + Drop>(
     alloc: Global,
     mut files: Files<D>,
     seed: u64,
-) -> Result<(FileStore<D>, Tree), (OpenError, Left<D>)>
+) -> Result<(FileStore<D>, Tree), (OpenStoreError, Left<D>)>
     requires log { IsTrue (D.Disk.is_usable files.log) }
     requires db { IsTrue (D.Disk.is_usable files.db) }
     ensures kept { IfOk result (λ opened. IsTrue (view opened.0).is_clean → Keeps view recovers opened.0 opened.1) }
@@ -65,7 +65,7 @@ fn open_checked<D: Disk + Drop>(
     ensures sums { IfOk result (λ opened. IsTrue (view opened.0).is_clean → IsUnmade (image_of D.Disk files) → IsTrue (view opened.0).has_sums) }
     ensures belong { IfOk result (λ opened. IsTrue (view opened.0).is_clean → BelongTogether (image_of D.Disk files)) }
     ensures stops { IfErr result (λ e. IsCleanLeft e.1 → Stops files e.1 e.0) }
-    ensures read { IfErr result (λ e. e.0 ≡ OpenError.NoStore → IsOnlyRead files e.1) }
+    ensures read { IfErr result (λ e. e.0 ≡ OpenStoreError.NoStore → IsOnlyRead files e.1) }
     ensures left_alone { IfErr result (λ e. IsCleanLeft e.1 → IsTrue (is_refusal e.0) → IsLeftAlone files e.1) }
 {
     match check_pair(alloc, &mut files) {
@@ -82,7 +82,7 @@ fn open_over<D: Disk + Drop>(
     alloc: Global,
     files: Files<D>,
     seed: u64,
-) -> Result<(FileStore<D>, Tree), (OpenError, Left<D>)>
+) -> Result<(FileStore<D>, Tree), (OpenStoreError, Left<D>)>
     requires log { IsTrue (D.Disk.is_usable files.log) }
     requires db { IsTrue (D.Disk.is_usable files.db) }
     ensures kept { IfOk result (λ opened. IsTrue (view opened.0).is_clean → Keeps view recovers opened.0 opened.1) }
@@ -90,7 +90,7 @@ fn open_over<D: Disk + Drop>(
     ensures sums { IfOk result (λ opened. IsTrue (view opened.0).is_clean → IsUnmade (image_of D.Disk files) → IsTrue (view opened.0).has_sums) }
     ensures honest { IfOk result (λ opened. IsTrue (view opened.0).is_clean → AreClean D.Disk files.log files.db) }
     ensures spares { IfErr result (λ e. IsCleanLeft e.1 → Spares files e.1 ⊤ (IsStore (image_of D.Disk files)) (IsOtherVersion (image_of D.Disk files)) e.0) }
-    ensures read { IfErr result (λ e. e.0 ≡ OpenError.NoStore → IsOnlyRead files e.1) }
+    ensures read { IfErr result (λ e. e.0 ≡ OpenStoreError.NoStore → IsOnlyRead files e.1) }
 {
     let store = match store_over(alloc, files, seed) {
         Ok(store) => store,

@@ -9,7 +9,7 @@ ghost use Rattle.sqlite_pool.specs.Stored.{stored_size, used_size};
 ghost use Rattle.osc_store.specs.Starting.{IsStore, page};
 ghost use Rattle.osc_store.specs.Opening.{Fails, Fits, HasSound, IsTooLong, faults_of, image_of};
 
-use crate::error::{OpenError, of_probe};
+use crate::error::{OpenStoreError, of_probe};
 use sqlite_disk::{Disk, Files};
 use sqlite_pool::probe_blank;
 use sqlite_wal::{PageSize, probe_first_page, probe_page_size};
@@ -25,7 +25,7 @@ const WITH_SUMS: u32 = 0x0840_2020;
 pub(crate) fn find<D: Disk>(
     alloc: Global,
     files: &mut Files<D>,
-) -> Result<Option<(PageSize, bool)>, OpenError>
+) -> Result<Option<(PageSize, bool)>, OpenStoreError>
     requires log { IsTrue (D.Disk.is_usable files.old.log) }
     requires db { IsTrue (D.Disk.is_usable files.old.db) }
     ensures blank { IfOk result (λ found. AreClean D.Disk files.new.log files.new.db → found ≡ None → IsBlankFile page (image_of D.Disk files.old)) }
@@ -44,10 +44,10 @@ pub(crate) fn find<D: Disk>(
         Err(error) => return Err(error),
     }
     let Ok(found) = probe_page_size(files) else {
-        return Err(OpenError::Failed);
+        return Err(OpenStoreError::Failed);
     };
     let Some(size) = found else {
-        return Err(OpenError::NoStore);
+        return Err(OpenStoreError::NoStore);
     };
     match has_sums(alloc, files, size) {
         Ok(has_sums) => Ok(Some((size, has_sums))),
@@ -60,14 +60,14 @@ pub(crate) fn is_blank<D: Disk>(
     alloc: Global,
     files: &mut Files<D>,
     size: PageSize,
-) -> Result<bool, OpenError>
+) -> Result<bool, OpenStoreError>
     requires log { IsTrue (D.Disk.is_usable files.old.log) }
     requires db { IsTrue (D.Disk.is_usable files.old.db) }
     requires size { bytes_of size ≡ 4096 }
     ensures ok { IfOk result (λ b. AreClean D.Disk files.new.log files.new.db → (IsTrue b ↔ IsBlankFile page (image_of D.Disk files.old))) }
     ensures cause { IfErr result (λ e. AreClean D.Disk files.new.log files.new.db
         → Fails (MoreFaults (faults_of D.Disk files.old) (faults_of D.Disk files.new)) (IsTooLong (image_of D.Disk files.old)) ⊤ ⊥ e) }
-    ensures kind { IfErr result (λ e. e ≢ OpenError.NoStore) }
+    ensures kind { IfErr result (λ e. e ≢ OpenStoreError.NoStore) }
     ensures counts { faults_of D.Disk files.old ≤ faults_of D.Disk files.new }
     ensures log { OnlyReads D.Disk files.old.log files.new.log }
     ensures db { OnlyReads D.Disk files.old.db files.new.db }
@@ -79,7 +79,11 @@ pub(crate) fn is_blank<D: Disk>(
 }
 
 // Whether the pages end in sums, by the first page. It refuses what doesn't begin as a database does.
-fn has_sums<D: Disk>(alloc: Global, files: &mut Files<D>, size: PageSize) -> Result<bool, OpenError>
+fn has_sums<D: Disk>(
+    alloc: Global,
+    files: &mut Files<D>,
+    size: PageSize,
+) -> Result<bool, OpenStoreError>
     requires log { IsTrue (D.Disk.is_usable files.old.log) }
     requires db { IsTrue (D.Disk.is_usable files.old.db) }
     ensures ok { IfOk result (λ b. AreClean D.Disk files.new.log files.new.db → (n : ℕ) → HasSound (image_of D.Disk files.old) n
@@ -96,7 +100,7 @@ fn has_sums<D: Disk>(alloc: Global, files: &mut Files<D>, size: PageSize) -> Res
         Err(error) => return Err(of_probe(error)),
     };
     if head.0 != b'S' {
-        return Err(OpenError::NoStore);
+        return Err(OpenStoreError::NoStore);
     }
     Ok(head.1 == WITH_SUMS)
 }

@@ -21,7 +21,7 @@ mod starting;
 mod whole;
 
 pub use belonging::FRAMED_LOG;
-pub use error::{KeepError, OpenError};
+pub use error::{KeepError, OpenStoreError};
 pub use files::open_files;
 pub use keeper::{FileKeeper, Forgetful, Keeper, Keeping};
 pub use keeping::keep;

@@ -11,7 +11,7 @@ ghost use Rattle.osc_store.specs.Loading.{HoldsSome, IsForeign, Reads, Took};
 ghost use Rattle.osc_store.specs.Opening.{Fails};
 ghost use Rattle.osc_store.specs.Starting.{ListsTable};
 
-use crate::error::{OpenError, of_call};
+use crate::error::{OpenStoreError, of_call};
 use crate::keeping::{TREE, has_table};
 use crate::rows::read_row;
 use osc_model::laws;
@@ -23,9 +23,9 @@ use std::alloc::Global;
 
 /// What became of the next row.
 #[derive(Clone, Copy, Debug, PartialEq, Eq)]
-pub(crate) enum Taken {
+pub(crate) enum NextRow {
     /// It is in the tree.
-    Taken,
+    NextRow,
     /// There is none.
     End,
     /// It is no resource, or one too many.
@@ -50,9 +50,9 @@ pub(crate) fn load<S: Store>(alloc: Global, store: &mut S) -> Result<Option<Tree
     let mut row = Row::new(alloc);
     'rows: for _ in 0..MOST_RESOURCES + 1 {
         match take(alloc, store, &mut row, &mut tree)? {
-            Taken::Taken => {}
-            Taken::End => return Ok(Some(tree)),
-            Taken::Refused => return Ok(None),
+            NextRow::NextRow => {}
+            NextRow::End => return Ok(Some(tree)),
+            NextRow::Refused => return Ok(None),
         }
     }
     Ok(None)
@@ -78,11 +78,11 @@ fn take<S: Store>(
     store: &mut S,
     row: &mut Row,
     tree: &mut Tree,
-) -> Result<Taken, StoreError>
+) -> Result<NextRow, StoreError>
     requires { IsSome ((S.Store.view store.old).cursors 0) }
     ensures took { IfOk result (λ taken. IsClean (S.Store.view store.new) → HasTable (S.Store.view store.old) → (S.Store.view store.old).is_broken ≡ false
         → Reads (S.Store.view store.old) tree.old → Took taken (S.Store.view store.new) tree.new) }
-    ensures count { IfOk result (λ taken. taken ≡ Taken.Taken → (map.len tree.new ≡ map.len tree.old + 1) × (map.len tree.new ≤ most_resources)) }
+    ensures count { IfOk result (λ taken. taken ≡ NextRow.NextRow → (map.len tree.new ≡ map.len tree.old + 1) × (map.len tree.new ≤ most_resources)) }
     ensures live { OnOk result (IsSome ((S.Store.view store.new).cursors 0)) }
     ensures same { OnOk result (IsClean (S.Store.view store.new) → IsSame (S.Store.view store.old) (S.Store.view store.new)) }
     ensures sound { OnOk result (IsClean (S.Store.view store.new) → (S.Store.view store.old).is_broken ≡ false) }
@@ -93,20 +93,20 @@ fn take<S: Store>(
 {
     laws::paths_are_ordered();
     if !store.next(0, row)? {
-        return Ok(Taken::End);
+        return Ok(NextRow::End);
     }
     let Some((path, resource)) = read_row(alloc, row)? else {
-        return Ok(Taken::Refused);
+        return Ok(NextRow::Refused);
     };
     if resource.payload.len() > LONGEST_PAYLOAD || tree.is_full() || tree.get(&path).is_some() {
-        return Ok(Taken::Refused);
+        return Ok(NextRow::Refused);
     }
     tree.put(alloc, path, resource)?;
-    Ok(Taken::Taken)
+    Ok(NextRow::NextRow)
 }
 
 /// The store with the tree that it holds.
-pub(crate) fn adopt<S: Store>(alloc: Global, mut store: S) -> Result<(S, Tree), (OpenError, S)>
+pub(crate) fn adopt<S: Store>(alloc: Global, mut store: S) -> Result<(S, Tree), (OpenStoreError, S)>
     requires ready { IsClean (S.Store.view store) → IsReady (S.Store.view store) }
     requires settled { IsClean (S.Store.view store) → (S.Store.view store).trees ≡ (S.Store.view store).committed }
     requires lists { IsClean (S.Store.view store) → ListsTable (S.Store.view store).committed }
@@ -118,11 +118,11 @@ pub(crate) fn adopt<S: Store>(alloc: Global, mut store: S) -> Result<(S, Tree), 
         → Fails (MoreFaults (S.Store.faults store) (S.Store.faults e.1)) ⊥ (HoldsSome (S.Store.view store).committed) ⊥ e.0) }
     ensures numbered { IfErr result (λ e. (S.Store.view e.1).is_numbered ≡ (S.Store.view store).is_numbered) }
     ensures undone { IfErr result (λ e. AddsNone S.Store.view S.Store.recovers S.Store.faults store e.1) }
-    ensures kind { IfErr result (λ e. e.0 ≢ OpenError.NoStore) }
+    ensures kind { IfErr result (λ e. e.0 ≢ OpenStoreError.NoStore) }
 {
     match load(alloc, &mut store) {
         Ok(Some(tree)) => Ok((store, tree)),
-        Ok(None) => Err((OpenError::Damaged, store)),
+        Ok(None) => Err((OpenStoreError::Damaged, store)),
         Err(error) => Err((of_call(error), store)),
     }
 }

@@ -10,7 +10,7 @@ ghost use Rattle.osc_store.specs.Belonging.{GivesVersion};
 ghost use Rattle.osc_store.specs.Opening.{Fails, IsTooLong, faults_of, image_of};
 
 use crate::belonging::{LOG_HEADER, VERSION_AT};
-use crate::error::{OpenError, of_probe};
+use crate::error::{OpenStoreError, of_probe};
 use sqlite_disk::{Disk, Files};
 use sqlite_wal::{Error as LogError, PageSize, probe_frames, probe_page_size};
 use std::alloc::Global;
@@ -23,7 +23,7 @@ const FRAME_HEADER: usize = 24;
 pub(crate) fn logged_version<D: Disk>(
     alloc: Global,
     files: &mut Files<D>,
-) -> Result<Option<u32>, OpenError>
+) -> Result<Option<u32>, OpenStoreError>
     requires log { IsTrue (D.Disk.is_usable files.old.log) }
     requires db { IsTrue (D.Disk.is_usable files.old.db) }
     ensures some { IfOk result (λ found. AreClean D.Disk files.new.log files.new.db → IfSome found (GivesVersion (D.Disk.seen files.old.log))) }
@@ -35,7 +35,7 @@ pub(crate) fn logged_version<D: Disk>(
     ensures db { OnlyReads D.Disk files.old.db files.new.db }
 {
     let Ok(found) = probe_page_size(files) else {
-        return Err(OpenError::Failed);
+        return Err(OpenStoreError::Failed);
     };
     let Some(size) = found else {
         return Ok(None);
@@ -49,7 +49,7 @@ pub(crate) fn logged_version<D: Disk>(
     };
     match version_at(&mut files.log, size, at) {
         Ok(version) => Ok(Some(version)),
-        Err(_) => Err(OpenError::Failed),
+        Err(_) => Err(OpenStoreError::Failed),
     }
 }
 
@@ -58,7 +58,7 @@ fn pages_of_frames<D: Disk>(
     alloc: Global,
     files: &mut Files<D>,
     size: PageSize,
-) -> Result<Vec<u32>, OpenError>
+) -> Result<Vec<u32>, OpenStoreError>
     requires log { IsTrue (D.Disk.is_usable files.old.log) }
     ensures frames { IfOk result (λ pages. AreClean D.Disk files.new.log files.new.db
         → AreFramesOf (bytes_of size) (D.Disk.seen files.old.log) pages.items

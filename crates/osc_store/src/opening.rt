@@ -11,7 +11,7 @@ ghost use Rattle.osc_store.specs.Keeping.{IsReady};
 ghost use Rattle.osc_store.specs.Starting.{FindsTree, IsUnmade, Leaves, ListsTable, ReadsAs, page, schema};
 ghost use Rattle.osc_store.specs.Opening.{Fails, IsLook, IsOver};
 
-use crate::error::{OpenError, of_open};
+use crate::error::{OpenStoreError, of_open};
 use crate::listing::{Listed, TABLE, read_list};
 use sqlite_disk::{Disk, Files};
 use sqlite_pager::{Options, Pager};
@@ -52,7 +52,9 @@ pub(crate) fn unopened<D: Disk>(
 }
 
 /// Makes the store, or what a first start that was cut off left to be made.
-pub(crate) fn create<D: Disk>(files: Unopened<D>) -> Result<FileStore<D>, (OpenError, Unopened<D>)>
+pub(crate) fn create<D: Disk>(
+    files: Unopened<D>,
+) -> Result<FileStore<D>, (OpenStoreError, Unopened<D>)>
     requires usable { AreUsable files }
     requires schema { wanted_by files ≡ schema }
     requires size { (state_of files).page_size ≡ page }
@@ -68,7 +70,7 @@ pub(crate) fn create<D: Disk>(files: Unopened<D>) -> Result<FileStore<D>, (OpenE
     ensures unharmed { IfErr result (λ e. IsTrue (state_of e.1).is_clean → IsUnmade (image files) → (tree : AnyTree) → FindsTree (image files) tree
         → Leaves (state_of files).may_leave tree → Leaves (state_of e.1).may_leave tree) }
     ensures more { IfErr result (λ e. IsTrue (state_of e.1).is_clean → (state_of files).faults ≤ (state_of e.1).faults) }
-    ensures kind { IfErr result (λ e. e.0 ≢ OpenError.NoStore) }
+    ensures kind { IfErr result (λ e. e.0 ≢ OpenStoreError.NoStore) }
 {
     match files.create() {
         Ok(store) => Ok(store),
@@ -77,7 +79,9 @@ pub(crate) fn create<D: Disk>(files: Unopened<D>) -> Result<FileStore<D>, (OpenE
 }
 
 /// Opens a database of the table, as far as sqlite_schema tells.
-pub(crate) fn enter<D: Disk>(files: Unopened<D>) -> Result<FileStore<D>, (OpenError, Unopened<D>)>
+pub(crate) fn enter<D: Disk>(
+    files: Unopened<D>,
+) -> Result<FileStore<D>, (OpenStoreError, Unopened<D>)>
     requires usable { AreUsable files }
     requires schema { wanted_by files ≡ schema }
     requires sized { IsTrue (state_of files).is_clean → IsPageSize (stored_size (state_of files).page_size) }
@@ -102,7 +106,7 @@ pub(crate) fn enter<D: Disk>(files: Unopened<D>) -> Result<FileStore<D>, (OpenEr
 }
 
 /// What the files list, once they are recovered.
-pub(crate) fn look<D: Disk>(files: &mut Unopened<D>) -> Result<Listed, OpenError>
+pub(crate) fn look<D: Disk>(files: &mut Unopened<D>) -> Result<Listed, OpenStoreError>
     requires { AreUsable files.old }
     ensures ok { IfOk result (λ found. IsTrue (state_of files.new).is_clean → IsLook files.old files.new found) }
     ensures cause { IfErr result (λ e. IsTrue (state_of files.new).is_clean

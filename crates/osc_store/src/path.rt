@@ -10,7 +10,7 @@ ghost use Rattle.osc_store.specs.Starting.{FindsTree, IsStore, IsUnmade, Leaves}
 ghost use Rattle.osc_store.specs.Opening.{Fault, IsCleanLeft, IsFullLeft, IsOtherVersion, WhyNotOpened, outcomes_left};
 ghost use Rattle.osc_model.specs.Tree.{Tree as AnyTree};
 
-use crate::error::OpenError;
+use crate::error::OpenStoreError;
 use crate::files::open_files;
 use crate::left::Left;
 use osc_tree::Tree;
@@ -33,7 +33,7 @@ pub fn open<S: Start>(
     rt: &HostRuntime,
     path: &str,
     start: S,
-) -> Result<(FileStore<FileFrom<S>>, Tree), (OpenError, Option<Left<FileFrom<S>>>)>
+) -> Result<(FileStore<FileFrom<S>>, Tree), (OpenStoreError, Option<Left<FileFrom<S>>>)>
     ensures kept { IfOk result (λ opened. IsTrue (view opened.0).is_clean → Keeps view recovers opened.0 opened.1) }
     ensures found { IfOk result (λ opened. IsTrue (view opened.0).is_clean → FindsTree (image_at S.Start) opened.1) }
     ensures sums { IfOk result (λ opened. IsTrue (view opened.0).is_clean → IsUnmade (image_at S.Start) → IsTrue (view opened.0).has_sums) }
@@ -75,17 +75,17 @@ pub fn open<S: Start>(
 }
 
 // A number that no one else knows.
-fn draw(rt: &HostRuntime) -> Result<u64, OpenError>
+fn draw(rt: &HostRuntime) -> Result<u64, OpenStoreError>
     ensures { IfErr result (λ e. is_of_content e ≡ false) }
 {
     match RandomState::new(rt) {
         Ok(random) => Ok(random.hash_one(&0u8)),
-        Err(_) => Err(OpenError::Failed),
+        Err(_) => Err(OpenStoreError::Failed),
     }
 }
 
 /// A mark for a store that is opened, which no other has but by chance.
-pub fn draw_mark(rt: &HostRuntime) -> Result<u32, OpenError>
+pub fn draw_mark(rt: &HostRuntime) -> Result<u32, OpenStoreError>
     ensures { IfErr result (λ e. is_of_content e ≡ false) }
 {
     match draw(rt) {
@@ -99,7 +99,7 @@ fn open_pair<S: Start>(
     rt: &HostRuntime,
     path: &str,
     start: S,
-) -> Result<Files<FileFrom<S>>, OpenError>
+) -> Result<Files<FileFrom<S>>, OpenStoreError>
     ensures log { IfOk result (λ files. IsTrue (file_is_usable S.Start files.log)) }
     ensures db { IfOk result (λ files. IsTrue (file_is_usable S.Start files.db)) }
     ensures fresh { IfOk result (λ files. IsFresh true files.log × IsFresh false files.db) }
@@ -107,25 +107,25 @@ fn open_pair<S: Start>(
 {
     match sqlite_std_file::open(rt, path, start) {
         Ok(files) => Ok(files),
-        Err(PathError::OutOfMemory) => Err(OpenError::OutOfMemory),
-        Err(PathError::Busy) => Err(OpenError::Busy),
-        Err(PathError::HotJournal) => Err(OpenError::Journal),
+        Err(PathError::OutOfMemory) => Err(OpenStoreError::OutOfMemory),
+        Err(PathError::Busy) => Err(OpenStoreError::Busy),
+        Err(PathError::HotJournal) => Err(OpenStoreError::Journal),
         Err(PathError::Io(error)) if error.kind() == ErrorKind::OutOfMemory => {
-            Err(OpenError::OutOfMemory)
+            Err(OpenStoreError::OutOfMemory)
         }
-        Err(PathError::Io(_)) => Err(OpenError::Failed),
+        Err(PathError::Io(_)) => Err(OpenStoreError::Failed),
     }
 }
 
 // Where the log of a file that is there would be, if there is none.
-fn missing_log(rt: &HostRuntime, path: &str) -> Result<Option<String>, OpenError>
+fn missing_log(rt: &HostRuntime, path: &str) -> Result<Option<String>, OpenStoreError>
     ensures { IfErr result (λ e. is_of_content e ≡ false) }
 {
     let Ok(real) = fs::canonicalize(rt, path) else {
         return Ok(None);
     };
     let Ok(log) = format!(in rt.alloc(); "{}-wal", real.as_str()) else {
-        return Err(OpenError::OutOfMemory);
+        return Err(OpenStoreError::OutOfMemory);
     };
     match fs::symlink_metadata(rt, log.as_str()) {
         Err(error) if error.kind() == ErrorKind::NotFound => Ok(Some(log)),
@@ -134,10 +134,13 @@ fn missing_log(rt: &HostRuntime, path: &str) -> Result<Option<String>, OpenError
 }
 
 // Whether the files are left as they are, with nothing beside them that wasn't there.
-fn is_left(error: OpenError) -> bool {
+fn is_left(error: OpenStoreError) -> bool {
     matches!(
         error,
-        OpenError::NoStore | OpenError::OtherVersion | OpenError::EmptyFile | OpenError::NoLog
+        OpenStoreError::NoStore
+            | OpenStoreError::OtherVersion
+            | OpenStoreError::EmptyFile
+            | OpenStoreError::NoLog
     )
 }
 

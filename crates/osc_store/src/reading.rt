@@ -4,7 +4,7 @@ ghost use Rattle.sqlite_disk.specs.Memory.{memory_bytes, memory_is_usable};
 ghost use Rattle.osc_store.specs.Belonging.{BelongTogether, Refuses};
 ghost use Rattle.osc_store.specs.Starting.{FindsTree};
 
-use crate::error::OpenError;
+use crate::error::OpenStoreError;
 use crate::files::open_files;
 use osc_tree::Tree;
 use sqlite_disk::{Disk, Files, Memory};
@@ -12,16 +12,16 @@ use std::alloc::Global;
 use std::io;
 
 /// The tree that a start finds in a log and a database file of these contents, or why it fails.
-pub fn read_store(alloc: Global, log: &[u8], db: &[u8]) -> Result<Tree, OpenError>
+pub fn read_store(alloc: Global, log: &[u8], db: &[u8]) -> Result<Tree, OpenStoreError>
     ensures found { IfOk result (FindsTree (record { log = log.now; db = db.now })) }
     ensures belong { IfOk result (λ _. BelongTogether (record { log = log.now; db = db.now })) }
     ensures refused { IfErr result (Refuses (record { log = log.now; db = db.now }) ⊤) }
 {
     let Ok(log) = copied(alloc, log) else {
-        return Err(OpenError::OutOfMemory);
+        return Err(OpenStoreError::OutOfMemory);
     };
     let Ok(db) = copied(alloc, db) else {
-        return Err(OpenError::OutOfMemory);
+        return Err(OpenStoreError::OutOfMemory);
     };
     match open_files(alloc, Files { log, db }, 0) {
         Ok((_store, tree)) => Ok(tree),

@@ -8,7 +8,7 @@ ghost use Rattle.sqlite_wal.specs.Reads.{AreClean};
 ghost use Rattle.osc_store.specs.Starting.{HasNoTable, IsEmpty, IsStore, IsUnmade, page};
 ghost use Rattle.osc_store.specs.Opening.{Fits, Gives, IsCleanLeft, IsOnlyRead, IsOtherVersion, Spares, image_of};
 
-use crate::error::OpenError;
+use crate::error::OpenStoreError;
 use crate::finding::{NEW_SIZE, find, is_blank};
 use crate::left::Left;
 use crate::listing::Listed;
@@ -23,18 +23,18 @@ pub(crate) fn make<D: Disk>(
     alloc: Global,
     files: Files<D>,
     seed: u64,
-) -> Result<FileStore<D>, (OpenError, Left<D>)>
+) -> Result<FileStore<D>, (OpenStoreError, Left<D>)>
     requires log { IsTrue (D.Disk.is_usable files.log) }
     requires db { IsTrue (D.Disk.is_usable files.db) }
     ensures gives { IfOk result (λ it. IsTrue (view it).is_clean → Gives files it) }
     ensures started { IfOk result (λ it. IsTrue (view it).is_clean → IsUnmade (image_of D.Disk files) × ((view it).committed 0 ≡ [])) }
     ensures spares { IfErr result (λ e. IsCleanLeft e.1 → Spares files e.1 (IsUnmade (image_of D.Disk files)) (IsUnmade (image_of D.Disk files)) ⊥ e.0) }
-    ensures kind { IfErr result (λ e. e.0 ≢ OpenError.NoStore) }
+    ensures kind { IfErr result (λ e. e.0 ≢ OpenStoreError.NoStore) }
 {
     let size = PageSize::new(NEW_SIZE).unwrap();
     let fresh = match unopened(alloc, files, size, true, seed) {
         Ok(fresh) => fresh,
-        Err(left) => return Err((OpenError::OutOfMemory, Left::Files(left))),
+        Err(left) => return Err((OpenStoreError::OutOfMemory, Left::Files(left))),
     };
     match create(fresh) {
         Ok(store) => Ok(store),
@@ -47,13 +47,13 @@ pub(crate) fn remake<D: Disk>(
     alloc: Global,
     mut files: Files<D>,
     seed: u64,
-) -> Result<FileStore<D>, (OpenError, Left<D>)>
+) -> Result<FileStore<D>, (OpenStoreError, Left<D>)>
     requires log { IsTrue (D.Disk.is_usable files.log) }
     requires db { IsTrue (D.Disk.is_usable files.db) }
     ensures gives { IfOk result (λ it. IsTrue (view it).is_clean → Gives files it) }
     ensures started { IfOk result (λ it. IsTrue (view it).is_clean → HasNoTable (image_of D.Disk files) × ((view it).committed 0 ≡ [])) }
     ensures spares { IfErr result (λ e. IsCleanLeft e.1 → Spares files e.1 (IsEmpty (image_of D.Disk files)) (IsEmpty (image_of D.Disk files)) ⊥ e.0) }
-    ensures kind { IfErr result (λ e. e.0 ≢ OpenError.NoStore) }
+    ensures kind { IfErr result (λ e. e.0 ≢ OpenStoreError.NoStore) }
 {
     let size = PageSize::new(NEW_SIZE).unwrap();
     match is_blank(alloc, &mut files, size) {
@@ -61,7 +61,7 @@ pub(crate) fn remake<D: Disk>(
             Ok(store) => Ok(store),
             Err((error, left)) => Err((error, left)),
         },
-        Ok(true) => Err((OpenError::Damaged, Left::Files(files))),
+        Ok(true) => Err((OpenStoreError::Damaged, Left::Files(files))),
         Err(error) => Err((error, Left::Files(files))),
     }
 }
@@ -73,18 +73,18 @@ pub(crate) fn take<D: Disk>(
     size: PageSize,
     has_sums: bool,
     seed: u64,
-) -> Result<FileStore<D>, (OpenError, Left<D>)>
+) -> Result<FileStore<D>, (OpenStoreError, Left<D>)>
     requires log { IsTrue (D.Disk.is_usable files.log) }
     requires db { IsTrue (D.Disk.is_usable files.db) }
     requires fits { AreClean D.Disk files.log files.db → Fits (image_of D.Disk files) (used_size (bytes_of size) has_sums) }
     requires some { AreClean D.Disk files.log files.db → ¬ IsBlankFile page (image_of D.Disk files) }
     ensures gives { IfOk result (λ it. IsTrue (view it).is_clean → Gives files it) }
     ensures spares { IfErr result (λ e. IsCleanLeft e.1 → Spares files e.1 ⊤ (IsStore (image_of D.Disk files)) (IsOtherVersion (image_of D.Disk files)) e.0) }
-    ensures read { IfErr result (λ e. e.0 ≡ OpenError.NoStore → IsOnlyRead files e.1) }
+    ensures read { IfErr result (λ e. e.0 ≡ OpenStoreError.NoStore → IsOnlyRead files e.1) }
 {
     let mut fresh = match unopened(alloc, files, size, has_sums, seed) {
         Ok(fresh) => fresh,
-        Err(left) => return Err((OpenError::OutOfMemory, Left::Files(left))),
+        Err(left) => return Err((OpenStoreError::OutOfMemory, Left::Files(left))),
     };
     let found = match look(&mut fresh) {
         Ok(found) => found,
@@ -101,9 +101,9 @@ pub(crate) fn take<D: Disk>(
                 Err((error, left)) => Err((error, left)),
             }
         }
-        Listed::Other => Err((OpenError::OtherVersion, Left::Unopened(fresh))),
-        Listed::Nothing => Err((OpenError::NoStore, Left::Unopened(fresh))),
-        Listed::Foreign => Err((OpenError::NoStore, Left::Unopened(fresh))),
+        Listed::Other => Err((OpenStoreError::OtherVersion, Left::Unopened(fresh))),
+        Listed::Nothing => Err((OpenStoreError::NoStore, Left::Unopened(fresh))),
+        Listed::Foreign => Err((OpenStoreError::NoStore, Left::Unopened(fresh))),
     }
 }
 
@@ -112,12 +112,12 @@ pub(crate) fn store_over<D: Disk>(
     alloc: Global,
     mut files: Files<D>,
     seed: u64,
-) -> Result<FileStore<D>, (OpenError, Left<D>)>
+) -> Result<FileStore<D>, (OpenStoreError, Left<D>)>
     requires log { IsTrue (D.Disk.is_usable files.log) }
     requires db { IsTrue (D.Disk.is_usable files.db) }
     ensures gives { IfOk result (λ it. IsTrue (view it).is_clean → Gives files it) }
     ensures spares { IfErr result (λ e. IsCleanLeft e.1 → Spares files e.1 ⊤ (IsStore (image_of D.Disk files)) (IsOtherVersion (image_of D.Disk files)) e.0) }
-    ensures read { IfErr result (λ e. e.0 ≡ OpenError.NoStore → IsOnlyRead files e.1) }
+    ensures read { IfErr result (λ e. e.0 ≡ OpenStoreError.NoStore → IsOnlyRead files e.1) }
 {
     match find(alloc, &mut files) {
         Ok(None) => match make(alloc, files, seed) {

@@ -2,7 +2,7 @@
 ghost use Rattle.std.specs.Prelude.{◌≡◌, IfOk, IsTrue, []};
 ghost use Rattle.osc_store.specs.Starting.{FindsTree};
 
-use crate::error::{KeepError, OpenError};
+use crate::error::{KeepError, OpenStoreError};
 use crate::files::open_files;
 use crate::keeper::{Keeper, Keeping};
 use crate::reading::read_store;
@@ -13,7 +13,7 @@ use sqlite_trees::error::StoreError;
 use std::alloc::Global;
 
 /// The bytes of a database file that alone is a store of these resources. They are read again before they are handed out.
-pub fn whole_file(alloc: Global, tree: &Tree) -> Result<Vec<u8>, OpenError>
+pub fn whole_file(alloc: Global, tree: &Tree) -> Result<Vec<u8>, OpenStoreError>
     ensures found { IfOk result (λ bytes. FindsTree (record { log = []; db = bytes.items }) tree.now) }
 {
     let bytes = filled_file(alloc, tree)?;
@@ -21,7 +21,7 @@ pub fn whole_file(alloc: Global, tree: &Tree) -> Result<Vec<u8>, OpenError>
     if are_same(&found, tree) {
         Ok(bytes)
     } else {
-        Err(OpenError::Damaged)
+        Err(OpenStoreError::Damaged)
     }
 }
 
@@ -45,7 +45,7 @@ fn are_same(one: &Tree, other: &Tree) -> bool
 }
 
 // A database file with a row for each resource, whose log was carried into it.
-fn filled_file(alloc: Global, tree: &Tree) -> Result<Vec<u8>, OpenError> {
+fn filled_file(alloc: Global, tree: &Tree) -> Result<Vec<u8>, OpenStoreError> {
     let files = Files {
         log: Memory::new(alloc),
         db: Memory::new(alloc),
@@ -59,20 +59,20 @@ fn filled_file(alloc: Global, tree: &Tree) -> Result<Vec<u8>, OpenError> {
     let files = keeper.into_store().close();
     match Vec::from_slice(alloc, files.db.bytes()) {
         Ok(bytes) => Ok(bytes),
-        Err(_) => Err(OpenError::OutOfMemory),
+        Err(_) => Err(OpenStoreError::OutOfMemory),
     }
 }
 
-fn fill<D: Disk>(keeper: &mut Keeper<FileStore<D>>, tree: &Tree) -> Result<(), OpenError> {
+fn fill<D: Disk>(keeper: &mut Keeper<FileStore<D>>, tree: &Tree) -> Result<(), OpenStoreError> {
     keep_all(keeper, tree)?;
     match keeper.store.checkpoint() {
         Ok(()) => Ok(()),
-        Err(StoreError::OutOfMemory) => Err(OpenError::OutOfMemory),
-        Err(_) => Err(OpenError::Full),
+        Err(StoreError::OutOfMemory) => Err(OpenStoreError::OutOfMemory),
+        Err(_) => Err(OpenStoreError::Full),
     }
 }
 
-fn keep_all<K: Keeping>(keeper: &mut K, tree: &Tree) -> Result<(), OpenError> {
+fn keep_all<K: Keeping>(keeper: &mut K, tree: &Tree) -> Result<(), OpenStoreError> {
     for (path, resource) in tree.iter() {
         match keeper.keep(path, Some(resource)) {
             Ok(()) => {}
@@ -83,9 +83,9 @@ fn keep_all<K: Keeping>(keeper: &mut K, tree: &Tree) -> Result<(), OpenError> {
 }
 
 // In memory nothing else fails.
-fn of_keep(error: KeepError) -> OpenError {
+fn of_keep(error: KeepError) -> OpenStoreError {
     match error {
-        KeepError::OutOfMemory => OpenError::OutOfMemory,
-        _ => OpenError::Full,
+        KeepError::OutOfMemory => OpenStoreError::OutOfMemory,
+        _ => OpenStoreError::Full,
     }
 }

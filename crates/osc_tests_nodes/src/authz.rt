@@ -20,10 +20,10 @@ fn desk_of(alloc: Global) -> Result<ServerDesk, AllocError> {
     Ok(ServerDesk::new(alloc, KEY, Audience::new(alloc, "s")?))
 }
 
-/// What a post comes to: the server's recipient ID, or the number of the refusal, and whether the token opened.
+/// The result of a post: the server's recipient ID, or the number of the refusal, and whether the token opened.
 type Outcome = (Result<u8, u8>, bool);
 
-/// What this post came to.
+/// The result of this post.
 fn outcome_of(post: &Post) -> Outcome {
     let answer = match post.answer {
         Ok(reply) => Ok(reply.answer().recipient_id),
@@ -32,7 +32,7 @@ fn outcome_of(post: &Post) -> Outcome {
     (answer, post.opened.is_some())
 }
 
-/// What the post comes to.
+/// The result of the post.
 fn posted(desk: &mut ServerDesk, alloc: Global) -> Result<Outcome, AllocError> {
     let post = post_at(desk, alloc)?;
     let outcome = outcome_of(&post);

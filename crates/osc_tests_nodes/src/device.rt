@@ -264,7 +264,7 @@ fn each_call_of_its_own(rt: HostRuntime) -> Result<(), Fail> {
     Ok(())
 }
 
-/// Adds every method on a path of so many bytes: segments of 32 of these letters.
+/// Adds every method on a path of `size` bytes: segments of 32 of these letters.
 fn push_entry(scope: &mut Vec<u8>, letter: u8, size: u8) -> Result<(), AllocError> {
     scope.extend_from_slice(&[0x82, 0x78, size])?;
     for at in 0..size {

@@ -40,7 +40,7 @@ impl Port for Flood {
     }
 }
 
-/// A turn each 5 milliseconds, so many of them: whether none failed.
+/// A turn each 5 milliseconds, `turns` of them: whether none failed.
 fn takes_turns(alloc: Global, flood: &mut Flood, proxy: &mut Proxy, turns: u64) -> bool {
     let mut pace = Pace::START;
     let mut whole = true;

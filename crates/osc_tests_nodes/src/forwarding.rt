@@ -136,7 +136,7 @@ fn requests(rt: HostRuntime) -> Result<(), Fail> {
     Ok(goes_from_new(&rt, rt.alloc(), &ASKED)?)
 }
 
-/// Whether none of so many requests, each of its own message ID, is answered by 5.03.
+/// Whether none of `count` requests, each of its own message ID, is answered by 5.03.
 fn takes(alloc: Global, proxy: &mut Proxy, first: u8, count: u8) -> bool {
     let mut taken = true;
     for id in 0..count {
@@ -178,7 +178,7 @@ fn eighteen_confirmable_requests(rt: HostRuntime) -> Result<(), Fail> {
     Ok(())
 }
 
-/// A request for `s` with so many bytes of payload.
+/// A request for `s` with this number of bytes of payload.
 fn long_request(alloc: Global, id: u8, payload: usize) -> Result<Vec<u8>, AllocError> {
     let mut bytes = Vec::new(alloc);
     bytes.extend_from_slice(&request(0x50, id))?;

@@ -42,7 +42,7 @@ const ROW: [(u64, Doing); 20] = [
 /// How many calls of ports these are.
 const CALLS: usize = 32;
 
-/// How the call of a number goes: it fails, or it is a send that loses its datagram, and nobody is told. Call 0 is none.
+/// How the call of a number goes: it fails, or it is a send that loses its datagram, and nobody is told. Call 0 is no call.
 #[derive(Clone, Copy)]
 enum Fault {
     Told(usize),
@@ -202,7 +202,7 @@ fn is_as_lost<R: Abort + Drop>(
     Ok(so)
 }
 
-/// Whether nothing failed, and the client learnt that an unprotected answer came to what was served.
+/// Whether nothing failed, and the client learnt of an unprotected answer to what was served.
 fn is_whole(run: &Outcome) -> bool {
     run.failures == (0, 0, 0)
         && run.again == 0

@@ -1,13 +1,13 @@
 //! Rooms in which a node sends, datagrams in their order, and the first moment.
 use crate::peer::{OTHER_ADDRESS, PEER};
-use osc_message::{Buffer, Outbox, ReplyRoom};
+use osc_message::{MessageRoom, Outbox, ReplyRoom};
 use osc_model::{Bytes, Datagram, Datagrams, Moment};
 use std::alloc::{AllocError, Global};
 
 #[test]
 fn what_is_sent_has_its_room(rt: HostRuntime) {
     let mut outbox = Outbox::new(rt.alloc(), 2).expect(&rt, "memory");
-    let room = Buffer::new(rt.alloc(), 8).expect(&rt, "memory");
+    let room = MessageRoom::new(rt.alloc(), 8).expect(&rt, "memory");
     outbox.send(PEER, room.fill(b"first"));
     outbox.send(
         OTHER_ADDRESS,
@@ -23,7 +23,7 @@ fn a_reply_goes_out_from_where_it_is_written(rt: HostRuntime) {
     let (out, noted) = copy.fill(PEER, bytes.fill(b"reply"));
     assert!(rt; out.as_slice().len() == 1);
     assert!(rt; noted.as_slice() == b"reply".as_slice());
-    let empty = Buffer::new(rt.alloc(), 8).expect(&rt, "memory");
+    let empty = MessageRoom::new(rt.alloc(), 8).expect(&rt, "memory");
     assert!(rt; empty.into_vec().is_empty());
 }
 

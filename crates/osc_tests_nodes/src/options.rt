@@ -1,4 +1,4 @@
-//! The error of a plaintext that no row comes to.
+//! The error of a plaintext that no row gives.
 use osc_options::PlaintextError;
 
 #[test]

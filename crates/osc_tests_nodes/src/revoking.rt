@@ -76,7 +76,7 @@ fn asks(alloc: Global, client: &mut Client, server: &mut Server, asked: &Request
     told(client.on_datagram::<Suite>(alloc, Moment::START, SERVER, &answer))
 }
 
-/// Puts so many resources below the path, each named by a number of four digits.
+/// Puts this number of resources below the path, each named by a number of four digits.
 fn fill(alloc: Global, tree: &mut Tree, above: &[u8], many: usize) -> Result<(), AllocError> {
     for number in 0..many {
         let mut path = Vec::from_slice(alloc, above)?;
@@ -89,7 +89,7 @@ fn fill(alloc: Global, tree: &mut Tree, above: &[u8], many: usize) -> Result<(),
     Ok(())
 }
 
-/// From 960 resources on none is made elsewhere, and revocations are made until there are 1,024.
+/// From 960 resources on no resource is made elsewhere, and revocations are made until there are 1,024.
 fn leaves_room(rt: &impl Abort, alloc: Global, server: &mut Server) -> Result<(), Fail> {
     let mut owner = holder(alloc, server, 1, OWNERS)?;
     let put = request(alloc, b"/log", PUT, b"a")?;

@@ -102,7 +102,7 @@ const CONDITIONS: [(Asked, Code); 10] = [
 ];
 
 #[test]
-fn conditions_are_heeded(rt: HostRuntime) -> Result<(), Fail> {
+fn conditions_are_accepted(rt: HostRuntime) -> Result<(), Fail> {
     let scope = scope_of(rt.alloc(), EVERY_METHOD)?;
     for &(asked, code) in &CONDITIONS {
         let (answered, _, _) = first_answer(rt.alloc(), &scope, asked)?;

@@ -13,7 +13,7 @@ const NEVER: u64 = 1 << 40;
 // More calls than a first start and all changes make of the log.
 const CALLS: u64 = 60;
 
-// Of so many bytes of a write, one is the last that is written.
+// Of this number of bytes of a write, one is the last that is written.
 const STEP: usize = 97;
 
 fn keep_all(alloc: Global, mut store: FileStore<Fuse<Memory>>) -> Result<Cut, Fail> {
@@ -30,7 +30,7 @@ fn keep_all(alloc: Global, mut store: FileStore<Fuse<Memory>>) -> Result<Cut, Fa
     cut_of(alloc, store.close(), kept)
 }
 
-// A first start and all changes, over disks that freeze after so many calls.
+// A first start and all changes, over disks that freeze after these numbers of calls.
 fn run(alloc: Global, log_calls: u64, db_calls: u64) -> Result<Cut, Fail> {
     let files = Files {
         log: Fuse::new(Memory::new(alloc), log_calls),

@@ -3,7 +3,7 @@ ghost use Rattle.std.specs.Prelude.{◌+◌, ◌≤◌, IfSome, length};
 
 use crate::changes::{CHANGES, is_after, path_of, resource_of};
 use crate::disks::{pair, start};
-use osc_store::{OpenError, keep, open_files};
+use osc_store::{OpenStoreError, keep, open_files};
 use sqlite_disk::Memory;
 use sqlite_store::FileStore;
 use sqlite_value::row::Row;
@@ -61,7 +61,7 @@ fn is_told(alloc: Global, log: &[u8], db: &[u8], at: usize) -> Result<bool, Fail
     for bit in [1u8, 2, 4, 8, 16, 32, 64, 128] {
         let flipped = flipped(alloc, db, at, bit)?;
         match start(alloc, log, &flipped)? {
-            Err(OpenError::Damaged) => {}
+            Err(OpenStoreError::Damaged) => {}
             _ => return Ok(false),
         }
     }

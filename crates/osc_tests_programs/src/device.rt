@@ -353,7 +353,7 @@ fn cut_of(alloc: Global, files: &Files<Fuse<Memory>>, life: Life) -> Result<Cut,
     Ok(Cut { log, db, life })
 }
 
-/// All calls of a device, over disks that fail after so many of theirs.
+/// All calls of a device, over disks that fail after these numbers of theirs.
 fn cut_at(alloc: Global, log_calls: u64, db_calls: u64) -> Result<Cut, Fail> {
     let files = Files {
         log: Fuse::new(Memory::new(alloc), log_calls),
@@ -385,7 +385,7 @@ fn has(alloc: Global, tree: &Tree, bytes: Option<&[u8]>) -> Result<bool, AllocEr
     })
 }
 
-/// Whether the tree is that after so many calls; or after one more, where that one may be kept.
+/// Whether the tree is that after the calls that were handed out; or after one more, where that one may be kept.
 fn is_left(alloc: Global, tree: &Tree, life: &Life) -> Result<bool, AllocError> {
     for (calls, bytes) in AFTER.iter().enumerate() {
         let counts = calls == life.handed

@@ -3,7 +3,7 @@ ghost use Rattle.std.specs.Prelude.{IfOk, IsTrue};
 ghost use Rattle.sqlite_disk.specs.Memory.{memory_is_usable};
 
 use crate::changes::is_after;
-use osc_store::{OpenError, open_files};
+use osc_store::{OpenStoreError, open_files};
 use osc_tree::Tree;
 use sqlite_disk::{Disk, Files, Fuse, Memory};
 use std::alloc::Global;
@@ -32,7 +32,7 @@ pub fn pair(alloc: Global, log: &[u8], db: &[u8]) -> Result<Files<Memory>, Fail>
 }
 
 /// The tree that a start finds in them, or why it fails.
-pub fn start(alloc: Global, log: &[u8], db: &[u8]) -> Result<Result<Tree, OpenError>, Fail> {
+pub fn start(alloc: Global, log: &[u8], db: &[u8]) -> Result<Result<Tree, OpenStoreError>, Fail> {
     match open_files(alloc, pair(alloc, log, db)?, 7) {
         Ok((_store, tree)) => Ok(Ok(tree)),
         Err((error, _left)) => Ok(Err(error)),

@@ -21,7 +21,7 @@ fn a_text_has_an_end(rt: HostRuntime) -> Result<(), Fail> {
     Ok(())
 }
 
-/// Without a log nothing is told, and what can't be written is nobody's failure.
+/// Without a log nothing is told, and what can't be written is no failure.
 #[test]
 fn settings_end_alike_with_any_log(rt: HostRuntime) -> Result<(), Fail> {
     let mut reader = b"bind = 1".as_slice();

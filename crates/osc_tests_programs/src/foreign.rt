@@ -2,7 +2,7 @@
 use crate::changes::{CHANGES, is_after};
 use crate::damage::settled;
 use crate::disks::{pair, start};
-use osc_store::{OpenError, open_files};
+use osc_store::{OpenStoreError, open_files};
 use sqlite_disk::Memory;
 use sqlite_pager::{Options, Pager};
 use sqlite_store::{FileStore, Unopened};
@@ -38,7 +38,7 @@ fn bytes_of(alloc: Global, store: FileStore<Memory>) -> Result<(Vec<u8>, Vec<u8>
 }
 
 // A start over these bytes is refused so, and leaves the database file as it is.
-fn is_refused(alloc: Global, log: &[u8], db: &[u8], want: OpenError) -> Result<bool, Fail> {
+fn is_refused(alloc: Global, log: &[u8], db: &[u8], want: OpenStoreError) -> Result<bool, Fail> {
     match open_files(alloc, pair(alloc, log, db)?, 7) {
         Ok(_) => Ok(false),
         Err((error, left)) => {
@@ -55,19 +55,19 @@ fn foreign_files_stay(rt: HostRuntime) -> Result<(), Fail> {
     for length in [2usize, 17, 18, 100, 4096, 9000] {
         let bytes = text.as_bytes().get(..length).ok_or("a text")?;
         assert!(&rt;
-            is_refused(alloc, &[], bytes, OpenError::NoStore)?,
+            is_refused(alloc, &[], bytes, OpenStoreError::NoStore)?,
             "text of {length}"
         );
     }
     for has_sums in [false, true] {
         let (log, db) = other(alloc, "t", has_sums)?;
         assert!(&rt;
-            is_refused(alloc, &log, &db, OpenError::NoStore)?,
+            is_refused(alloc, &log, &db, OpenStoreError::NoStore)?,
             "{has_sums}"
         );
         let (log, db) = other(alloc, "resource", has_sums)?;
         assert!(&rt;
-            is_refused(alloc, &log, &db, OpenError::OtherVersion)?,
+            is_refused(alloc, &log, &db, OpenStoreError::OtherVersion)?,
             "{has_sums}"
         );
     }
@@ -81,7 +81,7 @@ fn short_files_are_damaged_or_new(rt: HostRuntime) -> Result<(), Fail> {
     for short in [4096usize, 4097, 8191] {
         let bytes = db.get(..short).ok_or("a database of two pages")?;
         assert!(&rt;
-            is_refused(alloc, &log, bytes, OpenError::Damaged)?,
+            is_refused(alloc, &log, bytes, OpenStoreError::Damaged)?,
             "{short}"
         );
     }

@@ -2,7 +2,7 @@
 ghost use Rattle.osc_log.specs.declared.held.Held.TheVariants as AnyHeld;
 
 use crate::broken::{BrokenWriter, FullPipe};
-use osc_log::{AtOnce, Form, Held, Holds, Lines, Log, Silent, Turn};
+use osc_log::{AtOnce, Form, Held, Lines, Log, Silent, TellsHeld, Turn};
 use osc_model::{
     Algorithm, Bytes, Code, ContextName, Datagram, Datagrams, Entry, Moment, Peer, RefusedRequest,
     Reply, SharedBytes, SharedName, Step, StepNotes,
@@ -75,7 +75,7 @@ fn moment() -> Moment {
 /// A server with three contexts and two resources.
 struct Shelf;
 
-impl Holds for Shelf {
+impl TellsHeld for Shelf {
     ghost held = { λ _. AnyHeld.Server 3 2 };
 
     fn held(&self) -> Held {
@@ -258,7 +258,7 @@ fn lines_are_written(rt: HostRuntime) -> Result<(), Fail> {
     Ok(())
 }
 
-// So many milliseconds after the first moment.
+// This number of milliseconds after the first moment.
 fn later(ms: u64) -> Moment {
     Moment::new(NOW.wrapping_add(ms)).unwrap_or(Moment::START)
 }
@@ -322,7 +322,7 @@ fn a_new_second_tells_what_was_left_out(rt: HostRuntime) -> Result<(), Fail> {
     Ok(())
 }
 
-// What can't be written is nobody's failure, and what comes later is tried again.
+// What can't be written is no failure, and what comes later is tried again.
 #[test]
 fn a_broken_output_ends_nothing(rt: HostRuntime) -> Result<(), Fail> {
     let alloc = rt.alloc();

@@ -1,7 +1,7 @@
 //! Stores in files of the system.
 
 use crate::changes::{CHANGES, is_after, path_of, resource_of};
-use osc_store::{Keeper, Keeping, OpenError, Wary, open};
+use osc_store::{Keeper, Keeping, OpenStoreError, Wary, open};
 use osc_tree::Tree;
 use std::alloc::Global;
 use std::fs;
@@ -45,7 +45,7 @@ fn keep_in<K: Keeping + Drop>(rt: &HostRuntime, keeper: K, tree: &Tree) -> Resul
 
 fn is_busy(rt: &HostRuntime) -> bool {
     match open(rt, STORE, Wary) {
-        Err((OpenError::Busy, None)) => true,
+        Err((OpenStoreError::Busy, None)) => true,
         _ => false,
     }
 }
@@ -58,7 +58,7 @@ fn is_kept(rt: &HostRuntime) -> Result<bool, Fail> {
     }
 }
 
-fn refusal(rt: &HostRuntime, path: &str) -> Option<OpenError> {
+fn refusal(rt: &HostRuntime, path: &str) -> Option<OpenStoreError> {
     match open(rt, path, Wary) {
         Ok(_) => None,
         Err((error, _left)) => Some(error),
@@ -74,16 +74,16 @@ fn a_store_outlives_its_process(rt: HostRuntime) -> Result<(), Fail> {
     fs::remove_file(&rt, STORE)?;
     fs::remove_file(&rt, LOG)?;
     fs::write(&rt, STORE, b"These are no resources.".as_slice())?;
-    assert_eq!(&rt; refusal(&rt, STORE), Some(OpenError::NoStore));
+    assert_eq!(&rt; refusal(&rt, STORE), Some(OpenStoreError::NoStore));
     assert!(&rt; !fs::exists(&rt, LOG)?, "nothing is left beside it");
     assert_eq!(&rt;
         fs::read(&rt, STORE)?.as_slice(),
         b"These are no resources.".as_slice()
     );
-    assert_eq!(&rt; refusal(&rt, FOLDER), Some(OpenError::Failed));
+    assert_eq!(&rt; refusal(&rt, FOLDER), Some(OpenStoreError::Failed));
     assert_eq!(&rt;
         refusal(&rt, "osc_store_test/none/store.db"),
-        Some(OpenError::Failed)
+        Some(OpenStoreError::Failed)
     );
     fs::remove_dir_all(&rt, FOLDER)?;
     Ok(())

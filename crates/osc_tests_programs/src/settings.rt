@@ -1,4 +1,4 @@
-//! What is printed of settings, and of why a text is none. Which texts are settings is in examples/cases/settings.
+//! What is printed of settings, and of why a text isn't settings. Which texts are settings is in examples/cases/settings.
 use osc_settings::{
     KeyFault, SettingsError, SettingsKey, read_client_settings, read_server_settings,
 };

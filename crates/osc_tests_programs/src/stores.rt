@@ -65,7 +65,7 @@ fn is_opened(rt: &HostRuntime, file: &str) -> bool {
     }
 }
 
-// What is printed where the words are heeded.
+// What is printed where the words are accepted.
 fn printed(rt: &HostRuntime, words: &[&str]) -> Option<Vec<u8>> {
     let Ok(Words::Store(words)) = read_words(rt.alloc(), words) else {
         return None;

@@ -1,7 +1,7 @@
 //! A database file that holds the whole store, one that says that a log belongs to it, and what isn't taken for one store.
 use crate::changes::{CHANGES, is_after, path_of, resource_of};
 use crate::disks::{Cut, cut_of, is_found, pair, start};
-use osc_store::{FileKeeper, Keeping, OpenError, open_files, whole_file};
+use osc_store::{FileKeeper, Keeping, OpenStoreError, open_files, whole_file};
 use sqlite_disk::{Disk, Files, Fuse, Memory};
 use std::alloc::Global;
 use std::test::Fail;
@@ -19,7 +19,7 @@ const OWN: u32 = 0x0102_0304;
 // How many changes are kept.
 const MANY: usize = 3;
 
-// Of so many bytes of a write, one is the last that is written; and of the first, where the header is, one of so many.
+// Of this number of bytes of a write, one is the last that is written; and of the first, where the header is, one of `FIRST`.
 const STEP: usize = 2039;
 
 const FIRST: usize = 17;
@@ -27,7 +27,7 @@ const FIRST: usize = 17;
 // The file is made whole before this change, too.
 const MIDDLE: usize = 2;
 
-// Keeps so many of the changes, from a file that is made whole, and whole again on the way; gives how many were kept.
+// Keeps `many` of the changes, from a file that is made whole, and whole again on the way; gives how many were kept.
 fn keep_some(
     alloc: Global,
     keeper: &mut FileKeeper<Fuse<Memory>>,
@@ -46,7 +46,7 @@ fn keep_some(
     Ok(CHANGES.len())
 }
 
-// A first start and so many changes, over disks that freeze after so many calls.
+// A first start and `many` changes, over disks that freeze after these numbers of calls.
 fn run(alloc: Global, log_calls: u64, db_calls: u64, many: usize) -> Result<Cut, Fail> {
     run_by(alloc, OWN, log_calls, db_calls, many)
 }
@@ -154,7 +154,7 @@ fn cut_inside_each_write_of_the_database(rt: HostRuntime) -> Result<(), Fail> {
 }
 
 // A start over these bytes is refused so, and leaves both files as they are.
-fn is_refused(alloc: Global, log: &[u8], db: &[u8], want: OpenError) -> Result<bool, Fail> {
+fn is_refused(alloc: Global, log: &[u8], db: &[u8], want: OpenStoreError) -> Result<bool, Fail> {
     match open_files(alloc, pair(alloc, log, db)?, 7) {
         Ok(_) => Ok(false),
         Err((error, left)) => {
@@ -211,7 +211,7 @@ fn a_file_without_its_log_is_refused(rt: HostRuntime) -> Result<(), Fail> {
         for short in [0usize, 1, 31] {
             let log = cut.log.get(..short).ok_or("a log")?;
             assert!(&rt;
-                is_refused(alloc, log, &cut.db, OpenError::NoLog)?,
+                is_refused(alloc, log, &cut.db, OpenStoreError::NoLog)?,
                 "{many} {short}"
             );
         }
@@ -228,7 +228,7 @@ fn an_empty_file_beside_a_log_is_refused(rt: HostRuntime) -> Result<(), Fail> {
     let alloc = rt.alloc();
     let cut = run(alloc, NEVER, NEVER, 3)?;
     for db in [&[][..], &[0][..], &[83][..]] {
-        assert!(&rt; is_refused(alloc, &cut.log, db, OpenError::EmptyFile)?);
+        assert!(&rt; is_refused(alloc, &cut.log, db, OpenStoreError::EmptyFile)?);
     }
     match start(alloc, cut.log.get(..41).ok_or("a log")?, &[])? {
         Ok(tree) => assert!(&rt; is_after(alloc, &tree, 0)?),
@@ -247,11 +247,11 @@ fn a_file_beside_another_files_log_is_refused(rt: HostRuntime) -> Result<(), Fai
         for other in [OWN + 1, OWN ^ (1 << 19)] {
             let other = run_by(alloc, other, NEVER, NEVER, many)?;
             assert!(&rt;
-                is_refused(alloc, &other.log, &one.db, OpenError::ForeignLog)?,
+                is_refused(alloc, &other.log, &one.db, OpenStoreError::ForeignLog)?,
                 "{many}"
             );
             assert!(&rt;
-                is_refused(alloc, &one.log, &other.db, OpenError::ForeignLog)?,
+                is_refused(alloc, &one.log, &other.db, OpenStoreError::ForeignLog)?,
                 "{many}"
             );
         }
@@ -259,7 +259,7 @@ fn a_file_beside_another_files_log_is_refused(rt: HostRuntime) -> Result<(), Fai
         assert!(&rt; is_found(alloc, &same.log, &one.db, many)?, "{many}");
         // nor does a log belong to a file that was whole before it
         assert!(&rt;
-            is_refused(alloc, &one.log, &whole.db, OpenError::ForeignLog)?,
+            is_refused(alloc, &one.log, &whole.db, OpenStoreError::ForeignLog)?,
             "{many}"
         );
     }
@@ -272,8 +272,8 @@ fn a_file_of_another_time_is_refused(rt: HostRuntime) -> Result<(), Fail> {
     // (the file is made whole before each second change)
     let early = run(alloc, NEVER, NEVER, 1)?;
     let late = run(alloc, NEVER, NEVER, 3)?;
-    assert!(&rt; is_refused(alloc, &late.log, &early.db, OpenError::ForeignLog)?);
-    assert!(&rt; is_refused(alloc, &early.log, &late.db, OpenError::ForeignLog)?);
+    assert!(&rt; is_refused(alloc, &late.log, &early.db, OpenStoreError::ForeignLog)?);
+    assert!(&rt; is_refused(alloc, &early.log, &late.db, OpenStoreError::ForeignLog)?);
     Ok(())
 }
 

@@ -62,7 +62,7 @@ fn second_post(alloc: Global, world: &World) -> Result<Bytes, AllocError> {
 }
 
 /// Both clients begin an exchange with one draw, and the second one's post comes to the server from where the first one is. So
-/// both ends have one secret and the same nonces, and each its own algorithm: no request is served, and none is answered.
+/// both ends have one secret and the same nonces, and each its own algorithm: no request is served, and no request is answered.
 fn is_not_served(rt: &impl Abort, alloc: Global, world: &mut World) {
     assert!(rt; exchanges(alloc, world, 1, 0));
     assert!(rt; exchanges(alloc, world, 1, 1));

@@ -1,4 +1,4 @@
-//! Each kind of event at each node, where there is memory: none is answered by lack of memory. The owners' grants have salts and id
+//! Each kind of event at each node, where there is memory: no event is answered by lack of memory. The owners' grants have salts and id
 //! contexts, from none to the longest, and each of them reaches the server once straight and once through a proxy.
 
 use crate::common::{

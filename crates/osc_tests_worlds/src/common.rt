@@ -11,7 +11,7 @@ use osc_run::Actor;
 use osc_scope::Scope;
 use osc_token::Audience;
 use osc_tree::Tree;
-use osc_world::{Event, Holder, Start, What, World};
+use osc_world::{Event, NewHolder, Start, What, World};
 use std::alloc::{AllocError, Global};
 use std::test::*;
 
@@ -33,9 +33,9 @@ fn holder(
     alloc: Global,
     right: Right,
     way: Result<Route, AllocError>,
-) -> Result<Holder, AllocError> {
+) -> Result<NewHolder, AllocError> {
     let way = way?;
-    Ok(Holder {
+    Ok(NewHolder {
         at: place(right.client),
         way,
         claims: claims(alloc, right)?,

@@ -60,7 +60,7 @@ fn a_put_where_nothing_is_there(rt: HostRuntime) -> Result<(), Fail> {
     Ok(())
 }
 
-/// What the request of this plaintext is answered, where its options are heeded; else 4.02.
+/// What the request of this plaintext is answered, where its options are accepted; else 4.02.
 fn reply_to(alloc: Global, tree: &mut Tree, scope: &Scope, plaintext: &[u8]) -> Option<Reply> {
     match request_of(alloc, plaintext) {
         Ok(request) => tree.apply(alloc, None, scope, &request).ok(),

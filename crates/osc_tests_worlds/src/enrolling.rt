@@ -9,7 +9,7 @@ use osc_model::{Algorithm, Bytes, Peer};
 use osc_proxy::Targets;
 use osc_token::{Audience, Claims, InputMaterial};
 use osc_tree::Tree;
-use osc_world::{EnrollError, Holder, PlaceError, Start};
+use osc_world::{EnrollError, NewHolder, PlaceError, Start};
 use std::alloc::{AllocError, Global};
 use std::process::Abort;
 use std::test::*;
@@ -75,7 +75,7 @@ fn claims(alloc: Global, row: Row) -> Result<Claims, AllocError> {
 fn refusal(alloc: Global, start: &mut Start, at: Peer, row: Row) -> Option<EnrollError> {
     match claims(alloc, row) {
         Ok(claims) => {
-            let holder = Holder {
+            let holder = NewHolder {
                 at,
                 way: straight(),
                 claims,

@@ -50,7 +50,7 @@ pub(crate) fn exchanged(rt: &impl Abort, alloc: Global, world: &mut World) {
     assert!(rt; is_quiet(alloc, world, 0, 2) == Some(true));
 }
 
-/// A limit of none delivers nothing and tells whether anything waits; each limit delivers so many at most.
+/// A limit of zero delivers nothing and tells whether anything waits; each limit delivers at most that number.
 fn limits(rt: &impl Abort, alloc: Global, world: &mut World) {
     assert!(rt; is_quiet(alloc, world, 0, 0) == Some(true));
     assert!(rt; settles(alloc, world));

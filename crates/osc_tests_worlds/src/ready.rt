@@ -213,7 +213,7 @@ fn happens(alloc: Global, world: &mut World, next: Next, what: What) -> bool {
     takes_place(alloc, world, event)
 }
 
-/// A quiet round of at most so many deliveries takes them all and leaves nothing.
+/// A quiet round of at most this number of deliveries takes them all and leaves nothing.
 fn takes(alloc: Global, world: &mut World, next: Next, deliveries: usize) -> bool {
     let before = world.records().len();
     is_quiet(alloc, world, next.now.ms, deliveries) == Some(true)
@@ -262,7 +262,7 @@ fn has_made(alloc: Global, world: &World, next: Next) -> bool {
         })
 }
 
-/// An exchange as it is promised, by so many deliveries.
+/// An exchange as it is promised, by this number of deliveries.
 pub(crate) fn makes(
     rt: &impl Abort,
     alloc: Global,
@@ -319,7 +319,7 @@ fn asks(alloc: Global, world: &mut World, next: Next, row: Row) -> bool {
     }
 }
 
-/// A request as it is promised, by so many deliveries: one entry more, and its reply is the answer.
+/// A request as it is promised, by this number of deliveries: one entry more, and its reply is the answer.
 pub(crate) fn serves(
     rt: &impl Abort,
     alloc: Global,

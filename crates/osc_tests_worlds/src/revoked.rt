@@ -37,7 +37,7 @@ const TURNS: [(u8, u8); 10] = [
     (3, 4),
 ];
 
-/// An owner, and a guest with this scope, at a server where resources under `/revoked` revoke tokens, and contexts count so many seconds.
+/// An owner, and a guest with this scope, at a server where resources under `/revoked` revoke tokens, and contexts count for this number of seconds.
 pub(crate) fn world(
     alloc: Global,
     guest: &'static [u8],

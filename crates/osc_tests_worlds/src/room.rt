@@ -41,7 +41,7 @@ fn makes(alloc: Global, world: &mut World, number: u16) -> bool {
     takes_place(alloc, world, event) && settles(alloc, world)
 }
 
-/// The first so many of them, one after the other.
+/// The first `count` of them, one after the other.
 fn makes_all(alloc: Global, world: &mut World, count: u16) -> bool {
     for number in 0..count {
         if !makes(alloc, world, number) {

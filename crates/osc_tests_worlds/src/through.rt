@@ -174,7 +174,7 @@ fn drops(world: &mut World) -> bool {
     }
 }
 
-/// So many exchanges are open at the proxy.
+/// This number of exchanges is open at the proxy.
 fn has_open(world: &World, count: usize) -> bool {
     match proxy_of(world) {
         Some(proxy) => proxy.open_exchanges() == count,

@@ -1,4 +1,4 @@
--- What the text of minted claims comes to, whatever their lengths: the claims alone.
+-- What the text of minted claims gives, whatever their lengths: the claims alone.
 use Rattle.std.proofs.Common.{◌≡◌, ◌⊎◌, inl, inr, ℕ, List, [], ◌∷◌, Option, Some, None, Result, Ok, refl, sym, ap, ◌∙◌, subst, arith}
 use Rattle.std.specs.Option.{option_map}
 use Rattle.osc_model.specs.Scope.{Scope}

@@ -28,7 +28,7 @@ absent n no_pairs above has = absurd has
 absent n (pair k v ps) above (inl e) = let same : n ≡ above.0 = same_number n above.0 (e ∙ above.1) in omega (arith, above.2, same)
 absent n (pair k v ps) above (inr has) = absent n ps above.3 has
 
--- they have a spelling, and are so many at most
+-- they have a spelling, and are at most `count`
 record Rising (n count : ℕ) (ps : Pairs) : Type 0 where
   above : AreAbove n ps
   own : HasOwnKeys ps

@@ -30,7 +30,7 @@ abbrev pub IsAbsentOr : DataItem → Option DataItem → Type 0
 IsAbsentOr expected value = (value ≡ None) ⊎ (value ≡ Some expected)
 
 -- OSCORE_Input_Material: id 0, version 1, ms 2, hkdf 3, alg 4, salt 5, contextId 6. The version is 1, the hash SHA-256, the
--- cipher one of two, AES-CCM-16-64-128 where none is named, and an absent salt is an empty one.
+-- cipher one of two, AES-CCM-16-64-128 where no cipher is named, and an absent salt is an empty one.
 pub record IsMaterial (fields : Pairs) (material : InputMaterial) : Type 0 where
   pub id : value_under 0 fields ≡ Some (byte_string material.id)
   pub id_size : length material.id ≤ 64

@@ -52,7 +52,7 @@ abbrev pub salt_field : List ℕ → Pairs → Pairs
 salt_field [] others = others
 salt_field (byte ∷ bytes) others = pair (unsigned 5) (byte_string (byte ∷ bytes)) others
 
--- an algorithm that isn't the one that is meant where none is named, before the other fields
+-- an algorithm that isn't the default, before the other fields
 abbrev pub alg_field : Algorithm → Pairs → Pairs
 alg_field EightByteTag others = others
 alg_field SixteenByteTag others = pair (unsigned 4) (unsigned 30) others

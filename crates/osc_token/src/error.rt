@@ -9,7 +9,7 @@ use std::alloc::AllocError;
 use thiserror::Error;
 
 /// Why a token is refused: the first of these that applies, in this order, but for `BadClaims`, which answers in the place
-/// of the claims and in that of their input material. Want of memory is no refusal: calls say it beside these.
+/// of the claims and in that of their input material. Lack of memory is no refusal: calls say it beside these.
 #[derive(Clone, Copy, Debug, PartialEq, Eq, Error)]
 pub enum TokenError {
     /// It isn't of the form of a token, or doesn't open under the key.

@@ -27,7 +27,7 @@ pub fn minted_tokens<A: Aead>()
     osc_cose::laws::what_is_written();
 }
 
-/// Where no check fails, the text of minted claims comes to the claims.
+/// Where no check fails, the text of minted claims gives the claims.
 pub fn minted_claims()
     ensures { (claims : AnyClaims) (entries : List Entry) (now : AnyMoment)
         → HasLawfulParts claims → IsScope claims.scope entries
@@ -37,7 +37,7 @@ pub fn minted_claims()
     osc_cbor::laws::what_is_written();
 }
 
-/// The text of minted claims, of any lengths that fit their types, comes to the claims and what their scope is, or to nothing.
+/// The text of minted claims, of any lengths that fit their types, gives the claims and what their scope is, or nothing.
 pub fn minted_texts()
     ensures { (claims read : AnyClaims) (entries : List Entry) (granted : Permissions) (audience : List ℕ) (now : AnyMoment)
         → FitTheirTypes claims → IsScope claims.scope entries
@@ -49,8 +49,8 @@ pub fn minted_texts()
     osc_scope::laws::one_scope();
 }
 
-/// What was minted is opened and judged to its claims: whatever text the token opens to, in the time of the claims it comes
-/// to them and to what their scope is, and to nothing else.
+/// What was minted is opened and judged to its claims: whatever text the token opens to, in the time of the claims it gives
+/// them and what their scope is, and nothing else.
 pub fn what_was_minted<A: Aead>()
     ensures { (key iv ciphertext protected ivs text : List ℕ) (claims : AnyClaims) (entries : List Entry) (now : AnyMoment) (outcome : Result (AnyClaims × Permissions) AnyError)
         → length iv ≡ 13 → length ciphertext < 2 ^ 64
@@ -76,7 +76,7 @@ pub fn one_token<A: Aead>()
     osc_cbor::laws::one_item();
 }
 
-/// A text comes to one outcome at most.
+/// A text has one outcome at most.
 pub fn one_outcome()
     ensures { (text audience : List ℕ) (now : AnyMoment) (one other : Result (AnyClaims × Permissions) AnyError)
         → ComesTo text audience now one → ComesTo text audience now other → one ≡ other }

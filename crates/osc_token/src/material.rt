@@ -111,7 +111,7 @@ fn id_context<'a>(fields: &FieldsRef<'a>) -> Option<Option<&'a [u8]>>
     }
 }
 
-/// The algorithm, AES-CCM-16-64-128 where none is named; none where it is another than the two.
+/// The algorithm, AES-CCM-16-64-128 where there is no value; none where it is another than the two.
 fn algorithm(value: &Option<ItemRef<'_>>) -> Option<Algorithm>
     ensures { result ≡ spec.alg_of value.now }
 {
@@ -128,7 +128,7 @@ fn numbered(item: &ItemRef<'_>) -> Option<Algorithm>
     Algorithm::from_number(item.as_unsigned()?)
 }
 
-/// The bytes of a field, if it is a byte string of at least so many and at most [`LONGEST_PART`].
+/// The bytes of a field, if it is a byte string of at least `least` and at most [`LONGEST_PART`] bytes.
 fn sized<'a>(value: &ItemRef<'a>, least: usize) -> Option<&'a [u8]>
     ensures { option_copied result ≡ spec.sized least value.now }
 {

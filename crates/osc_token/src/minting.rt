@@ -15,7 +15,7 @@ use crate::labels::{
 use crate::lengths::claims_len;
 use osc_cbor::{Item, write};
 use osc_ccm::Aead;
-use osc_cose::{Encrypt0, SealError, seal0, write0};
+use osc_cose::{Encrypt0, SealEncrypt0Error, seal0, write0};
 use osc_model::{Algorithm, Bytes};
 use std::alloc::{AllocError, Global};
 
@@ -26,8 +26,8 @@ const ALGORITHM_HEADER: [u8; 3] = *b"\xa1\x01\x0a";
 pub const CLAIMS_LIMIT: usize = 65535;
 
 /// Appends the token of these claims, sealed under the key that its issuer and the server share: a COSE_Encrypt0 object
-/// without tags and without a kid. Claims and fields that aren't there, an empty salt, and the algorithm that is meant where none is
-/// named are left out.
+/// without tags and without a kid. Claims and fields that aren't there, an empty salt, and the default algorithm are
+/// left out.
 ///
 /// An IV is used for one token alone under a key.
 ///
@@ -73,13 +73,13 @@ fn seal<A: Aead>(
 {
     match seal0::<A>(alloc, key, iv, &ALGORITHM_HEADER, b"", text) {
         Ok(object) => Ok(object),
-        Err(SealError::Memory) => Err(AllocError),
-        Err(SealError::TooLong) => unreachable!(),
+        Err(SealEncrypt0Error::Memory) => Err(AllocError),
+        Err(SealEncrypt0Error::TooLong) => unreachable!(),
     }
 }
 
 /// The text of claims, which is sealed into their token: the map of them (RFC 8392 section 3). Claims and fields that aren't there,
-/// an empty salt, and the algorithm that is meant where none is named are left out.
+/// an empty salt, and the default algorithm are left out.
 pub fn claims_text(alloc: Global, claims: &Claims) -> Result<Vec<u8>, AllocError>
     ensures { IfOk result (λ text. text.items ≡ spelling (claims_item claims.now)) }
 {

@@ -9,7 +9,7 @@ ghost use Rattle.osc_token.specs.Token.{IsToken, token_name, token_note, without
 
 use osc_cbor::ItemRef;
 use osc_ccm::Aead;
-use osc_cose::{Encrypt0, OpenError, ParseError, enc_structure, object_of, open0};
+use osc_cose::{Encrypt0, OpenEncrypt0Error, ParseEncrypt0Error, enc_structure, object_of, open0};
 use osc_model::{Algorithm, AssociatedData, Bytes, ContextName, Note, SharedName, Side};
 use std::alloc::{AllocError, Global};
 
@@ -58,14 +58,14 @@ fn object_in(alloc: Global, bytes: &[u8]) -> Result<Option<Encrypt0>, AllocError
 }
 
 /// The object, where one was found. An error is lack of memory, which is the answer there alone.
-fn object_found(found: Result<Encrypt0, ParseError>) -> Result<Option<Encrypt0>, AllocError>
+fn object_found(found: Result<Encrypt0, ParseEncrypt0Error>) -> Result<Option<Encrypt0>, AllocError>
     ensures answer { IfOk result (λ object. object ≡ answer_of found) }
-    ensures memory { IsErr result ↔ (found ≡ Err ParseError.Memory) }
+    ensures memory { IsErr result ↔ (found ≡ Err ParseEncrypt0Error.Memory) }
 {
     match found {
         Ok(object) => Ok(Some(object)),
-        Err(ParseError::Shape) => Ok(None),
-        Err(ParseError::Memory) => Err(AllocError),
+        Err(ParseEncrypt0Error::Shape) => Ok(None),
+        Err(ParseEncrypt0Error::Memory) => Err(AllocError),
     }
 }
 
@@ -139,14 +139,18 @@ fn open_text<A: Aead>(
 }
 
 /// The text, where one was opened. An error is lack of memory, which is the answer there alone.
-fn text_opened(opened: Result<Bytes, OpenError>) -> Result<Option<Bytes>, AllocError>
+fn text_opened(opened: Result<Bytes, OpenEncrypt0Error>) -> Result<Option<Bytes>, AllocError>
     ensures answer { IfOk result (λ text. text ≡ answer_of opened) }
-    ensures memory { IsErr result ↔ (opened ≡ Err OpenError.Memory) }
+    ensures memory { IsErr result ↔ (opened ≡ Err OpenEncrypt0Error.Memory) }
 {
     match opened {
         Ok(text) => Ok(Some(text)),
-        Err(OpenError::Algorithm | OpenError::TooLong | OpenError::NotGenuine) => Ok(None),
-        Err(OpenError::Memory) => Err(AllocError),
+        Err(
+            OpenEncrypt0Error::Algorithm
+            | OpenEncrypt0Error::TooLong
+            | OpenEncrypt0Error::NotGenuine,
+        ) => Ok(None),
+        Err(OpenEncrypt0Error::Memory) => Err(AllocError),
     }
 }
 

@@ -102,7 +102,7 @@ impl Tree {
         MOST_RESOURCES <= self.len()
     }
 
-    /// Whether there are so many that none is made at this path, at a server that may have a revocation path: `MOST_RESOURCES`, or
+    /// Whether there are too many for one more at this path, at a server that may have a revocation path: `MOST_RESOURCES`, or
     /// `MOST_ELSEWHERE` where the path isn't that one and none below it.
     pub fn is_full_at(&self, root: Option<&Path>, path: &Path) -> bool
         ensures { result ≡ is_full_at (option_map (λ path. path.now) root.entry) self.now path.now }
@@ -164,7 +164,7 @@ impl Tree {
     }
 }
 
-// From how many resources on none is made at this path.
+// The number of resources from which no more is made at this path.
 fn most_at(root: Option<&Path>, path: &Path) -> usize
     ensures { result ≡ most_at (option_map (λ path. path.now) root.entry) path.now }
 {

@@ -32,7 +32,7 @@ pub record IsOfSeed (gave : List ℕ → Type 0) (generator : ChaCha) : Type 0 w
   pub long : length seed ≡ 32
   pub is : generator ≡ of_seed seed
 
--- the first so many bytes of a generator of a seed that the system gave
+-- the first `n` bytes of a generator of a seed that the system gave
 abbrev pub IsDrawn : (List ℕ → Type 0) → ℕ → List ℕ → Type 0
 IsDrawn gave n bytes = (generator : ChaCha) × IsOfSeed gave generator × (bytes ≡ (fill_bytes n (stream_from generator)).0)
 

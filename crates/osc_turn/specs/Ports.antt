@@ -10,7 +10,7 @@ use Rattle.osc_turn.specs.declared.port.PortFault.{PortFault}
 abbrev pub Received : Type 0
 Received = Peer × List ℕ
 
--- what a receive gives: a sender and so many bytes of the buffer, or nothing
+-- what a receive gives: a sender and the bytes of the buffer that it sent, or nothing
 abbrev pub received_in : List ℕ → Option (Peer × ℕ) → Option Received
 received_in buffer got = option_map (λ datagram. (datagram.0, take datagram.1 buffer)) got
 

@@ -91,7 +91,7 @@ near_when_fresh g bits n kept fresh = by (cases_lt 0 g)
         to_numbers g bits g (omega arith) (omega (arith, width_some)) (ap (bit_at bits) (no_difference g) ∙ kept some) in
         let near : g < n + width = (all_at (λ m. (m ≢ n) × (m < n + width)) (numbers_of g bits) g fresh here).1 in
         omega (arith, near, width_some)
-    by (inr nought) = omega (arith, nought, width_some)
+    by (inr zeros) = omega (arith, zeros, width_some)
 
 pub clear_when_fresh : (g bits n : ℕ) → n ≤ g → g - n < width → IsFresh (numbers_of g bits) n → bit_at bits (g - n) ≡ 0
 clear_when_fresh g bits n below spans fresh = by (cases_lt 0 (bit_at bits (g - n)))

@@ -32,7 +32,7 @@ fn moved_up(bits: u64, places: u64) -> u64
 pub struct Window {
     /// The greatest accepted number; 0 before any is accepted.
     greatest: u64,
-    /// Bit i is set where the number i below the greatest was accepted; none is set before any is accepted.
+    /// Bit i is set where the number i below the greatest was accepted; no bit is set before any number is accepted.
     bits: u64,
 }
 

@@ -38,7 +38,7 @@ abbrev pub AreRequest : List Row → List ℕ → Request → Type 0
 AreRequest rows payload request = ((option : ClientOption) → SaysRequest rows option request) × IsPlain request × (request.payload ≡ payload)
 
 -- What three options say of the payload, of which at most one is given: it is given in hexadecimal or as a text, or it is in a file of this
--- name; where none is given it is empty. What is in a file isn't known yet.
+-- name; where none of them is given it is empty. What is in a file isn't known yet.
 abbrev pub IsPayload : Option (List ℕ) → Option (List ℕ) → Option (List ℕ) → List ℕ → Option (List ℕ) → Type 0
 IsPayload None None (Some name) payload file = (payload ≡ []) × (file ≡ Some name)
 IsPayload None (Some text) None payload file = (payload ≡ text) × (file ≡ None)

@@ -133,7 +133,7 @@ HaveFault words (NotOne choice) = (fault_of program words ≡ []) × HasNotOne (
 HaveFault words (Unread option) = ⊥
 HaveFault words Memory = Unit {0}
 
--- what clap's error comes to
+-- what clap's error becomes
 abbrev pub told_as : ErrorKind → Error → WordsError
 told_as kind.OutOfMemory error = Memory
 told_as other error = Clap error

@@ -13,7 +13,7 @@ seconds_in letter =
     else if letter == 100 then Some 86400
     else None
 
--- a number in decimal digits, and the letter of its unit after it: so many seconds, of 64 bits
+-- a number in decimal digits, and the letter of its unit after it: that number of seconds, of 64 bits
 pub record SpellsTime (text : List ℕ) (seconds : ℕ) : Type 0 where
   pub digits : List ℕ
   pub letter : ℕ
@@ -37,13 +37,13 @@ abbrev pub second_of : ℕ → Expiry → ℕ
 second_of now (At second) = second
 second_of now (After seconds) = min (now + seconds) (2 ^ 64 - 1)
 
--- a number of seconds, at 50 turns each: so many turns, or as many as a number of 64 bits counts
+-- a number of seconds, at 50 turns each: that number of turns, or as many as a number of 64 bits counts
 pub record SpellsTimeout (text : List ℕ) (turns : ℕ) : Type 0 where
   pub seconds : ℕ
   pub number : SpellsNumber text seconds
   pub value : turns ≡ min (seconds * 50) (2 ^ 64 - 1)
 
--- how long a client waits: so many turns, or so many seconds
+-- how long a client waits: a number of turns, or a number of seconds
 abbrev pub IsPatience : Option (List ℕ) → Option (List ℕ) → ℕ → Type 0
 IsPatience (Some text) None turns = SpellsNumber text turns
 IsPatience None (Some text) turns = SpellsTimeout text turns

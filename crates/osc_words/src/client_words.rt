@@ -71,7 +71,7 @@ fn request(alloc: Global, options: &ArgMatches<'_>, payload: Bytes) -> Result<Re
 
 // ---- one of several options
 
-// The most turns: so many, or 50 for each second.
+// The most turns: a number of turns, or 50 for each second.
 fn patience(options: &ArgMatches<'_>) -> Result<u64, WordsError>
     ensures { MatchResult result (spec.SaysPatience (rows_of (found_of options.now))) (IsClientRefusal (rows_of (found_of options.now))) }
 {

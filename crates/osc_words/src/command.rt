@@ -39,7 +39,7 @@ const RAW_HELP: &str = "Prints the bytes of the answer's payload, and nothing el
 ///
 /// # Errors
 ///
-/// `Clap` for a fault of the words and for a wish for help or the version, then `Value` for an option whose value is none
+/// `Clap` for a fault of the words and for a wish for help or the version, then `Value` for an option whose value isn't one
 /// that it may have, or `NotOne` for a value whose options aren't given as they have to be; `Memory` for lack of memory.
 pub fn read_words(alloc: Global, words: &[&str]) -> Result<Words, WordsError>
     // What is read is what the words stand for ..

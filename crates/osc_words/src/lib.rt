@@ -1,4 +1,4 @@
-//! The words of the command line: what each subcommand asks for, and why a command line can't be heeded.
+//! The words of the command line: what each subcommand asks for, and why a command line can't be accepted.
 #![tactic(auto)]
 
 mod choice;

@@ -73,7 +73,7 @@ impl NamedOption {
         }
     }
 
-    /// The line that says that its value is none.
+    /// The line that says that its value isn't one that it may have.
     pub(crate) fn refusal(self, alloc: Global) -> Result<String, AllocError>
         ensures { IfOk result (λ line. string_bytes line ≡ spec.refusal_text self) }
     {

@@ -5,7 +5,7 @@ ghost use Rattle.osc_words.specs.Times as spec;
 
 use osc_script::values;
 
-/// So many seconds: decimal digits and the letter of a unit, `s`, `m`, `h` or `d`.
+/// A number of seconds: decimal digits and the letter of a unit, `s`, `m`, `h` or `d`.
 pub(crate) fn time(text: &str) -> Option<u64>
     ensures { Reads (spec.SpellsTime text.now) result }
 {
@@ -14,7 +14,7 @@ pub(crate) fn time(text: &str) -> Option<u64>
     values::decimal(digits)?.checked_mul(unit)
 }
 
-/// So many turns: a number of seconds, at 50 turns each.
+/// A number of turns: a number of seconds, at 50 turns each.
 pub(crate) fn timeout(text: &str) -> Option<u64>
     ensures { Reads (spec.SpellsTimeout text.now) result }
 {

@@ -44,7 +44,7 @@ pub struct TokenAsked {
 pub enum Expiry {
     /// From this second on, counted from 1970.
     At(u64),
-    /// So many seconds after it is issued.
+    /// This number of seconds after it is issued.
     After(u64),
 }
 
@@ -194,7 +194,7 @@ fn name_of_file(
 
 // ---- one option
 
-// So many bytes, which have to be given.
+// `N` bytes, which have to be given.
 fn required_array<const N: usize>(
     options: &ArgMatches<'_>,
     option: TokenOption,
@@ -210,7 +210,7 @@ fn required_array<const N: usize>(
     Ok(bytes)
 }
 
-// So many bytes, where they are given.
+// `N` bytes, where they are given.
 fn array<const N: usize>(
     options: &ArgMatches<'_>,
     option: TokenOption,

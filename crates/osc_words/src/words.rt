@@ -1,4 +1,4 @@
-//! What a command line asks for, or why it can't be heeded.
+//! What a command line asks for, or why it can't be accepted.
 ghost use Rattle.std.specs.Prelude.{◌≡◌, IfOk, string_bytes};
 ghost use Rattle.clap.specs.Words.{kind_of};
 ghost use Rattle.osc_words.specs.Command as spec;
@@ -31,16 +31,16 @@ pub enum Words {
     Proxy(NodeWords),
     /// `osc client`: post a token and send a request.
     Client(ClientWords),
-    /// `osc lab --turns N`: run a script over sockets, with at most so many turns after each exchange and request.
+    /// `osc lab --turns N`: run a script over sockets, with at most `N` turns after each exchange and request.
     Lab { turns: u64 },
 }
 
-/// Why a command line can't be heeded.
+/// Why a command line can't be accepted.
 #[derive(Debug, Drop)]
 pub enum WordsError {
     /// The words are at fault, or wish for help or the version.
     Clap(clap::Error),
-    /// The value of this option is none that it may have.
+    /// The value of this option isn't one that it may have.
     Value(NamedOption),
     /// Not exactly one of two options of a value is given, or more than one where none has to be.
     NotOne(Choice),
@@ -69,7 +69,7 @@ impl From<AllocError> for WordsError {
     }
 }
 
-/// The line that tells why a command line can't be heeded.
+/// The line that tells why a command line can't be accepted.
 pub fn fault_line(alloc: Global, error: &WordsError) -> Result<String, AllocError>
     ensures { IfOk result (λ line. spec.IsFaultLine error.now (string_bytes line)) }
 {

@@ -16,7 +16,7 @@ use Rattle.osc_run.specs.{Noted}
 use Rattle.osc_proxy.specs.State.{State as Proxy}
 use Rattle.osc_world.specs.{Deed, Nothing, OfServer, OfClient, OfProxy, NodeStates, StandApart, is_among, node_at, number_at, places, skipped, skipped_at, NodeTakes, Takes, a_node, no_node}
 use Rattle.osc_world.specs.declared.nodes.Placed.{Placed}
-use Rattle.osc_world.specs.declared.nodes.Taken.{Taken}
+use Rattle.osc_world.specs.declared.nodes.StepTaken.{StepTaken}
 use Rattle.osc_world.specs.declared.nodes.Whose.TheVariants as whose
 
 abbrev of_client : Placed Client → Peer
@@ -43,13 +43,13 @@ with_proxies nodes proxies same apart =
     subst (λ (all : List Peer). IsDistinct same_peer (nodes.server_at ∷ (map of_client nodes.clients ++ all))) (sym same) apart
 
 -- a step moves no node
-none_moves : {S : Type 0} (does : S → Step → S → Type 0) (noted : StepNotes → Noted) (old : List (Placed S)) (number : ℕ) (taken : Option Taken) (new : List (Placed S))
+none_moves : {S : Type 0} (does : S → Step → S → Type 0) (noted : StepNotes → Noted) (old : List (Placed S)) (number : ℕ) (taken : Option StepTaken) (new : List (Placed S))
     → NodeTakes does noted old number taken new → map (λ (placed : Placed S). placed.at) new ≡ map (λ (placed : Placed S). placed.at) old
 none_moves does noted old number taken new (no_node none nothing same) = ap (map (λ placed. placed.at)) same
 none_moves does noted old number taken new (a_node placed step node there it taken_is is) =
     ap (map (λ placed. placed.at)) is ∙ same_places (λ placed. placed.at) old number placed (record placed { node = node }) there refl
 
-pub apart_after : (is_sealing : Sealings) (tag : Tags) (old new : NodeStates) (deed : Deed) (taken : Option Taken)
+pub apart_after : (is_sealing : Sealings) (tag : Tags) (old new : NodeStates) (deed : Deed) (taken : Option StepTaken)
     → Takes is_sealing tag old deed taken new → StandApart old → StandApart new
 apart_after is_sealing tag old new Nothing taken takes apart = subst StandApart (sym takes.is) apart
 apart_after is_sealing tag old new (OfServer task) taken takes apart = subst StandApart (sym takes.is) apart

@@ -16,7 +16,7 @@ use Rattle.osc_client.specs.State.{State as Client}
 use Rattle.osc_world.specs.{AreLawfulClients, sent_by, sent_from, steps_with, Ask, Deed, NodeStates, OfClient, deed_of, queue, Deliveries, AskedRequest, asking, ClientDoes, Takes, State}
 use Rattle.osc_world.specs.declared.log.SentDatagram.{SentDatagram}
 use Rattle.osc_world.specs.declared.nodes.Placed.{Placed}
-use Rattle.osc_world.specs.declared.nodes.Taken.{Taken}
+use Rattle.osc_world.specs.declared.nodes.StepTaken.{StepTaken}
 use Rattle.osc_world.proofs.Deliveries.{at_rest, sent_behind}
 use Rattle.osc_world.proofs.Slots.{got_back}
 use Rattle.osc_world.proofs.Taking.{ItTakes, it_takes}
@@ -43,7 +43,7 @@ module _ (is_sealing : Sealings) (tag : Tags) where
     takes = it_takes (ClientDoes is_sealing tag (Ask it.what)) (by_client it.client false) it.before.nodes.clients it.client it.happens.taken took.0 it.placed it.ready.here took.1
 
     steps_are : asked.steps ≡ by_client it.client false takes.step.notes ∷ it.before.steps
-    steps_are = ap (λ (w : State). w.steps) it.happens.is ∙ ap (λ (t : Option Taken). steps_with t it.before.steps) takes.taken_is
+    steps_are = ap (λ (w : State). w.steps) it.happens.is ∙ ap (λ (t : Option StepTaken). steps_with t it.before.steps) takes.taken_is
 
     pub is_asked : IsAsked
     is_asked = record {
@@ -54,7 +54,7 @@ module _ (is_sealing : Sealings) (tag : Tags) where
       nodes = ap (λ (w : State). w.nodes) it.happens.is ∙ took.2 ∙ ap (λ (clients : List (Placed Client)). record it.before.nodes { clients = clients }) takes.is;
       waits = sent_behind is_sealing tag it.before asked (asking it.client it.what) it.happens refl
           ∙ ap (λ (all : List SentDatagram). all ++ sent_by it.happens.taken) (at_rest it.before it.ready.still)
-          ∙ ap (λ (t : Option Taken). sent_by t) takes.taken_is;
+          ∙ ap (λ (t : Option StepTaken). sent_by t) takes.taken_is;
       fits = it.fits (by_client it.client false takes.step.notes) steps_are;
     }
 

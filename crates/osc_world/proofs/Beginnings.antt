@@ -25,7 +25,7 @@ use Rattle.osc_proxy.specs.State.{State as Proxy}
 use Rattle.osc_world.specs.declared.nodes.Placed.{Placed}
 use Rattle.osc_world.specs.{ClientRound, IsReady, FitAToken, Beginning, Enrols, begun, new_proxy}
 use Rattle.osc_world.specs.Ready as ready_as
-use Rattle.osc_world.specs.declared.start.Holder.{Holder}
+use Rattle.osc_world.specs.declared.start.NewHolder.{NewHolder}
 
 fit : (claims : Claims) → HasLawfulParts claims → FitTheirTypes claims
 fit claims lawful = record {
@@ -51,7 +51,7 @@ room_at_first (Some id) token full = omega (arith, full.many, at_most_one (bytes
 module _ (is_sealing : Sealings) (tag : ℕ)
     (sealed_length : IsLongerBy tag (is_sealing EightByteTag))
     (short_tag : tag ≤ most_tag)
-    (before after start : Beginning) (holder : Holder) (enrols : Enrols is_sealing before holder after)
+    (before after start : Beginning) (holder : NewHolder) (enrols : Enrols is_sealing before holder after)
     (key : start.key ≡ before.key) (lawful : HasLawfulParts holder.claims) (fits : FitAToken holder.claims)
     (iv_size : length holder.iv ≡ 13) (token_size : length enrols.placed.node.desk.token < 2 ^ 64) where
   pub holds : HoldsToken (is_sealing EightByteTag) start.key holder.claims enrols.enrolled.entries enrols.placed.node.desk
@@ -98,7 +98,7 @@ module _ (is_sealing : Sealings) (tag : ℕ)
     may_exchange = record { idle = enrols.enrolled.client.waiting; welcome = welcome; makes = record { lasting = lasting; unknown = refl } }
 
 module _ (is_sealing : Sealings)
-    (before after start : Beginning) (holder : Holder) (round : ClientRound) (enrols : Enrols is_sealing before holder after) where
+    (before after start : Beginning) (holder : NewHolder) (round : ClientRound) (enrols : Enrols is_sealing before holder after) where
   pub ready_straight : slice_get start.clients (length before.clients) ≡ Some enrols.placed
       → holder.way.origin ≡ None → holder.way.next_hop ≡ start.server_at
       → IsReady (begun start) (length before.clients) enrols.placed round 2

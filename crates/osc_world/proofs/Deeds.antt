@@ -1,4 +1,4 @@
--- What an event comes to, by what it is.
+-- What an event leads to, by what it is.
 use Rattle.std.proofs.Common.{◌≡◌, ◌∙◌, ◌≤◌, ◌<◌, sym, ap, refl, ℕ, true, false, List, Some, None, arith}
 use Rattle.std.specs.Prelude.{slice_get, ◌==◌, nat_le}
 use Rattle.std.proofs.lemmas.Bool.{le-leb, ne_eqb}

@@ -18,7 +18,7 @@ use Rattle.osc_world.specs.{delivered, sent_by, sent_from, settled, settled_at, 
 use Rattle.osc_world.specs.declared.event.Event.{Event}
 use Rattle.osc_world.specs.declared.log.SentDatagram.{SentDatagram}
 use Rattle.osc_world.specs.declared.nodes.Placed.{Placed}
-use Rattle.osc_world.specs.declared.nodes.Taken.{Taken}
+use Rattle.osc_world.specs.declared.nodes.StepTaken.{StepTaken}
 use Rattle.osc_world.specs.declared.nodes.Whose.{Whose}
 use Rattle.osc_world.specs.declared.nodes.Whose.TheVariants as whose
 use Rattle.osc_world.proofs.Apart.{apart_after, proxy_stands_there, server_stands_there, stands_there}
@@ -44,20 +44,20 @@ module _ (is_sealing : Sealings) (tag : Tags) (one : Delivery) (old next : State
   nodes_after : next.nodes ≡ happens.nodes
   nodes_after = ap (λ (w : State). w.nodes) happens.is
 
-  queue_after : (taken : Taken) → happens.taken ≡ Some taken → queue next ≡ one.later ++ map (sent_from taken.at) taken.out
+  queue_after : (taken : StepTaken) → happens.taken ≡ Some taken → queue next ≡ one.later ++ map (sent_from taken.at) taken.out
   queue_after taken is =
       ap queue happens.is
       ∙ filter-append waits (settled it.number old.sent) (sent_by happens.taken)
       ∙ ap (λ (o : Option SentDatagram). filter waits (settled_at it.number o old.sent) ++ filter waits (sent_by happens.taken)) it.here
       ∙ ap (λ (all : List SentDatagram). all ++ filter waits (sent_by happens.taken)) it.left
-      ∙ ap (λ (t : Option Taken). one.later ++ filter waits (sent_by t)) is
+      ∙ ap (λ (t : Option StepTaken). one.later ++ filter waits (sent_by t)) is
       ∙ ap (λ (all : List SentDatagram). one.later ++ all) (all_wait taken.at taken.out)
 
   kept : (at : Peer) (noted : StepNotes → Noted) (step : Step) → happens.taken ≡ Some (record { at = at; noted = noted step.notes; out = step.out })
       → IsKeptOf one at noted old step next
   kept at noted step is = record {
     waits = queue_after _ is;
-    steps = ap (λ (w : State). w.steps) happens.is ∙ ap (λ (t : Option Taken). steps_with t old.steps) is;
+    steps = ap (λ (w : State). w.steps) happens.is ∙ ap (λ (t : Option StepTaken). steps_with t old.steps) is;
     records = ap (λ (w : State). length w.records) happens.is ∙ length-append old.records _;
     apart = subst StandApart (sym nodes_after) (apart_after is_sealing tag old.nodes happens.nodes (deed_of old.nodes old.sent its_event) happens.taken happens.takes apart);
   }
@@ -163,7 +163,7 @@ module _ (is_sealing : Sealings) (tag : Tags) (deliveries : Deliveries) where
 
 -- ---- what an event sends that delivers nothing waits after the others
 
-sent_wait : (taken : Option Taken) → filter waits (sent_by taken) ≡ sent_by taken
+sent_wait : (taken : Option StepTaken) → filter waits (sent_by taken) ≡ sent_by taken
 sent_wait None = refl
 sent_wait (Some taken) = all_wait taken.at taken.out
 

@@ -14,7 +14,7 @@ use Rattle.osc_proxy.specs.State.{State as Proxy}
 use Rattle.osc_authz.specs.declared.rules.ContextRules.{ContextRules}
 use Rattle.osc_world.specs.{NodeStates, AreEnrolled, Beginning, Enrols, IsEnrolled, run_with}
 use Rattle.osc_world.specs.declared.nodes.Placed.{Placed}
-use Rattle.osc_world.specs.declared.start.Holder.{Holder}
+use Rattle.osc_world.specs.declared.start.NewHolder.{NewHolder}
 
 -- ---- one more at the end of a list
 
@@ -48,7 +48,7 @@ holds_more : (minted : List Minted) (one : Minted) (number : ℕ) (secret : List
 holds_more minted one number secret h =
     record { held = h.held; granted = in_front h.held minted (one ∷ []) h.granted; holder = h.holder; secret = h.secret }
 
-pub enrolled_more : (is_sealing : Sealings) (key : List ℕ) (holder : Holder) (minted : List Minted) (clients : List (Placed Client)) (one : Minted) (placed : Placed Client)
+pub enrolled_more : (is_sealing : Sealings) (key : List ℕ) (holder : NewHolder) (minted : List Minted) (clients : List (Placed Client)) (one : Minted) (placed : Placed Client)
     → AreEnrolled minted clients → IsEnrolled is_sealing key (length clients) holder one placed → IsTextOf one.grant one.text
     → AreEnrolled (minted ++ one ∷ []) (clients ++ placed ∷ [])
 enrolled_more is_sealing key holder minted clients one placed old is text = record { texts = texts; holders = holders }
@@ -83,7 +83,7 @@ enrolled_more is_sealing key holder minted clients one placed old is text = reco
         (at_end clients placed p number there)
 
 pub enrols : (is_sealing : Sealings) (self : Beginning) (first : Tree) (open_scope : Scope) (key : List ℕ) (old_key : Option (List ℕ)) (audience : List ℕ) (rules : ContextRules) (server_at : Peer)
-    (minted minted' : List Minted) (clients clients' : List (Placed Client)) (proxies : List (Placed Proxy)) (holder : Holder) (one : Minted) (placed : Placed Client)
+    (minted minted' : List Minted) (clients clients' : List (Placed Client)) (proxies : List (Placed Proxy)) (holder : NewHolder) (one : Minted) (placed : Placed Client)
     → record { first = first; open_scope = open_scope; key = key; old_key = old_key; audience = audience; rules = rules; server_at = server_at; minted = minted; clients = clients; proxies = proxies } ≡ self
     → IsEnrolled is_sealing key (length clients) holder one placed
     → minted' ≡ minted ++ one ∷ [] → clients' ≡ clients ++ placed ∷ []

@@ -16,7 +16,7 @@ use Rattle.osc_world.specs.declared.event.Event.{Event}
 use Rattle.osc_world.specs.declared.log.Record.{Record}
 use Rattle.osc_world.specs.declared.log.SentDatagram.{SentDatagram}
 use Rattle.osc_world.specs.declared.nodes.Placed.{Placed}
-use Rattle.osc_world.specs.declared.nodes.Taken.{Taken}
+use Rattle.osc_world.specs.declared.nodes.StepTaken.{StepTaken}
 
 pub leads : (v w : WorldState) → WorldStep v w → IsReached v → IsReached w
 leads v w step reached = (v ∷ reached.0, (step, reached.1))
@@ -24,7 +24,7 @@ leads v w step reached = (v ∷ reached.0, (step, reached.1))
 abbrev core_of : Placed Client → ClientState
 core_of placed = core_of_client placed.node
 
-pub goes_on : (minted : List Minted) (first : Tree) (old new : NodeStates) (steps : List Noted) (now : Moment) (taken : Option Taken)
+pub goes_on : (minted : List Minted) (first : Tree) (old new : NodeStates) (steps : List Noted) (now : Moment) (taken : Option StepTaken)
     → IsStep now old taken new → IsReached (run_with minted first old steps) → IsReached (run_with minted first new (steps_with taken steps))
 goes_on minted first old new steps now taken (OfNobody none same) reached =
     subst (λ t. IsReached (run_with minted first new (steps_with t steps))) (sym none)
@@ -51,7 +51,7 @@ goes_on minted first old new steps now taken (OfProxy number before after step t
     (run_with minted first (record old { proxies = slice_set old.proxies number after }) (by_proxy number step.notes ∷ steps))
     (ByTheProxy number step.notes kind refl) reached))
 
-pub reached_after : (minted : List Minted) (first : Tree) (old new : NodeStates) (steps same later : List Noted) (now : Moment) (taken : Option Taken)
+pub reached_after : (minted : List Minted) (first : Tree) (old new : NodeStates) (steps same later : List Noted) (now : Moment) (taken : Option StepTaken)
     → IsStep now old taken new → same ≡ steps → later ≡ steps_with taken same
     → IsReached (run_with minted first old steps) → IsReached (run_with minted first new later)
 reached_after minted first old new steps same later now taken step is more reached =
@@ -68,7 +68,7 @@ skips_on minted first old new steps number (Skips before after there kind is) re
     reached)
 
 pub happened : (is_sealing : Sealings) (tag : Tags) (self : State) (minted : List Minted) (first : Tree) (old new : NodeStates)
-    (log same later : LogState) (event : Event) (taken : Option Taken)
+    (log same later : LogState) (event : Event) (taken : Option StepTaken)
     → world_of minted first old log ≡ self
     → same.sent ≡ log.sent → same.steps ≡ log.steps → same.records ≡ log.records
     → Takes is_sealing tag old (deed_of old same.sent event) taken new
@@ -90,7 +90,7 @@ happened is_sealing tag self minted first old new log same later event taken is 
       };
     })
   where
-    recorded_same : (sent sent' : List SentDatagram) (steps steps' : List Noted) (records records' : List Record) (taken : Option Taken)
+    recorded_same : (sent sent' : List SentDatagram) (steps steps' : List Noted) (records records' : List Record) (taken : Option StepTaken)
         → sent ≡ sent' → steps ≡ steps' → records ≡ records'
         → records ++ recorded sent steps taken ∷ [] ≡ records' ++ recorded sent' steps' taken ∷ []
     recorded_same sent sent' steps steps' records records' taken s t r = λ j. r j ++ recorded (s j) (t j) taken ∷ []

@@ -14,7 +14,7 @@ use Rattle.osc_client.specs.State.{State as Client}
 use Rattle.osc_world.specs.{sent_by, sent_from, steps_with, Begin, OfClient, queue, Deliveries, BegunExchange, beginning, ClientDoes, Takes, State}
 use Rattle.osc_world.specs.declared.log.SentDatagram.{SentDatagram}
 use Rattle.osc_world.specs.declared.nodes.Placed.{Placed}
-use Rattle.osc_world.specs.declared.nodes.Taken.{Taken}
+use Rattle.osc_world.specs.declared.nodes.StepTaken.{StepTaken}
 use Rattle.osc_world.proofs.Deliveries.{at_rest, sent_behind}
 use Rattle.osc_world.proofs.Taking.{ItTakes, it_takes}
 
@@ -36,7 +36,7 @@ module _ (is_sealing : Sealings) (tag : Tags) (deliveries : Deliveries) (count :
   takes = it_takes (ClientDoes is_sealing tag (Begin it.at it.draw)) (by_client it.client false) it.before.nodes.clients it.client it.happens.taken took.0 it.placed it.ready.here took.1
 
   steps_are : begun.steps ≡ by_client it.client false takes.step.notes ∷ it.before.steps
-  steps_are = ap (λ (w : State). w.steps) it.happens.is ∙ ap (λ (t : Option Taken). steps_with t it.before.steps) takes.taken_is
+  steps_are = ap (λ (w : State). w.steps) it.happens.is ∙ ap (λ (t : Option StepTaken). steps_with t it.before.steps) takes.taken_is
 
   pub is_posted : IsPosted
   is_posted = record {
@@ -47,7 +47,7 @@ module _ (is_sealing : Sealings) (tag : Tags) (deliveries : Deliveries) (count :
     nodes = ap (λ (w : State). w.nodes) it.happens.is ∙ took.2 ∙ ap (λ (clients : List (Placed Client)). record it.before.nodes { clients = clients }) takes.is;
     waits = sent_behind is_sealing tag it.before begun (beginning it.at it.draw it.client) it.happens refl
         ∙ ap (λ (all : List SentDatagram). all ++ sent_by it.happens.taken) (at_rest it.before it.ready.still)
-        ∙ ap (λ (t : Option Taken). sent_by t) takes.taken_is;
+        ∙ ap (λ (t : Option StepTaken). sent_by t) takes.taken_is;
     fits = it.fits (by_client it.client false takes.step.notes) steps_are;
   }
 

@@ -26,7 +26,7 @@ use Rattle.osc_world.specs.declared.event.Event.{Event}
 use Rattle.osc_world.specs.declared.jobs.Job.{Job}
 use Rattle.osc_world.specs.declared.jobs.Job.TheVariants.{Hear, Tick, StartAgain}
 use Rattle.osc_world.specs.declared.nodes.Placed.{Placed}
-use Rattle.osc_world.specs.declared.nodes.Taken.{Taken}
+use Rattle.osc_world.specs.declared.nodes.StepTaken.{StepTaken}
 
 -- ---- what any node does is one step of a run
 
@@ -58,7 +58,7 @@ nodes_of at server clients proxies = record { server_at = at; server = server; c
 -- the server's step
 module _ (self : NodeStates) (at : Peer) (old new : Server) (clients : List (Placed Client)) (proxies : List (Placed Proxy)) (noted : Noted) (step : Step)
     (is : nodes_of at old clients proxies ≡ self) (told : noted ≡ by_server step.notes) where
-  abbrev server_taken : Option Taken
+  abbrev server_taken : Option StepTaken
   server_taken = Some (record { at = at; noted = noted; out = step.out })
 
   taken_by_server : server_taken ≡ Some (record { at = at; noted = by_server step.notes; out = step.out })
@@ -96,7 +96,7 @@ module _ (self : NodeStates) (at : Peer) (server : Server) (clients : List (Plac
   with_client client = nodes_of at server (with_node clients number placed there client) proxies
 
   module _ (client : Client) (noted : Noted) (step : Step) (lied : Bool) (told : noted ≡ by_client number lied step.notes) where
-    abbrev client_taken : Option Taken
+    abbrev client_taken : Option StepTaken
     client_taken = Some (record { at = placed.at; noted = noted; out = step.out })
 
     pub client_took : (does : Client → Step → Client → Type 0) → does placed.node step client
@@ -129,7 +129,7 @@ module _ (self : NodeStates) (at : Peer) (server : Server) (clients : List (Plac
   with_proxy proxy = nodes_of at server clients (with_node proxies number placed there proxy)
 
   module _ (proxy : Proxy) (noted : Noted) (step : Step) (told : noted ≡ by_proxy number step.notes) where
-    abbrev proxy_taken : Option Taken
+    abbrev proxy_taken : Option StepTaken
     proxy_taken = Some (record { at = placed.at; noted = noted; out = step.out })
 
     pub proxy_took : (does : Proxy → Step → Proxy → Type 0) → does placed.node step proxy
@@ -161,7 +161,7 @@ no_proxy_takes self does noted number none = (self.proxies, no_node none refl re
 
 -- ---- the node that is there
 
-module _ {S : Type 0} (does : S → Step → S → Type 0) (noted : StepNotes → Noted) (old : List (Placed S)) (number : ℕ) (taken : Option Taken) (new : List (Placed S)) where
+module _ {S : Type 0} (does : S → Step → S → Type 0) (noted : StepNotes → Noted) (old : List (Placed S)) (number : ℕ) (taken : Option StepTaken) (new : List (Placed S)) where
   -- it takes a step
   pub record ItTakes (placed : Placed S) : Type 0 where
     pub step : Step

@@ -15,8 +15,8 @@ use Rattle.osc_ccm.specs.{Sealings, Tags}
 use Rattle.osc_client.specs.{case_of, is_ended, Hears, Asked, Asks, Exchanges, asks, begins, busy, hindered, Answers, AnswersNew, Settles}
 use Rattle.osc_client.specs.Sending as sending
 use Rattle.osc_client.specs.State.{State as Client}
-use Rattle.osc_client.specs.declared.case.Case.{Case}
-use Rattle.osc_client.specs.declared.case.Case.TheVariants.{Refused, Unused, Counted}
+use Rattle.osc_client.specs.declared.case.ResponseCase.{ResponseCase}
+use Rattle.osc_client.specs.declared.case.ResponseCase.TheVariants.{Refused, Unused, Counted}
 
 abbrev pub SameWay : Client → Client → Type 0
 SameWay old new = (new.next_hop ≡ old.next_hop) × (new.origin ≡ old.origin)
@@ -35,7 +35,7 @@ settled_id false old endpoint step new it = ap (λ (c : Client). c.endpoint.next
 settled_id true old endpoint step new it = ap (λ (c : Client). c.endpoint.next_id) it.1
 
 module _ (is_sealing : Sealings) where
-  new_id : (case : Case) (old : Client) (came : Arrival Message) (step : Step) (new : Client)
+  new_id : (case : ResponseCase) (old : Client) (came : Arrival Message) (step : Step) (new : Client)
       → AnswersNew is_sealing old came case step new → new.endpoint.next_id ≡ old.endpoint.next_id
   new_id Refused old came step new it = ap (λ (c : Client). c.endpoint.next_id) it.1
   new_id Unused old came step new it = ap (λ (c : Client). c.endpoint.next_id) it.1
@@ -54,7 +54,7 @@ module _ (is_sealing : Sealings) where
       → Hears is_sealing old came step new → new.endpoint.next_id ≡ old.endpoint.next_id
   hears_id old came step new hears = answers_id (heard old.endpoint.seen came.at came.from hears.received) old came step new hears.answers
 
-  new_same : (case : Case) (old : Client) (came : Arrival Message) (step : Step) (new : Client) → AnswersNew is_sealing old came case step new → SameWay old new
+  new_same : (case : ResponseCase) (old : Client) (came : Arrival Message) (step : Step) (new : Client) → AnswersNew is_sealing old came case step new → SameWay old new
   new_same Refused old came step new it = same_way old new _ it.1 (refl, refl)
   new_same Unused old came step new it = same_way old new _ it.1 (refl, refl)
   new_same Counted old came step new it = same_way old new _ it.kept (refl, refl)

@@ -8,7 +8,7 @@ use Rattle.osc_world.specs.declared.event.What.{What}
 use Rattle.osc_world.specs.declared.event.What.TheVariants.{Deliver}
 use Rattle.osc_world.specs.declared.log.Record.{Record}
 use Rattle.osc_world.specs.declared.log.SentDatagram.{SentDatagram}
-use Rattle.osc_world.specs.declared.nodes.Taken.{Taken}
+use Rattle.osc_world.specs.declared.nodes.StepTaken.{StepTaken}
 
 -- each datagram ever sent; what the steps noted, the newest first; the outcome of each event; and the room that was taken for more
 pub record LogState : Type 0 where
@@ -19,7 +19,7 @@ pub record LogState : Type 0 where
   pub room_for_steps : ℕ
   pub room_for_records : ℕ
 
--- there is room for one event more, whose step sends so many datagrams
+-- there is room for one event more, whose step sends this number of datagrams
 pub record HasRoom (log : LogState) (datagrams : ℕ) : Type 0 where
   pub sent : datagrams ≤ log.room_for_sent
   pub step : 1 ≤ log.room_for_steps
@@ -54,24 +54,24 @@ abbrev pub sent_from : Peer → Datagram → SentDatagram
 sent_from at datagram = record { from = at; to = datagram.to; bytes = datagram.bytes; waits = true }
 
 -- what the step sent, if one was taken
-abbrev pub sent_by : Option Taken → List SentDatagram
+abbrev pub sent_by : Option StepTaken → List SentDatagram
 sent_by None = []
 sent_by (Some taken) = map (sent_from taken.at) taken.out
 
-abbrev pub steps_with : Option Taken → List Noted → List Noted
+abbrev pub steps_with : Option StepTaken → List Noted → List Noted
 steps_with None steps = steps
 steps_with (Some taken) steps = taken.noted ∷ steps
 
 -- the number of the step
-abbrev pub number_of : Option Taken → List Noted → Option ℕ
+abbrev pub number_of : Option StepTaken → List Noted → Option ℕ
 number_of None steps = None
 number_of (Some taken) steps = Some (length steps)
 
-abbrev pub recorded : List SentDatagram → List Noted → Option Taken → Record
+abbrev pub recorded : List SentDatagram → List Noted → Option StepTaken → Record
 recorded sent steps taken = record { step = number_of taken steps; first = length sent; end = length (sent ++ sent_by taken) }
 
 -- what is kept then
-pub record IsKept (old : LogState) (what : What) (taken : Option Taken) (new : LogState) : Type 0 where
+pub record IsKept (old : LogState) (what : What) (taken : Option StepTaken) (new : LogState) : Type 0 where
   pub sent : new.sent ≡ delivered what old.sent ++ sent_by taken
   pub steps : new.steps ≡ steps_with taken old.steps
   pub records : new.records ≡ old.records ++ recorded old.sent old.steps taken ∷ []

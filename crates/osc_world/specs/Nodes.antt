@@ -1,4 +1,4 @@
--- The nodes of a world, and what an event comes to.
+-- The nodes of a world, and what an event leads to.
 use Rattle.std.specs.Prelude.{ℕ, ◌==◌, nat_le, if◌then◌else◌, Bool, List, ◌∷◌, ◌++◌, map, Option, Some, None, position, slice_get, slice_set}
 use Rattle.std.specs.List.{IsDistinct, list_any}
 use Rattle.osc_model.specs.declared.node.Draw.{Draw}
@@ -65,7 +65,7 @@ node_of actor.Server = whose.Server
 node_of (actor.Client number) = whose.Client number
 node_of (actor.Proxy number) = whose.Proxy number
 
--- ---- what an event comes to
+-- ---- what an event leads to
 
 -- what any node may do: take a step for what came or what is due, or start again
 pub data Task : Type 0 where
@@ -103,7 +103,7 @@ abbrev pub delivering : NodeStates → Event → Option SentDatagram → Deed
 delivering nodes event None = Nothing
 delivering nodes event (Some datagram) = arriving nodes event datagram.from datagram.to datagram.bytes
 
--- A request with the code 0.00 is none, and a number that no seal may have is no lie.
+-- A request with the code 0.00 is no request, and a number that no seal may have is no lie.
 abbrev pub deed_for : NodeStates → List SentDatagram → Event → What → Deed
 deed_for nodes sent event (what.Exchange client) = OfClient client (Begin event.moment event.draw)
 deed_for nodes sent event (what.Ask client request) =

@@ -32,7 +32,7 @@ abbrev pub OneMore : (ℕ → Type 0) → State → Option ℕ → Bool → Stat
 OneMore goes_on old None quiet new = (quiet ≡ true) × (new ≡ old)
 OneMore goes_on old (Some datagram) quiet new = goes_on datagram
 
--- A quiet round of so many deliveries at most, each of which happens so; then it is quiet, or something waits still.
+-- A quiet round of at most this number of deliveries, each of which happens so; then it is quiet, or something waits still.
 abbrev pub Rounds : (State → Event → State → Type 0) → Deliveries → ℕ → State → Bool → State → Type 0
 Rounds happens deliveries zero old quiet new = (quiet ≡ is_none (waiting_first old)) × (new ≡ old)
 Rounds happens deliveries (suc left) old quiet new =

@@ -49,7 +49,7 @@ abbrev pub hops_through : Placed Proxy → State → Placed Client → ClientRou
 hops_through proxy world placed round =
     record { at = placed.at; proxy_at = proxy.at; server_at = world.nodes.server_at; now = round.at; proxy_draw = round.first }
 
--- How a client's round goes, in so many deliveries: straight to the server, or through a proxy, which takes the first of them (RFC 7252
+-- How a client's round goes, in this number of deliveries: straight to the server, or through a proxy, which takes the first of them (RFC 7252
 -- section 5.7.2).
 pub data Way (world : State) (placed : Placed Client) (round : ClientRound) (deliveries : ℕ) : Type 0 where
   straight : deliveries ≡ 2 → IsStraight placed.node world.nodes.server round.at round.draw placed.at world.nodes.server_at
@@ -65,7 +65,7 @@ pub record IsReady (world : State) (client : ℕ) (placed : Placed Client) (roun
   pub here : slice_get world.nodes.clients client ≡ Some placed
   pub way : Way world placed round deliveries
 
--- so many datagrams were delivered, and none waits
+-- this number of datagrams was delivered, and none waits
 pub record IsRound (deliveries : ℕ) (begun : State) (is_quiet : Bool) (new : State) : Type 0 where
   pub count : length new.records ≡ length begun.records + deliveries
   pub quiet : is_quiet ≡ true
@@ -165,7 +165,7 @@ pub record HasAnswered (old : State) (client : ℕ) (now : Moment) (request : Op
   pub way : (before : Placed Client) → slice_get old.nodes.clients client ≡ Some before → GoesTheSameWay before placed
   pub server_at : new.nodes.server_at ≡ old.nodes.server_at
 
--- ---- what a quiet round after them comes to
+-- ---- the result of a quiet round after them
 
 -- what a quiet round ends with: whether nothing waits any more, and the world
 pub record QuietEnd : Type 0 where

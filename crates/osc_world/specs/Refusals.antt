@@ -14,7 +14,7 @@ use Rattle.osc_world.specs.declared.error.EnrollError.{EnrollError}
 use Rattle.osc_world.specs.declared.error.EnrollError.TheVariants as enroll
 use Rattle.osc_world.specs.declared.error.PlaceError.{PlaceError}
 use Rattle.osc_world.specs.declared.error.PlaceError.TheVariants as place
-use Rattle.osc_world.specs.declared.start.Holder.{Holder}
+use Rattle.osc_world.specs.declared.start.NewHolder.{NewHolder}
 use Rattle.osc_world.specs.Nodes.{is_among}
 use Rattle.osc_world.specs.Starts.{Beginning, places_of}
 
@@ -58,7 +58,7 @@ abbrev pub IsFree : Beginning → Peer → Type 0
 IsFree start at = is_among at (places_of start) ≡ false
 
 -- Why a client can't be enrolled: its address, then its claims.
-abbrev pub Refuses : Beginning → Holder → EnrollError → Type 0
+abbrev pub Refuses : Beginning → NewHolder → EnrollError → Type 0
 Refuses start holder enroll.AddressTaken = IsTaken start holder.at
 Refuses start holder error = IsFree start holder.at × IsRefusal holder.claims error
 

@@ -24,7 +24,7 @@ use Rattle.osc_authz.specs.declared.rules.ContextRules.{ContextRules}
 use Rattle.osc_world.specs.Nodes.{NodeStates, places}
 use Rattle.osc_world.specs.Worlds.{State}
 use Rattle.osc_world.specs.declared.nodes.Placed.{Placed}
-use Rattle.osc_world.specs.declared.start.Holder.{Holder}
+use Rattle.osc_world.specs.declared.start.NewHolder.{NewHolder}
 
 -- the resources; what needs no protection; the key of tokens, the former key, if tokens under that are taken, and for whom they are; what
 -- the server rules for its contexts, and where it is; the grants with the texts of their tokens; and the
@@ -78,7 +78,7 @@ pub record IsDeskOf (material : InputMaterial) (token : List ℕ) (desk : Client
   pub alg : desk.alg ≡ material.alg
 
 -- a client that is there and reaches its server that way, with this token, with no context, waiting for nothing, and having heard nothing
-pub record IsPlaced (holder : Holder) (token : List ℕ) (placed : Placed Client) : Type 0 where
+pub record IsPlaced (holder : NewHolder) (token : List ℕ) (placed : Placed Client) : Type 0 where
   pub at : placed.at ≡ holder.at
   pub next_hop : placed.node.next_hop ≡ holder.way.next_hop
   pub origin : placed.node.origin ≡ holder.way.origin
@@ -90,7 +90,7 @@ pub record IsPlaced (holder : Holder) (token : List ℕ) (placed : Placed Client
 -- `is_sealing algorithm` is the relation of the algorithm's cipher
 module _ (is_sealing : Sealings) where
   -- The scope of the claims has these entries; the token is the object of the claims' text, sealed under the key (RFC 8392 section 7).
-  pub record IsEnrolled (key : List ℕ) (number : ℕ) (holder : Holder) (minted : Minted) (placed : Placed Client) : Type 0 where
+  pub record IsEnrolled (key : List ℕ) (number : ℕ) (holder : NewHolder) (minted : Minted) (placed : Placed Client) : Type 0 where
     pub entries : List Entry
     pub scope : IsScope holder.claims.scope entries
     pub ciphertext : List ℕ
@@ -98,7 +98,7 @@ module _ (is_sealing : Sealings) where
     pub granted : minted ≡ minted_of number holder.claims entries
     pub client : IsPlaced holder (spelling (object_item (token_object holder.iv ciphertext))) placed
 
-  pub record Enrols (old : Beginning) (holder : Holder) (new : Beginning) : Type 0 where
+  pub record Enrols (old : Beginning) (holder : NewHolder) (new : Beginning) : Type 0 where
     pub minted : Minted
     pub placed : Placed Client
     pub enrolled : IsEnrolled old.key (length old.clients) holder minted placed

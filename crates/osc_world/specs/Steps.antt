@@ -16,7 +16,7 @@ use Rattle.osc_proxy.specs.Steps as of_proxy
 use Rattle.osc_world.specs.Adversary.{TellsLie}
 use Rattle.osc_world.specs.Nodes.{NodeStates, Task, Take, StartAgain, ClientTask, Begin, Ask, TellLie, Do, Deed, Nothing, OfServer, OfClient, OfProxy}
 use Rattle.osc_world.specs.declared.nodes.Placed.{Placed}
-use Rattle.osc_world.specs.declared.nodes.Taken.{Taken}
+use Rattle.osc_world.specs.declared.nodes.StepTaken.{StepTaken}
 
 -- ---- what a node does
 
@@ -47,20 +47,20 @@ module _ (is_sealing : Sealings) (tag : Tags) where
 -- ---- one node takes a step, or none does
 
 -- nobody takes a step
-pub record NobodyTakes (old : NodeStates) (taken : Option Taken) (new : NodeStates) : Type 0 where
+pub record NobodyTakes (old : NodeStates) (taken : Option StepTaken) (new : NodeStates) : Type 0 where
   pub taken_is : taken ≡ None
   pub is : new ≡ old
 
 -- the server takes a step of this kind
-pub record ServerTakes (does : Server → Step → Server → Type 0) (old : NodeStates) (taken : Option Taken) (new : NodeStates) : Type 0 where
+pub record ServerTakes (does : Server → Step → Server → Type 0) (old : NodeStates) (taken : Option StepTaken) (new : NodeStates) : Type 0 where
   pub step : Step
   pub server : Server
   pub it_does : does old.server step server
   pub taken_is : taken ≡ Some (record { at = old.server_at; noted = by_server step.notes; out = step.out })
   pub is : new ≡ record old { server = server }
 
--- of these nodes the one of this number takes a step of this kind, where it is, which is noted so; where none is there, nobody does
-pub data NodeTakes {S : Type 0} (does : S → Step → S → Type 0) (noted : StepNotes → Noted) (old : List (Placed S)) (number : ℕ) (taken : Option Taken) (new : List (Placed S)) : Type 0 where
+-- of these nodes the one of this number takes a step of this kind, where it is, which is noted so; where there is none, nobody does
+pub data NodeTakes {S : Type 0} (does : S → Step → S → Type 0) (noted : StepNotes → Noted) (old : List (Placed S)) (number : ℕ) (taken : Option StepTaken) (new : List (Placed S)) : Type 0 where
   no_node : slice_get old number ≡ None → taken ≡ None → new ≡ old → NodeTakes does noted old number taken new
   a_node : (placed : Placed S) (step : Step) (node : S) → slice_get old number ≡ Some placed → does placed.node step node
       → taken ≡ Some (record { at = placed.at; noted = noted step.notes; out = step.out })
@@ -68,7 +68,7 @@ pub data NodeTakes {S : Type 0} (does : S → Step → S → Type 0) (noted : St
       → NodeTakes does noted old number taken new
 
 module _ (is_sealing : Sealings) (tag : Tags) where
-  abbrev pub Takes : NodeStates → Deed → Option Taken → NodeStates → Type 0
+  abbrev pub Takes : NodeStates → Deed → Option StepTaken → NodeStates → Type 0
   Takes old Nothing taken new = NobodyTakes old taken new
   Takes old (OfServer task) taken new = ServerTakes (Does (of_server.IsStep is_sealing) of_server.again task) old taken new
   Takes old (OfClient number task) taken new =

@@ -11,7 +11,7 @@ use Rattle.osc_world.specs.Steps.{Takes}
 use Rattle.osc_world.specs.declared.event.Event.{Event}
 use Rattle.osc_world.specs.declared.log.Record.{Record}
 use Rattle.osc_world.specs.declared.log.SentDatagram.{SentDatagram}
-use Rattle.osc_world.specs.declared.nodes.Taken.{Taken}
+use Rattle.osc_world.specs.declared.nodes.StepTaken.{StepTaken}
 
 -- The grants and the resources that it began with; the nodes; each datagram ever sent; what the steps noted, the newest first; and
 -- the outcome of each event.
@@ -42,7 +42,7 @@ world_of minted first nodes log =
     record { minted = minted; first = first; nodes = nodes; sent = log.sent; steps = log.steps; records = log.records }
 
 -- the world after an event at which the nodes became these, by this step
-abbrev pub after : State → Event → Option Taken → NodeStates → State
+abbrev pub after : State → Event → Option StepTaken → NodeStates → State
 after old event taken nodes = record old {
   nodes = nodes;
   sent = delivered event.what old.sent ++ sent_by taken;
@@ -52,9 +52,9 @@ after old event taken nodes = record old {
 
 -- `is_sealing algorithm` is the relation of the algorithm's cipher, and `tag algorithm` how long its tag is
 module _ (is_sealing : Sealings) (tag : Tags) where
-  -- An event: whoever it is for does what it comes to, and no other node changes; what is sent and noted is kept.
+  -- An event: whoever it is for does what it leads to, and no other node changes; what is sent and noted is kept.
   pub record Happens (old : State) (event : Event) (new : State) : Type 0 where
-    pub taken : Option Taken
+    pub taken : Option StepTaken
     pub nodes : NodeStates
     pub takes : Takes is_sealing tag old.nodes (deed_of old.nodes old.sent event) taken nodes
     pub is : new ≡ after old event taken nodes

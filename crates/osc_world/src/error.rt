@@ -17,7 +17,7 @@ pub enum EnrollError {
     /// A node is at its address.
     #[error("another node stands at this address")]
     AddressTaken,
-    /// The scope of the claims is none.
+    /// The scope of the claims isn't one.
     #[error("the scope can't be read")]
     BadScope,
     /// The claims have more than 65535 bytes.

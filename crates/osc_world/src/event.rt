@@ -11,13 +11,13 @@ pub enum What {
     Exchange {
         client: usize,
     },
-    /// The client is to send this request, protected. One with the code 0.00 is none, and it has no effect.
+    /// The client is to send this request, protected. One with the code 0.00 is no request, and it has no effect.
     Ask {
         client: usize,
         request: Request,
     },
     /// The client's holder seals any text as a request with this number, and sends it. One with a number that none may have, above
-    /// 1099511627775, is none, and it has no effect.
+    /// 1099511627775, is no request, and it has no effect.
     Lie {
         client: usize,
         number: u64,

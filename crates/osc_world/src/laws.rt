@@ -37,7 +37,7 @@ ghost use Rattle.osc_world.specs.Refusals.{FitAToken};
 ghost use Rattle.osc_world.specs.Starts.{Beginning, Enrols, begun, new_proxy};
 ghost use Rattle.osc_world.specs.declared.nodes.Placed.{Placed as AnyPlaced};
 ghost use Rattle.osc_world.specs.declared.nodes.Whose.TheVariants as whose;
-ghost use Rattle.osc_world.specs.declared.start.Holder.{Holder as AnyHolder};
+ghost use Rattle.osc_world.specs.declared.start.NewHolder.{NewHolder as AnyHolder};
 
 use osc_authz::laws::numbers_taken;
 use osc_ccm::Ciphers;

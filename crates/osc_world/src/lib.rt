@@ -18,6 +18,6 @@ pub use draws::Draws;
 pub use error::{EnrollError, PlaceError};
 pub use event::{Event, What};
 pub use log::{Record, SentDatagram};
-pub use nodes::{Nodes, Placed, Taken, Whose};
-pub use start::{Holder, Parts, Start};
+pub use nodes::{Nodes, Placed, StepTaken, Whose};
+pub use start::{NewHolder, Parts, Start};
 pub use world::World;

@@ -4,7 +4,7 @@ ghost use Rattle.std.specs.Option.{option_to_list};
 ghost use Rattle.osc_world.specs.Log.{HasRoom, IsKept, delivered, first_waiting, number_of, sent_by, sent_from, settled, steps_with, waiting};
 
 use crate::event::What;
-use crate::nodes::Taken;
+use crate::nodes::StepTaken;
 use osc_model::{Bytes, Datagram, Datagrams, Peer};
 use osc_run::Notes;
 use std::alloc::{AllocError, Global};
@@ -46,7 +46,7 @@ pub struct Record {
 }
 
 /// What is kept of the events: each datagram ever sent, what each step noted, and the outcome of each event.
-pub(crate) struct Log {
+pub(crate) struct EventLog {
     sent: Vec<SentDatagram>,
     // The number of the first that waits; that of all that were sent, where none does.
     next_waiting: usize,
@@ -54,9 +54,9 @@ pub(crate) struct Log {
     records: Vec<Record>,
 }
 
-impl Drop for Log {
+impl Drop for EventLog {
     fn drop(self) {
-        let Log {
+        let EventLog {
             sent: _,
             next_waiting: _,
             notes: _,
@@ -65,7 +65,7 @@ impl Drop for Log {
     }
 }
 
-impl Model for Log {
+impl Model for EventLog {
     ghost use Rattle.std.specs.Prelude.{◌≡◌, ◌-◌, vec_len, vec_capacity};
     ghost use Rattle.osc_world.specs.Log.{LogState, first_waiting};
 
@@ -83,14 +83,14 @@ impl Model for Log {
     ghost invariant = { λ l. l.next_waiting ≡ first_waiting l.sent.items };
 }
 
-impl Log {
+impl EventLog {
     /// Nothing was sent, and nothing happened yet; takes no memory.
-    pub fn new(alloc: Global) -> Log
+    pub fn new(alloc: Global) -> EventLog
         ensures sent { result.sent ≡ [] }
         ensures steps { result.steps ≡ [] }
         ensures records { result.records ≡ [] }
     {
-        Log {
+        EventLog {
             sent: Vec::new(alloc),
             next_waiting: 0,
             notes: Notes::new(alloc),
@@ -142,7 +142,7 @@ impl Log {
         &self.records
     }
 
-    /// Takes room for one event more, whose step sends so many datagrams at most.
+    /// Takes room for one event more, whose step sends at most this number of datagrams.
     pub fn reserve(&mut self, datagrams: usize) -> Result<(), AllocError>
         ensures sent { self.new.sent ≡ self.old.sent }
         ensures steps { self.new.steps ≡ self.old.steps }
@@ -155,7 +155,7 @@ impl Log {
     }
 
     /// Keeps the outcome of an event, for which there is room; takes no memory.
-    pub fn keep(&mut self, what: &What, taken: Option<Taken>)
+    pub fn keep(&mut self, what: &What, taken: Option<StepTaken>)
         requires { HasRoom self.old (length (sent_by taken)) }
         ensures { IsKept self.old what.now taken self.new }
     {
@@ -187,7 +187,7 @@ impl Log {
     }
 
     /// Adds a step, if one was taken, and what it sent; answers its number.
-    fn add(&mut self, taken: Option<Taken>) -> Option<usize>
+    fn add(&mut self, taken: Option<StepTaken>) -> Option<usize>
         requires { HasRoom self.old (length (sent_by taken)) }
         ensures number { result ≡ number_of taken self.old.steps }
         ensures sent { self.new.sent ≡ self.old.sent ++ sent_by taken }
@@ -195,7 +195,7 @@ impl Log {
         ensures records { self.new.records ≡ self.old.records }
         ensures room { self.new.room_for_records ≡ self.old.room_for_records }
     {
-        let Taken { at, noted, out } = taken?;
+        let StepTaken { at, noted, out } = taken?;
         let number = self.notes.steps().len();
         self.notes.add(noted);
         send(&mut self.sent, at, out);

@@ -54,7 +54,7 @@ pub enum Whose {
 
 /// A step that a node took: where the node is, what is noted of the step, and the datagrams that it sends.
 #[derive(Drop)]
-pub struct Taken {
+pub struct StepTaken {
     /// From where its datagrams come.
     pub at: Peer,
     /// Whose it was, and what it did beside sending.
@@ -302,14 +302,14 @@ impl Nodes {
         }
     }
 
-    /// What the event comes to is done by the node whose step it is. Without memory an `AllocError`; then nothing has changed.
+    /// What the event leads to is done by the node whose step it is. Without memory an `AllocError`; then nothing has changed.
     pub(crate) fn take<A: Ciphers>(
         &mut self,
         alloc: Global,
         whose: Whose,
         event: &Event,
         sent: &[SentDatagram],
-    ) -> Result<Option<Taken>, AllocError>
+    ) -> Result<Option<StepTaken>, AllocError>
         requires { whose ≡ whose_step self.old sent.now event.now.what }
         ensures takes { IfOk result (λ taken. Takes A.is_sealing A.TAG self.old (deed_of self.old sent.now event.now) taken self.new) }
         ensures step { IfOk result (λ taken. IsStep event.now.moment self.old taken self.new) }
@@ -377,7 +377,7 @@ impl Nodes {
         whose: Whose,
         event: &Event,
         job: Job<'_>,
-    ) -> Result<Option<Taken>, AllocError>
+    ) -> Result<Option<StepTaken>, AllocError>
         ensures takes { IfOk result (λ taken. Takes A.is_sealing A.TAG self.old (deed_by whose (task_of event.now job.entry)) taken self.new) }
         ensures step { IfOk result (λ taken. IsStep event.now.moment self.old taken self.new) }
         ensures few { IfOk result (λ taken. length (sent_by taken) ≤ most_sent self.old whose) }
@@ -399,14 +399,14 @@ impl Nodes {
         alloc: Global,
         event: &Event,
         job: Job<'_>,
-    ) -> Result<Option<Taken>, AllocError>
+    ) -> Result<Option<StepTaken>, AllocError>
         ensures takes { IfOk result (λ taken. Takes A.is_sealing A.TAG self.old (OfServer (task_of event.now job.entry)) taken self.new) }
         ensures step { IfOk result (λ taken. IsStep event.now.moment self.old taken self.new) }
         ensures few { IfOk result (λ taken. length (sent_by taken) ≤ 1) }
         ensures err { OnErr result (self.new ≡ self.old) }
     {
         let step = does::<A, Server>(alloc, &mut self.server, event, job)?;
-        Ok(Some(Taken {
+        Ok(Some(StepTaken {
             at: self.server_at,
             noted: Noted::by_server(step.notes),
             out: step.out,
@@ -420,7 +420,7 @@ impl Nodes {
         number: usize,
         event: &Event,
         job: ClientJob<'_>,
-    ) -> Result<Option<Taken>, AllocError>
+    ) -> Result<Option<StepTaken>, AllocError>
         requires { MayBeDone job }
         ensures takes { IfOk result (λ taken. Takes A.is_sealing A.TAG self.old (OfClient number (client_task_of event.now job.entry)) taken self.new) }
         ensures step { IfOk result (λ taken. IsStep event.now.moment self.old taken self.new) }
@@ -431,7 +431,7 @@ impl Nodes {
             return Ok(None);
         };
         let step = client_does::<A>(alloc, &mut placed.node, event, job)?;
-        Ok(Some(Taken {
+        Ok(Some(StepTaken {
             at: placed.at,
             noted: Noted::by_client(number, lies(job), step.notes),
             out: step.out,
@@ -445,7 +445,7 @@ impl Nodes {
         number: usize,
         event: &Event,
         job: Job<'_>,
-    ) -> Result<Option<Taken>, AllocError>
+    ) -> Result<Option<StepTaken>, AllocError>
         ensures takes { IfOk result (λ taken. Takes A.is_sealing A.TAG self.old (OfProxy number (task_of event.now job.entry)) taken self.new) }
         ensures step { IfOk result (λ taken. IsStep event.now.moment self.old taken self.new) }
         ensures few { IfOk result (λ taken. length (sent_by taken) ≤ most_of most_sent_by_proxy (slice_get self.old.proxies number)) }
@@ -455,7 +455,7 @@ impl Nodes {
             return Ok(None);
         };
         let step = does::<A, Proxy>(alloc, &mut placed.node, event, job)?;
-        Ok(Some(Taken {
+        Ok(Some(StepTaken {
             at: placed.at,
             noted: Noted::by_proxy(number, step.notes),
             out: step.out,

@@ -36,7 +36,7 @@ use std::marker::Model;
 /// A client that is to be enrolled: where it is, the way to the server, what its token claims, and the IV under which the token is
 /// sealed.
 #[derive(Drop)]
-pub struct Holder {
+pub struct NewHolder {
     /// Its address.
     pub at: Peer,
     /// To whom it sends, and the server behind it where that is a proxy.
@@ -156,10 +156,14 @@ impl Start {
     ///
     /// # Errors
     ///
-    /// The first that applies: `AddressTaken` where a node is at its address, `BadScope` where the scope of its claims is none,
+    /// The first that applies: `AddressTaken` where a node is at its address, `BadScope` where the scope of its claims isn't one,
     /// `TooLong` where its claims have more than 65535 bytes, `Grant` where its input material has a length that no token may have; or,
     /// where its address is free, `Memory`, whatever its claims are. Then nothing has changed.
-    pub fn enroll<A: Ciphers>(&mut self, alloc: Global, holder: Holder) -> Result<(), EnrollError>
+    pub fn enroll<A: Ciphers>(
+        &mut self,
+        alloc: Global,
+        holder: NewHolder,
+    ) -> Result<(), EnrollError>
         ensures enrolled { OnOk result (Enrols A.is_sealing self.old holder self.new) }
         ensures free { OnOk result (IsFree self.old holder.at) }
         ensures lawful { OnOk result (IsLawful holder.claims) }
@@ -173,7 +177,7 @@ impl Start {
     }
 
     /// The same of a client whose address is free.
-    fn admit<A: Ciphers>(&mut self, alloc: Global, holder: Holder) -> Result<(), EnrollError>
+    fn admit<A: Ciphers>(&mut self, alloc: Global, holder: NewHolder) -> Result<(), EnrollError>
         requires { IsFree self.old holder.at }
         ensures enrolled { OnOk result (Enrols A.is_sealing self.old holder self.new) }
         ensures lawful { OnOk result (IsLawful holder.claims) }
@@ -282,7 +286,7 @@ fn enrolled<A: Ciphers>(
     alloc: Global,
     key: &[u8; 16],
     number: usize,
-    holder: Holder,
+    holder: NewHolder,
 ) -> Result<(Minted, Placed<Client>), EnrollError>
     ensures enrolled { IfOk result (λ made. IsEnrolled A.is_sealing key.now number holder made.0 made.1) }
     ensures text { IfOk result (λ made. IsTextOf made.0.grant made.0.text) }
@@ -291,7 +295,7 @@ fn enrolled<A: Ciphers>(
 {
     kinds::minted_texts();
     fits(&holder.claims);
-    let Holder {
+    let NewHolder {
         at,
         way,
         claims,

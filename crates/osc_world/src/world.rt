@@ -18,7 +18,7 @@ use crate::draws::Draws;
 use crate::event::{Event, What};
 use crate::isolation::alone;
 use crate::laws::{an_asked_round, an_exchanged_round};
-use crate::log::{Log, Record, SentDatagram};
+use crate::log::{EventLog, Record, SentDatagram};
 use crate::nodes::{Nodes, Placed};
 use osc_ccm::Ciphers;
 use osc_client::Client;
@@ -40,7 +40,7 @@ pub struct World {
     minted: Vec<Minted>,
     first: Tree,
     nodes: Nodes,
-    log: Log,
+    log: EventLog,
 }
 
 impl Drop for World {
@@ -85,7 +85,7 @@ impl World {
             minted,
             first,
             nodes,
-            log: Log::new(alloc),
+            log: EventLog::new(alloc),
         }
     }
 
@@ -163,8 +163,8 @@ impl World {
         Ok(())
     }
 
-    /// A quiet round: each datagram that was neither delivered nor dropped is delivered, in order of sending, until none is left, or so
-    /// many were. Whether none is left; an `AllocError` at the first for whose delivery memory runs out: the deliveries before it are kept,
+    /// A quiet round: each datagram that was neither delivered nor dropped is delivered, in order of sending, until none is left, or
+    /// `limit` were. Whether none is left; an `AllocError` at the first for whose delivery memory runs out: the deliveries before it are kept,
     /// and it waits.
     ///
     /// After an exchange or a request, in a world that was ready for it, two deliveries are the whole round, or six through a proxy: the

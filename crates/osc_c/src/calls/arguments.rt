@@ -23,7 +23,7 @@ pub(crate) fn sized(size: usize, wanted: usize) -> Result<(), Outcome>
     Ok(())
 }
 
-/// The moment of so many milliseconds.
+/// The moment of this number of milliseconds.
 pub(crate) fn moment(ms: u64) -> Result<Moment, Outcome>
     ensures ok { IfOk result (λ moment. moment.ms ≡ ms) }
     ensures fits { OnOk result (ms < 2 ^ 63) }
@@ -64,7 +64,7 @@ pub(crate) fn is_host(host: &[u8]) -> bool
     !host.is_empty() && host.len() <= LONGEST_HOST
 }
 
-/// The Content-Format or Accept of this number; -1 is none.
+/// The Content-Format or Accept of this number; -1 stands for none.
 pub(crate) fn format(number: i32) -> Result<Option<u16>, Outcome>
     ensures ok { IfOk result (λ format. IsFormat number format × IsFormatNumber number) }
     ensures err { IfErr result (λ outcome. (outcome ≡ BadArgument) × ¬ (IsFormatNumber number)) }

@@ -32,7 +32,7 @@ pub fn fill_three(room: &mut [u8], first: &[u8], second: &[u8], third: &[u8]) ->
     true
 }
 
-/// Whether there is room for so many bytes, so many more, and so many more; their sum may be above what a number holds.
+/// Whether there is room for `first`, `second` and `third` bytes together; their sum may be above what a number holds.
 fn have_room(room: usize, first: usize, second: usize, third: usize) -> bool
     ensures { IsTrue result ↔ (first + second + third ≤ room) }
 {

@@ -50,7 +50,7 @@ fn material(
     })
 }
 
-/// A date: no number of seconds is none.
+/// A date; 0 seconds stand for none.
 fn date(seconds: u64) -> Option<u64>
     ensures { result ≡ date_of seconds }
 {

@@ -9,7 +9,7 @@ abbrev pub Ends : {X A : Type 0} → (X → List ℕ) → Result X ReadError →
 Ends {A = A} now (Ok x) read = (d : A) × (read ≡ Ok (d, now x))
 Ends now (Err e) read = read ≡ Err e
 
--- so many pairs were passed, and those that are left are read as all are
+-- `index` pairs were passed, and those that are left are read as all are
 pub record Passed (inner : List ℕ → Found) (count index : ℕ) (bytes rest : List ℕ) : Type 0 where
   pub before : Pairs
   pub front : List ℕ

@@ -9,8 +9,8 @@ use Rattle.osc_cbor.specs.declared.error.ReadError.TheVariants.{DuplicateKey}
 use Rattle.osc_cbor.specs.declared.keys.Key.{Key}
 use Rattle.osc_cbor.specs.declared.keys.Stop.{Stop}
 use Rattle.osc_cbor.specs.declared.keys.Stop.TheVariants.{Fault, Unsure}
-use Rattle.osc_cbor.specs.declared.keys.Verdict.{Verdict}
-use Rattle.osc_cbor.specs.declared.keys.Verdict.TheVariants.{Apart, Repeated, Unordered}
+use Rattle.osc_cbor.specs.declared.keys.KeyOrder.{KeyOrder}
+use Rattle.osc_cbor.specs.declared.keys.KeyOrder.TheVariants.{Apart, Repeated, Unordered}
 
 -- ---- what is noted
 
@@ -51,7 +51,7 @@ AreApart rows = (x : List ℕ) → times x rows ≤ 1
 abbrev pub Repeats : List (List ℕ) → Type 0
 Repeats rows = (x : List ℕ) × (2 ≤ times x rows)
 
-abbrev pub Says : Verdict → List (List ℕ) → Type 0
+abbrev pub Says : KeyOrder → List (List ℕ) → Type 0
 Says Apart rows = AreApart rows
 Says Repeated rows = Repeats rows
 Says Unordered rows = Unit {0}

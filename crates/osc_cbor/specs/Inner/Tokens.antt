@@ -1,4 +1,4 @@
--- An item as its heads, each with the string after it: how items are passed over and compared in their bytes. No public
+-- An item as its heads, each with the string after it: how items are skipped and compared in their bytes. No public
 -- contract rests on this.
 use Rattle.std.specs.Prelude.{◌≡◌, ℕ, ◌*◌, ◌/◌, ◌%◌, ◌==◌, ◌||◌, if◌then◌else◌, List, [], ◌∷◌, ◌++◌, length, Result, Ok, Err}
 use Rattle.osc_cbor.specs.Data.{DataItem, unsigned, negative, byte_string, text_string, array, map, tag, bool, null, Items, no_items, item, Pairs, no_pairs, pair, item_count, pair_count}
@@ -62,7 +62,7 @@ pub record Alike (ts us : List Token) (a b : List ℕ) : Type 0 where
   pub same : ts ≡ us → more ≡ others
   pub back : more ≡ others → ts ≡ us
 
--- so many items are before the rest
+-- `count` items are before the rest
 pub record Pending (count : ℕ) (bytes rest : List ℕ) : Type 0 where
   pub items : Items
   pub front : List ℕ
@@ -70,7 +70,7 @@ pub record Pending (count : ℕ) (bytes rest : List ℕ) : Type 0 where
   pub counted : item_count items ≡ count
   pub whole : bytes ≡ front ++ rest
 
--- so many pairs are before the rest, and this key is one of theirs exactly where it was one of all
+-- `count` pairs are before the rest, and this key is one of theirs exactly where it was one of all
 pub record Keys (k : DataItem) (ps : Pairs) (count : ℕ) (bytes rest : List ℕ) : Type 0 where
   pub more : Pairs
   pub front : List ℕ

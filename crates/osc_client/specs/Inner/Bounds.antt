@@ -12,10 +12,10 @@ use Rattle.osc_protect.specs.{plain_bytes, request_length}
 use Rattle.osc_protect.specs.declared.request.RequestSize.{RequestSize}
 use Rattle.osc_context.specs.{greatest_number}
 use Rattle.osc_client.specs.Case.{counts}
-use Rattle.osc_client.specs.declared.case.Case.{Case}
-use Rattle.osc_client.specs.declared.case.Case.TheVariants.{Counted}
-use Rattle.osc_client.specs.declared.answering.Outcome.{Outcome}
-use Rattle.osc_client.specs.declared.answering.Outcome.TheVariants.{Stays}
+use Rattle.osc_client.specs.declared.case.Case.{ResponseCase}
+use Rattle.osc_client.specs.declared.case.ResponseCase.TheVariants.{Counted}
+use Rattle.osc_client.specs.declared.answering.AnswerEffect.{AnswerEffect}
+use Rattle.osc_client.specs.declared.answering.AnswerEffect.TheVariants.{Stays}
 use Rattle.osc_client.specs.declared.asking.AskRoom.{AskRoom}
 use Rattle.osc_client.specs.declared.waiting.Awaited.{Awaited}
 use Rattle.osc_client.specs.declared.waiting.Awaited.TheVariants.{Exchange, Ask}
@@ -56,11 +56,11 @@ room_for tag name number plain = record {
 }
 
 -- an outcome that leaves nothing open
-abbrev pub IsEnd : Outcome → Type 0
+abbrev pub IsEnd : AnswerEffect → Type 0
 IsEnd (Stays opened) = ⊥
 IsEnd outcome = Unit {0}
 
 -- a response that counts does so for what waits
-abbrev pub AsksFor : Peer → Peer → Option Waiting → Message → Case → Type 0
+abbrev pub AsksFor : Peer → Peer → Option Waiting → Message → ResponseCase → Type 0
 AsksFor next_hop from waiting message Counted = counts next_hop from message waiting ≡ true
 AsksFor next_hop from waiting message case = Unit {0}

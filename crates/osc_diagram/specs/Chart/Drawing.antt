@@ -30,7 +30,7 @@ cell (Line from to arrives) i =
     else if nat_lt from to then (if nat_le from i && nat_lt i to then to_the_right (i == from) (i + 1 == to) arrives else idle)
     else (if nat_le to i && nat_lt i from then to_the_left (i == to) arrives else idle)
 
--- what is at so many columns
+-- what is at this number of columns
 abbrev pub cells : Stroke → ℕ → List ℕ
 cells stroke zero = []
 cells stroke (suc n) = cells stroke n ++ cell stroke n

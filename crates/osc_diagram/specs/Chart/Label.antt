@@ -5,15 +5,12 @@ use Rattle.hex.specs.Hex.{encode_lower}
 use Rattle.osc_coap.specs.{kind_name, message_at}
 use Rattle.osc_coap.specs.Message.{Message}
 use Rattle.osc_coap.specs.declared.error.ParseError.{ParseError}
+use Rattle.osc_model.specs.{code_text}
 use Rattle.osc_model.specs.declared.code.Code.{Code}
 use Rattle.osc_diagram.specs.Chart.Capture.{two}
 use Rattle.osc_diagram.specs.declared.chart.chart.Arrow.{Arrow}
 use Rattle.osc_diagram.specs.declared.chart.chart.Way.{Way}
 use Rattle.osc_diagram.specs.declared.chart.chart.Way.TheVariants.{Sent, Again, Forged}
-
--- class, a dot and two digits of detail (RFC 7252 section 3)
-abbrev pub code_text : ℕ → List ℕ
-code_text code = decimal (code / 32) ++ codes "." ++ decimal (code % 32 / 10) ++ decimal (code % 32 % 10)
 
 abbrev pub has_oscore : Message → Bool
 has_oscore message = list_any (λ option. option.0 == 9) message.options

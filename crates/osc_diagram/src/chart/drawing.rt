@@ -34,7 +34,7 @@ fn place_of(columns: &[Column], peer: Peer) -> Option<usize>
     columns.iter().position(|column| column.at == peer)
 }
 
-/// What is at so many columns, after this text.
+/// What is at this number of columns, after this text.
 pub(crate) fn add_cells(text: &mut Vec<u8>, stroke: Stroke, count: usize) -> Result<(), AllocError>
     ensures { OnOk result (text.new.items ≡ text.old.items ++ spec.cells stroke count) }
 {

@@ -65,7 +65,7 @@ fn message_text(
     ensures { IfOk result (λ text. string_bytes text ≡ spec.message_text message.now inner) }
 {
     let kind = message.kind();
-    let code = CodeText(message.code());
+    let code = Code(message.code());
     let id = id_text(alloc, message.id())?;
     let token = token_text(alloc, message.token())?;
     let oscore = oscore_text(alloc, has_option(message, OSCORE), inner)?;
@@ -103,23 +103,7 @@ fn inner_text(alloc: Global, inner: Option<Code>) -> Result<String, AllocError>
     ensures { IfOk result (λ text. string_bytes text ≡ spec.inner_text inner) }
 {
     match inner {
-        Some(code) => {
-            let code = CodeText(code.0);
-            format!(in alloc; " with {code} inside")
-        }
+        Some(code) => format!(in alloc; " with {code} inside"),
         None => Ok(String::new(alloc)),
-    }
-}
-
-// A code as the standard writes it, as `2.05`.
-#[derive(Clone, Copy)]
-struct CodeText(u8);
-
-impl fmt::Display for CodeText {
-    ghost output = { λ code. Some (spec.code_text code.0) };
-
-    fn fmt<W: fmt::Write>(&self, f: &mut fmt::Formatter<W>) -> fmt::Result {
-        let detail = self.0 % 32;
-        write!(f, "{}.{}{}", self.0 / 32, detail / 10, detail % 10)
     }
 }

@@ -62,7 +62,7 @@ fn carried(arrow: &Arrow) -> &[u8]
     front(arrow.bytes.as_slice(), 65507)
 }
 
-// So many bytes at most.
+// At most this number of bytes, from the first on.
 fn front(bytes: &[u8], most: usize) -> &[u8]
     ensures bytes { result.now ≡ take most bytes.now }
     ensures few { length result.now ≤ most }

@@ -42,7 +42,7 @@ live nodes means = record { lab = lab_of nodes; ports = ports_of means.ports; su
 abbrev pub network : {P : Type 0} → (P → Option (List (Option Received))) → (P → Option (List Datagram)) → List Known → Network P
 network received sent sockets = record { received = received; sent = sent; sockets = sockets }
 
--- so many steps lead to where it halts
+-- some number of steps leads to where it halts
 abbrev pub LeadsTo : {P : Type 0} → Network P → LiveLab P → LiveLab P → Type 0
 LeadsTo net first last = (reached : LiveLab _) × Leads net first reached × Halts net reached last
 

@@ -17,7 +17,7 @@ has_leading_zero [] = false
 has_leading_zero (b ∷ []) = false
 has_leading_zero (b ∷ c ∷ bytes) = b == 0
 
--- the Partial IV in so many bytes, and the bytes after it
+-- the Partial IV in the first `size` bytes, and the bytes after it
 unfoldable pub partial_iv_at : ℕ → List ℕ → Option (Option ℕ × List ℕ)
 partial_iv_at size bytes =
     if size == 0 then Some (None, bytes)

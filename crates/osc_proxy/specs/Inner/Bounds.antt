@@ -8,8 +8,8 @@ use Rattle.osc_coap.specs.declared.kind.Kind.TheVariants.{Acknowledgement, Reset
 use Rattle.osc_message.specs.declared.heard.Heard.{Heard}
 use Rattle.osc_message.specs.declared.heard.Heard.TheVariants.{Message}
 use Rattle.osc_proxy.specs.Exchanges.{Table, answers, get, is_named}
-use Rattle.osc_proxy.specs.declared.case.Case.{Case}
-use Rattle.osc_proxy.specs.declared.case.Case.TheVariants.{Refused, Forwarded, Counted, Unused}
+use Rattle.osc_proxy.specs.declared.case.Case.{ForwardCase}
+use Rattle.osc_proxy.specs.declared.case.ForwardCase.TheVariants.{Refused, Forwarded, Counted, Unused}
 use Rattle.osc_proxy.specs.declared.exchanges.Exchange.{Exchange}
 
 -- a message that was heard is as long as a datagram may be at most
@@ -48,7 +48,7 @@ pub record CanCount (exchanges : Table) (from : Peer) (message : CoapMessage) (k
   pub response : is_request_code message.code ≡ false
   pub short : length (spelling message) ≤ datagram_limit
 
-abbrev pub AsksFor : Table → Peer → CoapMessage → Case → Type 0
+abbrev pub AsksFor : Table → Peer → CoapMessage → ForwardCase → Type 0
 AsksFor exchanges from message (Refused why) = (0 < why.0) × (names_one message.kind ≡ false)
 AsksFor exchanges from message (Forwarded to) = (0 < message.code) × (names_one message.kind ≡ false)
 AsksFor exchanges from message (Counted key) = CanCount exchanges from message key

@@ -4,17 +4,17 @@ use Rattle.std.specs.List.{AllByRecursion}
 use Rattle.std.specs.List.Sorted.{IsPartitionPoint}
 use Rattle.std.specs.Ordering.{is_lt}
 use Rattle.osc_model.specs.{path_cmp}
-use Rattle.osc_scope.specs.declared.kept.Place.{Place}
+use Rattle.osc_scope.specs.declared.kept.EntryPlace.{EntryPlace}
 
 -- the text between two places, with the set of methods
-abbrev pub pair_at : List ℕ → Place → List ℕ × ℕ
+abbrev pub pair_at : List ℕ → EntryPlace → List ℕ × ℕ
 pair_at texts place = (take (place.end - place.start) (drop place.start texts), place.mask)
 
-abbrev pub pairs_at : List ℕ → List Place → List (List ℕ × ℕ)
+abbrev pub pairs_at : List ℕ → List EntryPlace → List (List ℕ × ℕ)
 pairs_at texts places = map (pair_at texts) places
 
 -- the place is one in texts of this length
-abbrev pub IsWithin : ℕ → Place → Type 0
+abbrev pub IsWithin : ℕ → EntryPlace → Type 0
 IsWithin size place = (place.start ≤ place.end) × (place.end ≤ size)
 
 -- ---- entries in the order of their paths

@@ -4,11 +4,11 @@ use Rattle.std.specs.List.{list_any}
 use Rattle.osc_script.specs.Line.{grants, is_event, is_put, is_revocation, makes, moment_after, routes}
 use Rattle.osc_script.specs.declared.line.Line.{Line}
 use Rattle.osc_script.specs.declared.client_name.ClientName.{ClientName}
-use Rattle.osc_script.specs.declared.place.Place.{Place}
+use Rattle.osc_script.specs.declared.place.Place.{LinesAbove}
 use Rattle.osc_script.specs.declared.proxy_name.ProxyName.{ProxyName}
 
 -- what is kept is so of the lines above
-pub record IsPlace (above : List Line) (place : Place) : Type 0 where
+pub record IsPlace (above : List Line) (place : LinesAbove) : Type 0 where
   pub event : place.has_event ≡ list_any is_event above
   pub moment : place.moment.ms ≡ moment_after 0 above
   pub puts : place.puts ≡ count_by is_put above

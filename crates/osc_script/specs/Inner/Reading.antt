@@ -20,8 +20,8 @@ use Rattle.osc_script.specs.declared.line.Change.{Change}
 use Rattle.osc_script.specs.declared.line.Line.{Line}
 use Rattle.osc_script.specs.declared.line.Line.TheVariants.{Put, Open, Revoked, Proxy, Via, At, Draw, Drop, Skip, Exchange, Ask, Tick, Restart, Deliver, Alter, Graft, Inject, Lie, Quiet}
 use Rattle.osc_script.specs.declared.client_name.ClientName.{ClientName}
-use Rattle.osc_script.specs.declared.node.Node.{Node}
-use Rattle.osc_script.specs.declared.node.Node.TheVariants as node
+use Rattle.osc_script.specs.declared.node.Node.{NodeName}
+use Rattle.osc_script.specs.declared.node.NodeName.TheVariants as node
 use Rattle.osc_script.specs.declared.proxy_name.ProxyName.{ProxyName}
 use Rattle.hex.specs.Hex.{decode_of}
 use Rattle.hex.specs.declared.error.FromHexError.{FromHexError}
@@ -85,7 +85,7 @@ bytes_in word = if bytes_eq word (codes "-") then Some [] else parts_in (slice_s
 unfoldable pub kept_in : List ℕ → Option (List ℕ)
 kept_in word = option_map (take most_kept) (bytes_in word)
 
--- the bytes, if they are at most so many
+-- the bytes, if they are at most `most`
 unfoldable pub short_bytes_in : ℕ → List ℕ → Option (List ℕ)
 short_bytes_in most word = do
   bytes ← bytes_in word
@@ -128,24 +128,24 @@ proxy_in (letter ∷ digit ∷ []) = if letter == 112 then proxy_with (digit - 4
 proxy_in word = None
 
 -- the client, or else the proxy
-abbrev pub one_named : Option ClientName → Option ProxyName → Option Node
+abbrev pub one_named : Option ClientName → Option ProxyName → Option NodeName
 one_named (Some client) proxy = Some (node.Client client)
 one_named None proxy = proxy >>= λ p. Some (node.Proxy p)
 
-unfoldable pub node_in : List ℕ → Option Node
+unfoldable pub node_in : List ℕ → Option NodeName
 node_in word =
     if bytes_eq word (name_of node.Server) then Some node.Server
     else if bytes_eq word (name_of node.Stranger) then Some node.Stranger
     else one_named (client_in word) (proxy_in word)
 
 -- a node that does something
-abbrev pub unless_stranger : Node → Option Node
+abbrev pub unless_stranger : NodeName → Option NodeName
 unless_stranger node.Server = Some node.Server
 unless_stranger (node.Client client) = Some (node.Client client)
 unless_stranger (node.Proxy proxy) = Some (node.Proxy proxy)
 unless_stranger node.Stranger = None
 
-unfoldable pub worker_in : List ℕ → Option Node
+unfoldable pub worker_in : List ℕ → Option NodeName
 worker_in word = do
   found ← node_in word
   unless_stranger found
@@ -245,7 +245,7 @@ via_in client proxy = do
   proxy ← proxy_in proxy
   Some (Via client proxy)
 
--- the moment of so many milliseconds, by the test that they are few enough
+-- the moment of this number of milliseconds, by the test that they are few enough
 abbrev pub moment_if : (ms : ℕ) (few : Bool) → nat_lt ms (2 ^ 63) ≡ few → Option Moment
 moment_if ms true early = Some (record { ms = ms; early = ltb-true ms (2 ^ 63) early })
 moment_if ms false early = None

@@ -30,12 +30,12 @@ use Rattle.osc_run.specs.{opening_note, Replies as AppliesTo}
 use Rattle.osc_options.specs.{oscore, read_request, value, IsWithinRanges}
 use Rattle.osc_server.specs.State.{State}
 use Rattle.osc_server.specs.Table.{IsOpened, Met, answered, notes_of_request, reply_to}
-use Rattle.osc_server.specs.declared.case.Case.{Case}
-use Rattle.osc_server.specs.declared.case.Case.TheVariants.{OpenGet, Protected}
-use Rattle.osc_server.specs.declared.serving.Served.{Served}
-use Rattle.osc_server.specs.declared.serving.Taken.{Taken}
+use Rattle.osc_server.specs.declared.case.Case.{RequestCase}
+use Rattle.osc_server.specs.declared.case.RequestCase.TheVariants.{OpenGet, Protected}
+use Rattle.osc_server.specs.declared.serving.Served.{SealedAnswer}
+use Rattle.osc_server.specs.declared.serving.ReservedAnswer.{ReservedAnswer}
 
--- a reply with a payload of at most so many bytes
+-- a reply with a payload of at most `most` bytes
 pub record IsReplyOf (most : ℕ) (reply : Reply) : Type 0 where
   pub code : 0 < reply.code.0
   pub etag : ForSome reply.etag (λ tag. length tag ≤ 8)
@@ -67,7 +67,7 @@ message_beside_sealed = 14
 
 -- What was taken once a request had opened, beside the note of its opening: what it asks, what its entry says, and, with these
 -- tags, room for the longest reply that it may get of this tree.
-pub record IsTakenFor (tag : Tags) (tree : Tree) (taken : Taken) : Type 0 where
+pub record IsTakenFor (tag : Tags) (tree : Tree) (taken : ReservedAnswer) : Type 0 where
   pub read : taken.read ≡ read_request taken.note.plaintext
   pub error : IfErr taken.read (λ code. 0 < code.0)
   pub context : taken.context ≡ taken.note.context
@@ -77,7 +77,7 @@ pub record IsTakenFor (tag : Tags) (tree : Tree) (taken : Taken) : Type 0 where
   pub limit : reply_length tree taken.read ≤ longest_payload
 
 -- a protected request that opened, with what was taken of it: under a context that it means, at a fresh number
-pub record IsReady (is_sealing : Sealings) (tag : Tags) (server : Met) (came : Arrival Message) (request : SealedRequest) (taken : Taken) : Type 0 where
+pub record IsReady (is_sealing : Sealings) (tag : Tags) (server : Met) (came : Arrival Message) (request : SealedRequest) (taken : ReservedAnswer) : Type 0 where
   pub held : SecurityContext
   pub opened : IsOpened is_sealing server came request held taken.note.plaintext
   pub noted : taken.note ≡ opening_note held.name request.number taken.note.plaintext
@@ -113,12 +113,12 @@ pub record IsQuiet (endpoint : EndpointState) : Type 0 where
   pub nothing_open : endpoint.sending ≡ []
 
 -- what goes to the tree is a GET
-abbrev pub AsksGet : Case → Type 0
+abbrev pub AsksGet : RequestCase → Type 0
 AsksGet (OpenGet granted) = granted.request.code.0 ≡ method_number Get
 AsksGet case = Unit {0}
 
 -- what goes to a context has this value of OSCORE's option
-abbrev pub HasValue : Message → Case → Type 0
+abbrev pub HasValue : Message → RequestCase → Type 0
 HasValue message (Protected bytes) = value oscore message.options ≡ Some bytes
 HasValue message case = Unit {0}
 
@@ -167,7 +167,7 @@ pub record Opened : Type 0 where
   pub text : List ℕ
 
 -- what becomes of a request that was opened: the tree, and the protected reply, which goes to the peer
-pub record IsReplied (is_sealing : Sealings) (old : Standing) (came : Arrival Message) (opened : Opened) (served : Served) (new : Tree) : Type 0 where
+pub record IsReplied (is_sealing : Sealings) (old : Standing) (came : Arrival Message) (opened : Opened) (served : SealedAnswer) (new : Tree) : Type 0 where
   pub reply : Reply
   pub within : IsWithinRanges reply
   pub applied : AppliesTo old.tree (apply_read old.desk.rules.revoked old.tree opened.held.scope (read_request opened.text)) reply new
@@ -177,7 +177,7 @@ pub record IsReplied (is_sealing : Sealings) (old : Standing) (came : Arrival Me
   pub noted : served.notes ≡ notes_of_request came.at opened.held opened.holder opened.number opened.text reply
 
 -- the same of a request that came protected
-pub record IsServedAs (is_sealing : Sealings) (old : Standing) (came : Arrival Message) (request : SealedRequest) (served : Served) (new : Tree) : Type 0 where
+pub record IsServedAs (is_sealing : Sealings) (old : Standing) (came : Arrival Message) (request : SealedRequest) (served : SealedAnswer) (new : Tree) : Type 0 where
   pub held : SecurityContext
   pub text : List ℕ
   pub opened : IsOpened is_sealing (record { tree = old.tree; table = old.desk.table }) came request held text

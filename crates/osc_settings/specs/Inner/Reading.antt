@@ -1,4 +1,4 @@
--- What the reading of settings comes to, part by part.
+-- What the reading of settings gives, part by part.
 use Rattle.std.specs.Prelude.{◌≡◌, ◌≤◌, ℕ, suc, length, if◌then◌else◌, List, Option, option_and_then, None, is_some, Result, Ok, Err, Vec}
 use Rattle.std.specs.declared.alloc.Global.{Global}
 use Rattle.toml.specs.Data.{Data, Items, Members, get_member, as_str}
@@ -76,7 +76,7 @@ StandForAll Stands items xs = StandForEach Stands items xs.items
 abbrev pub AllListedAt : {X : Type 0} → List ℕ → (Data → X → Type 0) → Members → Vec X Global → Type 0
 AllListedAt key Stands document xs = ListedAt key Stands document xs.items
 
--- each item stands for one of these, and they are at most so many
+-- each item stands for one of these, and they are at most `most`
 abbrev pub StandForFew : {X : Type 0} → ℕ → (Data → X → Type 0) → Items → List X → Type 0
 StandForFew most Stands items xs = StandForEach Stands items xs × (length xs ≤ most)
 

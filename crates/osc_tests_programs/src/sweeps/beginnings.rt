@@ -45,7 +45,7 @@ fn does_nothing(alloc: Global, waiting: &Waiting, digits: &[u8]) -> bool {
     }
 }
 
-/// The digits of the first so many bytes.
+/// The digits of the first `bytes` bytes.
 fn front(digits: &[u8], bytes: usize) -> &[u8] {
     match digits.get(..bytes.saturating_mul(2)) {
         Some(front) => front,

@@ -186,7 +186,7 @@ impl Drawing {
     }
 }
 
-/// A script of so many lines of events.
+/// A script of this number of lines of events.
 pub(crate) fn script(
     alloc: Global,
     draws: &mut Draws,

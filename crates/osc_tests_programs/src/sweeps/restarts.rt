@@ -56,7 +56,7 @@ fn quietly(line: &str) -> &str {
     }
 }
 
-/// The run with a restart of the node after so many of its events. Each datagram of the run comes after it still, or whatever waits
+/// The run with a restart of the node after this number of its events. Each datagram of the run comes after it still, or whatever waits
 /// in its place, and at last whatever waits.
 fn script(
     alloc: Global,

@@ -30,7 +30,7 @@ dates_in d = option_and_then (λ pairs. option_and_then (λ nbf. option_map (λ 
 
 -- ---- input material
 
--- the bytes of a byte string that has so many at least, and no more than 64
+-- the bytes of a byte string that has at least `least`, and no more than 64
 abbrev pub sized : ℕ → DataItem → Option (List ℕ)
 sized least (byte_string bytes) = if nat_lt (length bytes) least || nat_lt 64 (length bytes) then None else Some bytes
 sized least _ = None
@@ -63,7 +63,7 @@ id_context_of (Some d) = option_map Some (sized 0 d)
 abbrev pub algorithm_numbered : ℕ → Option Algorithm
 algorithm_numbered n = if n == 10 then Some EightByteTag else if n == 30 then Some SixteenByteTag else None
 
--- where none is named, AES-CCM-16-64-128
+-- where no algorithm is named, AES-CCM-16-64-128
 abbrev pub alg_of : Option DataItem → Option Algorithm
 alg_of None = Some EightByteTag
 alg_of (Some d) = option_and_then algorithm_numbered (as_unsigned d)

@@ -1,4 +1,4 @@
--- What the reading of words comes to, part by part.
+-- What the reading of words gives, part by part.
 use Rattle.std.specs.Prelude.{◌≡◌, ◌⊎◌, ◌||◌, ℕ, Bool, true, false, List, MatchResult, Option, Result, codes, is_some, not}
 use Rattle.std.specs.Option.{option_map_or}
 use Rattle.std.specs.Str.{bytes_eq}

@@ -10,10 +10,10 @@ use Rattle.osc_client.specs.State.{State as Client}
 use Rattle.osc_proxy.specs.State.{State as Proxy}
 use Rattle.osc_world.specs.Nodes.{NodeStates}
 use Rattle.osc_world.specs.declared.nodes.Placed.{Placed}
-use Rattle.osc_world.specs.declared.nodes.Taken.{Taken}
+use Rattle.osc_world.specs.declared.nodes.StepTaken.{StepTaken}
 
 -- A step of a run: the server's, a client's, a proxy's, or none.
-pub data IsStep (now : Moment) (old : NodeStates) (taken : Option Taken) (new : NodeStates) : Type 0 where
+pub data IsStep (now : Moment) (old : NodeStates) (taken : Option StepTaken) (new : NodeStates) : Type 0 where
   OfNobody : taken ≡ None → new ≡ old → IsStep now old taken new
   OfServer : (step : Step) (server : Server) → ServerStep (core_of_server old.server) now step.notes (core_of_server server)
       → taken ≡ Some (record { at = old.server_at; noted = by_server step.notes; out = step.out })

@@ -1,5 +1,5 @@
 use Rattle.std.proofs.Common.{◌≡◌, ◌++◌, drop, map}
-use Rattle.osc_script.specs.declared.node.Node.TheVariants.{Client}
+use Rattle.osc_script.specs.declared.node.NodeName.TheVariants.{Client}
 use Rattle.osc_diagram.proofs.columns.add_clients.Given as goal
 
 abbrev pub invariant-loop-client : goal.invariant-loop-client

@@ -1,5 +1,5 @@
 use Rattle.std.proofs.Common.{◌≡◌, ◌++◌, drop, map}
-use Rattle.osc_script.specs.declared.node.Node.TheVariants.{Proxy}
+use Rattle.osc_script.specs.declared.node.NodeName.TheVariants.{Proxy}
 use Rattle.osc_diagram.proofs.columns.add_proxies.Given as goal
 
 abbrev pub invariant-loop-proxy : goal.invariant-loop-proxy

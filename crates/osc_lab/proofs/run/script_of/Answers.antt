@@ -7,7 +7,7 @@ returns-in_err-bytes g c =
     let p = err_from_is_err_and c.from_residual.result c.from_residual.ensures.1 in
     rw (p.1, p.2) (record {
       read = tt;
-      heeded = tt;
+      used = tt;
       puts = tt;
       bad = λ n bad. absurd (no_script_line c.in_err-bytes.field-0.0 c.in_err-bytes.ensures.ends n bad);
       long = c.in_err-bytes.ensures.long;

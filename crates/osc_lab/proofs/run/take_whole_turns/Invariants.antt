@@ -3,7 +3,7 @@ use Rattle.osc_lab.specs.Inner.Telling.{Tells, live, network}
 use Rattle.osc_lab.specs.{WholeTurns, learnt}
 use Rattle.osc_lab.proofs.run.take_whole_turns.Given as goal
 
--- so many whole turns were taken, and what clients learnt by them is told
+-- this number of whole turns was taken, and what clients learnt by them is told
 abbrev pub invariant-loop : goal.invariant-loop
 invariant-loop g l = record {
   most : l.counter ≤ l.turns;

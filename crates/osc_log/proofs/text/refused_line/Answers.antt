@@ -1,6 +1,6 @@
 use Rattle.std.proofs.Common.{◌∙◌}
 use Rattle.std.proofs.lemmas.Result.{IfOk-weaker}
-use Rattle.osc_log.specs.Code.{code_text}
+use Rattle.osc_model.specs.{code_text}
 use Rattle.osc_log.proofs.Printing.{refused_pieces}
 use Rattle.osc_log.proofs.text.refused_line.Goals as goal
 

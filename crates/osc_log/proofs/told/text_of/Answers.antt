@@ -7,5 +7,5 @@ pub returns : goal.returns
 returns g c =
     let time = subst (λ now. IsTime now c.time_text-time.result.bytes) c.moment.ensures c.time_text-time.ensures in
     IfOk-weaker c.text_at.result _ _
-    (λ text told. (c.time_text-time.result.bytes, time, told ∙ ap (λ (at : List ℕ). turn_text c.args.form at c.args.seen.now c.args.turn.now (g.N.Holds.held c.args.node.now)) c.as_str.ensures.value))
+    (λ text told. (c.time_text-time.result.bytes, time, told ∙ ap (λ (at : List ℕ). turn_text c.args.form at c.args.seen.now c.args.turn.now (g.N.TellsHeld.held c.args.node.now)) c.as_str.ensures.value))
     c.text_at.ensures

@@ -8,7 +8,8 @@ use Rattle.osc_model.specs.{IsPath}
 use Rattle.osc_coap.specs.{plaintext_spelling, last_number, with_inner_option}
 use Rattle.osc_coap.specs.Plaintext.{Plaintext}
 use Rattle.osc_options.specs.Inner.Merging.{with_inner_options}
-use Rattle.osc_options.specs.{each, segments_of}
+use Rattle.osc_model.specs.{segments_of}
+use Rattle.osc_options.specs.{each}
 use Rattle.osc_options.proofs.AddLaws.{refused, last_number-push}
 use Rattle.osc_options.proofs.WrittenPlaintextLaws.{each_more, each_front, each_all, some_path, behind_first}
 use Rattle.osc_options.proofs.written_plaintext.add_segments.Goals.{At-loop-segment}

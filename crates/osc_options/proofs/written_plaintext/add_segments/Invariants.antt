@@ -1,7 +1,8 @@
 use Rattle.std.proofs.Common.{◌≡◌, ◌≤◌, None, length, drop}
 use Rattle.osc_coap.specs.{last_number}
 use Rattle.osc_options.specs.Inner.Merging.{with_inner_options}
-use Rattle.osc_options.specs.{each, segments_of}
+use Rattle.osc_model.specs.{segments_of}
+use Rattle.osc_options.specs.{each}
 use Rattle.osc_options.proofs.written_plaintext.add_segments.Given as goal
 
 abbrev pub invariant-loop-segment : goal.invariant-loop-segment

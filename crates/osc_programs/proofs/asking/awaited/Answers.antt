@@ -1,6 +1,6 @@
 use Rattle.std.proofs.Common.{[], subst, sym}
 use Rattle.osc_programs.specs.{Waits, at_once, told, Running}
-use Rattle.osc_programs.specs.declared.asking.Outcome.TheVariants.{Told}
+use Rattle.osc_programs.specs.declared.asking.AskEnd.TheVariants.{Told}
 use Rattle.osc_client.specs.State.{State as Client}
 use Rattle.osc_programs.proofs.Taken.{grown_none}
 use Rattle.osc_programs.proofs.asking.awaited.Goals as goal

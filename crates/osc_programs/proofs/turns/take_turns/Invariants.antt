@@ -5,7 +5,7 @@ use Rattle.osc_turn.specs.{grown}
 use Rattle.osc_programs.specs.Turning as spec
 use Rattle.osc_programs.proofs.turns.take_turns.Given as goal
 
--- so many turns were taken, what they sent was handed to the port, the log told of them, and what they changed is kept
+-- this number of turns was taken, what they sent was handed to the port, the log told of them, and what they changed is kept
 abbrev pub invariant-loop : goal.invariant-loop
 invariant-loop g l =
     (l.counter ≤ l.turns) × (out : List Datagram) × (events : List Event)

@@ -4,7 +4,7 @@ use Rattle.osc_context.specs.{algorithm_of}
 use Rattle.osc_protect.specs.{plain_bytes, request_value, response_value}
 use Rattle.osc_protect.proofs.laws.protected_messages_are_longer.Goals as goal
 
--- so many bytes and a tag are no fewer
+-- a text with a tag has no fewer bytes than the text
 with_tag : (text : List ℕ) (tag : ℕ) → length text ≤ length {A = ℕ} (replicate (length text + tag) 0)
 with_tag text tag = omega (arith, length-replicate {A = ℕ} (length text + tag) 0)
 

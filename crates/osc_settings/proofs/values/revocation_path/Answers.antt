@@ -6,7 +6,7 @@ use Rattle.osc_settings.specs.declared.error.ValueError.{ValueError}
 use Rattle.osc_settings.specs.declared.error.ValueError.TheVariants.{Bad, Memory}
 use Rattle.osc_settings.proofs.values.revocation_path.Goals as goal
 
--- what is no path is none of so few segments
+-- what is no path is no path of so few segments
 refused : (text : List ℕ) (error : ValueError) → IsRefusal (SpellsPath text) error → IsRefusal (IsRevocationPath text) error
 refused text Bad none = λ path is. none path (is.0, is.1)
 refused text Memory none = tt

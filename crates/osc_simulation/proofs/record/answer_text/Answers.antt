@@ -1,6 +1,7 @@
 use Rattle.std.proofs.Common.{◌∙◌, ap}
 use Rattle.std.proofs.lemmas.Result.{IfOk-weaker}
-use Rattle.osc_simulation.specs.{code_text, short_text}
+use Rattle.osc_simulation.specs.{short_text}
+use Rattle.osc_model.specs.{code_text}
 use Rattle.osc_simulation.proofs.Printing.{answer_pieces}
 use Rattle.osc_simulation.proofs.record.answer_text.Goals as goal
 

@@ -1,7 +1,8 @@
 use Rattle.std.proofs.Common.{◌∙◌, ap, decimal}
 use Rattle.std.proofs.lemmas.Result.{IfOk-weaker}
 use Rattle.osc_model.specs.declared.context.ContextName.{ContextName}
-use Rattle.osc_simulation.specs.{holder_text, code_text}
+use Rattle.osc_simulation.specs.{holder_text}
+use Rattle.osc_model.specs.{code_text}
 use Rattle.osc_simulation.proofs.Printing.{served_pieces}
 use Rattle.osc_simulation.proofs.record.served_words.Goals as goal
 

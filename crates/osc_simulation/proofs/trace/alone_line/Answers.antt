@@ -1,6 +1,6 @@
 use Rattle.std.proofs.Common.{◌∙◌, decimal}
 use Rattle.std.proofs.lemmas.Result.{IfOk-weaker}
-use Rattle.osc_simulation.specs.{code_text}
+use Rattle.osc_model.specs.{code_text}
 use Rattle.osc_simulation.proofs.Printing.{alone_pieces}
 use Rattle.osc_simulation.proofs.trace.alone_line.Goals as goal
 

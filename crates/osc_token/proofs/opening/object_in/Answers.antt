@@ -1,6 +1,6 @@
 use Rattle.std.proofs.Common.{ap, ◌∙◌, sym, subst}
 use Rattle.osc_cose.specs.{IsObject}
-use Rattle.osc_cose.specs.declared.error.ParseError.TheVariants.{Memory}
+use Rattle.osc_cose.specs.declared.error.ParseEncrypt0Error.TheVariants.{Memory}
 use Rattle.osc_token.specs.{without_cwt_tag}
 use Rattle.osc_token.proofs.OpeningLemmas.{only_of}
 use Rattle.osc_token.proofs.opening.object_in.Goals as goal

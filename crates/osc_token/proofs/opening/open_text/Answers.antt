@@ -1,4 +1,4 @@
-use Rattle.osc_cose.specs.declared.error.OpenError.TheVariants.{Memory}
+use Rattle.osc_cose.specs.declared.error.OpenEncrypt0Error.TheVariants.{Memory}
 use Rattle.osc_token.proofs.OpeningLemmas.{found_of, only_of, both_ok}
 use Rattle.osc_token.proofs.opening.open_text.Goals as goal
 

@@ -1,6 +1,6 @@
 use Rattle.std.proofs.Common.{◌≡◌, ◌≤◌, ◌+◌, ◌++◌, ◌∷◌, [], drop, length, ap, ◌∙◌, arith, length-append}
 use Rattle.std.proofs.lemmas.List.{drop-append-le}
-use Rattle.osc_dedup.specs.declared.table.Noted.{Noted}
+use Rattle.osc_dedup.specs.declared.table.Remembered.{Remembered}
 use Rattle.osc_dedup.specs.{with_note, Key, entries_of}
 use Rattle.osc_dedup.proofs.Keys.{noted_keys}
 use Rattle.osc_dedup.proofs.Places.{live_longer, live_with, gone_with}
@@ -10,7 +10,7 @@ pub invariant_of-self : goal.invariant_of-self
 invariant_of-self c =
     let ready = c.make_ready-gone.ensures.ready in
     let es = c.make_ready-gone.new.kept.entries in
-    let e : Key × Noted = ((c.args.peer, c.args.id), c.args.noted) in
+    let e : Key × Remembered = ((c.args.peer, c.args.id), c.args.noted) in
     let gone = c.make_ready-gone.result.0 in
     let live = c.min-self-inside.result in
     let long : length c.append.new.table.entries ≡ length es + 1 = ap length c.append.ensures.appended ∙ length-append es (e ∷ []) in

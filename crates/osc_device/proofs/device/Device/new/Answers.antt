@@ -1,7 +1,7 @@
 use Rattle.std.proofs.Common.{◌∙◌, ap, rules, arith, sym, subst, ℕ, List}
 use Rattle.osc_model.specs.declared.algorithm.Algorithm.TheVariants.{EightByteTag}
 use Rattle.osc_world.specs.{IsLawful, Refuses, Beginning}
-use Rattle.osc_world.specs.declared.start.Holder.{Holder}
+use Rattle.osc_world.specs.declared.start.NewHolder.{NewHolder}
 use Rattle.osc_device.specs.{own_holder, server_alone}
 use Rattle.osc_device.proofs.FirstOf.{enrolled, granted, is_begun, lawful_parts, one_client, reserved, straight, too_long}
 use Rattle.osc_device.proofs.device.Device.new.Goals as goal
@@ -9,7 +9,7 @@ use Rattle.osc_device.proofs.device.Device.new.Goals as goal
 pub returns-in-Err-clause-refused : goal.returns-in-Err-clause-refused
 returns-in-Err-clause-refused g c =
     subst (λ (s : Beginning). Refuses s (own_holder c.args.parts c.args.own) c.in-Err.error) (c.server_alone-alone.ensures ∙ ap (λ (id : List ℕ). server_alone c.args.parts id) c.in_ok-id.ensures.cases)
-    (subst (λ (h : Holder). Refuses c.server_alone-alone.result h c.in-Err.error) (c.own_holder.ensures c.args.parts (sym c.in_ok-audience.ensures.cases)) c.in-Err.ensures.refused)
+    (subst (λ (h : NewHolder). Refuses c.server_alone-alone.result h c.in-Err.error) (c.own_holder.ensures c.args.parts (sym c.in_ok-audience.ensures.cases)) c.in-Err.ensures.refused)
 
 pub nodes_of-requires : goal.nodes_of-requires
 nodes_of-requires g c =
@@ -30,7 +30,7 @@ returns-clause-begun g c =
 pub returns-clause-granted : goal.returns-clause-granted
 returns-clause-granted g c =
     let begun = returns-clause-begun g c in
-    let lawful = subst (λ (h : Holder). IsLawful h.claims) (c.own_holder.ensures c.args.parts (sym c.in_ok-audience.ensures.cases)) c.in-Ok.ensures.lawful in
+    let lawful = subst (λ (h : NewHolder). IsLawful h.claims) (c.own_holder.ensures c.args.parts (sym c.in_ok-audience.ensures.cases)) c.in-Ok.ensures.lawful in
     let has = lawful_parts c.args.parts c.args.own lawful c.fits.ensures.audience (omega (arith, c.if-len-gt-LONGEST_ID.false, c.len.ensures.len)) c.fits.ensures.scope in (
       begun.enrols.enrolled.entries,
       begun.enrols.enrolled.scope,

@@ -3,7 +3,8 @@ use Rattle.std.proofs.lemmas.Result.{IfOk-weaker}
 use Rattle.hex.specs.Hex.{encode_lower}
 use Rattle.osc_coap.specs.{kind_name}
 use Rattle.osc_diagram.specs.Chart.Capture.{two}
-use Rattle.osc_diagram.specs.Chart.Label.{code_text, oscore_text, token_text}
+use Rattle.osc_diagram.specs.Chart.Label.{oscore_text, token_text}
+use Rattle.osc_model.specs.{code_text}
 use Rattle.osc_diagram.proofs.chart.Lines.{message_pieces}
 use Rattle.osc_diagram.proofs.chart.label.message_text.Goals as goal
 

@@ -4,7 +4,7 @@ use Rattle.osc_lab.specs.Inner.Telling.{live, network}
 use Rattle.osc_lab.specs.{Turns, learnt}
 use Rattle.osc_lab.proofs.nodes.LabNodes.proxy_turns.Given as goal
 
--- so many proxies took their turns, and no client learnt anything
+-- this number of proxies took their turns, and no client learnt anything
 abbrev pub invariant-loop-number : goal.invariant-loop-number
 invariant-loop-number g l = record {
   take : Turns (network g.P.Port.received g.P.Port.sent l.cast.addresses.now) whose.Proxy (live l.initial.self l.initial.means) l.number l.busy (live l.self l.means);

@@ -10,7 +10,7 @@ pub returns-in-Ok : goal.returns-in-Ok
 returns-in-Ok g c =
     let old = c.args.self.now in
     let turn = c.args.turn.now in
-    let held = g.N.Holds.held c.args.node.now in
+    let held = g.N.TellsHeld.held c.args.node.now in
     let kept = c.tell_dropped.ensures in
     let write = c.write_counting.ensures in
     let told = c.in-Ok.ensures.ok in

@@ -2,7 +2,7 @@ use Rattle.std.proofs.Common.{ℕ, Bool, ◌+◌, ◌≤◌}
 use Rattle.osc_world.specs.{AreWhole, Rounds, Happens, State}
 use Rattle.osc_world.proofs.world.World.rounds.Given as goal
 
--- so many deliveries more from here are, with those so far, a quiet round from the beginning
+-- this number of deliveries more from here is, with those so far, a quiet round from the beginning
 abbrev pub invariant-loop : goal.invariant-loop
 invariant-loop g l = record {
   within : l.counter ≤ l.fn.limit;

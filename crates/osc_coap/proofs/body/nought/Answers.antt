@@ -1,5 +1,0 @@
-use Rattle.std.proofs.lemmas.List.{take-replicate}
-use Rattle.osc_coap.proofs.body.nought.Goals as goal
-
-pub returns : goal.returns
-returns c = take-replicate c.args.size 1152 0 c.requires
