@@ -10,7 +10,7 @@ ghost use Rattle.osc_cbor.specs.declared.error.ReadError.{ReadError as AnyError}
 
 use crate::error::ReadError;
 use crate::heads::Major;
-use crate::keys::Stop;
+use crate::keys::{FEW_KEYS, KEYS_LIMIT, Keys, Stop};
 use crate::pass::pass;
 use crate::reader::{MOST_LEVELS, argument_of, major_of, simple_of, string_of, text_of};
 use crate::tokens::{has_spelled_key, taken};
@@ -108,12 +108,27 @@ fn behind(left: u8, bytes: &[u8]) -> Result<&[u8], ReadError>
 
 /// The bytes after the item at their beginning, with all levels left.
 ///
-/// One pass finds them. Where it can't tell, of items longer than a datagram, each key of a map is compared with those before it.
+/// One pass finds them, with room for the keys of most items; where there are more keys, another one.
 pub(crate) fn behind_first(bytes: &[u8]) -> Result<&[u8], ReadError>
     ensures { Ends (λ x. x.now) result (item_at 9 bytes.now) }
 {
     let mut spelled = ArrayVec::new();
-    let mut keys = ArrayVec::new();
+    let mut keys: Keys<FEW_KEYS> = ArrayVec::new();
+    match pass(MOST_LEVELS, bytes, &mut spelled, &mut keys) {
+        Ok(rest) => Ok(rest),
+        Err(Stop::Fault(fault)) => Err(fault),
+        Err(Stop::Unsure) => behind_many(bytes),
+    }
+}
+
+/// The same with room for the keys of a datagram. Where this can't tell, of items longer than a datagram, each key of a map is compared with
+/// those before it.
+#[inline(never)]
+fn behind_many(bytes: &[u8]) -> Result<&[u8], ReadError>
+    ensures { Ends (λ x. x.now) result (item_at 9 bytes.now) }
+{
+    let mut spelled = ArrayVec::new();
+    let mut keys: Keys<KEYS_LIMIT> = ArrayVec::new();
     match pass(MOST_LEVELS, bytes, &mut spelled, &mut keys) {
         Ok(rest) => Ok(rest),
         Err(Stop::Fault(fault)) => Err(fault),

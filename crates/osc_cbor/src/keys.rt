@@ -17,14 +17,17 @@ use arrayvec::ArrayVec;
 use osc_model::limits::DATAGRAM_LIMIT;
 use std::cmp::Ordering;
 
-/// How many keys there is room for: a key and its value take two bytes.
+/// The most keys of a datagram's maps: a key and its value take two bytes.
 pub(crate) const KEYS_LIMIT: usize = 576;
+
+/// More keys than maps mostly have.
+pub(crate) const FEW_KEYS: usize = 32;
 
 /// Spellings with the shortest heads, one after the other: there is room for those of a datagram.
 pub(crate) type Spelled = ArrayVec<u8, DATAGRAM_LIMIT>;
 
-/// The keys of the maps that are open, those of an inner map after those of an outer one.
-pub(crate) type Keys = ArrayVec<Key, KEYS_LIMIT>;
+/// The keys of the maps that are open, at most `MOST`: those of an inner map after those of an outer one.
+pub(crate) type Keys<const MOST: usize> = ArrayVec<Key, MOST>;
 
 /// A key of a map: where its spelling begins and ends, and its first four bytes as a number.
 #[derive(Clone, Copy, Default)]
@@ -108,7 +111,11 @@ fn piece<'a>(key: &Key, spelled: &'a [u8]) -> &'a [u8]
 }
 
 /// Notes the key whose spelling begins here and ends with what is spelled.
-pub(crate) fn note_key(start: usize, spelled: &[u8], keys: &mut Keys) -> Result<(), Stop>
+pub(crate) fn note_key<const MOST: usize>(
+    start: usize,
+    spelled: &[u8],
+    keys: &mut Keys<MOST>,
+) -> Result<(), Stop>
     ensures { KeyNoted start spelled.now keys.old.items keys.new.items result }
 {
     let end = spelled.len();
@@ -218,7 +225,11 @@ fn judge_from(first: usize, spelled: &[u8], keys: &mut [Key]) -> KeyOrder
 }
 
 /// Takes away the keys from an index on, and tells whether they were apart.
-pub(crate) fn judge(first: usize, spelled: &[u8], keys: &mut Keys) -> KeyOrder
+pub(crate) fn judge<const MOST: usize>(
+    first: usize,
+    spelled: &[u8],
+    keys: &mut Keys<MOST>,
+) -> KeyOrder
     ensures says { Says result (spec.pieces spelled.now (drop first keys.old.items)) }
     ensures front { keys.new.items ≡ take first keys.old.items }
 {

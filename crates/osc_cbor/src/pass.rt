@@ -83,12 +83,12 @@ fn pass_number<'a>(first: u8, rest: &'a [u8], spelled: &mut Spelled) -> Option<&
 
 /// Passes `count` items.
 #[cycle(pass)]
-fn pass_items<'a>(
+fn pass_items<'a, const MOST: usize>(
     left: u8,
     count: u64,
     bytes: &'a [u8],
     spelled: &mut Spelled,
-    keys: &mut Keys,
+    keys: &mut Keys<MOST>,
 ) -> Result<&'a [u8], Stop>
     ensures passed { Passes items_spelling (λ x. x.now) spelled.old.items spelled.new.items result (items_from (item_at left) no_items count bytes.now) }
     ensures grown { Grows spelled.old.items spelled.new.items }
@@ -103,12 +103,12 @@ fn pass_items<'a>(
 
 /// Passes `count` keys, each with its value, and notes the keys. They aren't compared.
 #[cycle(pass)]
-fn pass_each_pair<'a>(
+fn pass_each_pair<'a, const MOST: usize>(
     left: u8,
     count: u64,
     bytes: &'a [u8],
     spelled: &mut Spelled,
-    keys: &mut Keys,
+    keys: &mut Keys<MOST>,
 ) -> Result<&'a [u8], Stop>
     ensures passed { PassesPairs (pieces spelled.new.items (drop (array_vec_len keys.old) keys.new.items)) (λ x. x.now) spelled.old.items spelled.new.items result (pairs_from (item_at left) no_pairs count bytes.now) }
     ensures grown { Grows spelled.old.items spelled.new.items }
@@ -126,12 +126,12 @@ fn pass_each_pair<'a>(
 
 /// Passes `count` keys, each with its value. No key comes twice.
 #[cycle(pass)]
-fn pass_pairs<'a>(
+fn pass_pairs<'a, const MOST: usize>(
     left: u8,
     count: u64,
     bytes: &'a [u8],
     spelled: &mut Spelled,
-    keys: &mut Keys,
+    keys: &mut Keys<MOST>,
 ) -> Result<&'a [u8], Stop>
     ensures passed { Passes pairs_spelling (λ x. x.now) spelled.old.items spelled.new.items result (pairs_from (item_at left) no_pairs count bytes.now) }
     ensures grown { Grows spelled.old.items spelled.new.items }
@@ -149,13 +149,13 @@ fn pass_pairs<'a>(
 /// Passes what follows a head. Items inside have `left` levels left.
 #[cycle(pass)]
 #[tactic(auto, unfolding(crate::specs::Reading::content_at))]
-fn pass_content<'a>(
+fn pass_content<'a, const MOST: usize>(
     left: u8,
     major: Major,
     argument: u64,
     bytes: &'a [u8],
     spelled: &mut Spelled,
-    keys: &mut Keys,
+    keys: &mut Keys<MOST>,
 ) -> Result<&'a [u8], Stop>
     ensures passed { PassesBehind (head_spec.head (major_number major) argument) (λ x. x.now) spelled.old.items spelled.new.items result (content_at (item_at left) major argument bytes.now) }
     ensures grown { Grows spelled.old.items spelled.new.items }
@@ -176,12 +176,12 @@ fn pass_content<'a>(
 #[inline(never)]
 #[cycle(pass)]
 #[tactic(auto, unfolding(crate::specs::Reading::item_at))]
-fn pass_behind<'a>(
+fn pass_behind<'a, const MOST: usize>(
     left: u8,
     first: u8,
     rest: &'a [u8],
     spelled: &mut Spelled,
-    keys: &mut Keys,
+    keys: &mut Keys<MOST>,
 ) -> Result<&'a [u8], Stop>
     ensures passed { Passes spelling (λ x. x.now) spelled.old.items spelled.new.items result (item_at (suc left) (first ∷ rest.now)) }
     ensures grown { Grows spelled.old.items spelled.new.items }
@@ -203,11 +203,11 @@ fn pass_behind<'a>(
 #[inline(always)]
 #[cycle(pass)]
 #[tactic(auto, unfolding(crate::specs::Reading::item_at))]
-pub(crate) fn pass<'a>(
+pub(crate) fn pass<'a, const MOST: usize>(
     left: u8,
     bytes: &'a [u8],
     spelled: &mut Spelled,
-    keys: &mut Keys,
+    keys: &mut Keys<MOST>,
 ) -> Result<&'a [u8], Stop>
     ensures passed { Passes spelling (λ x. x.now) spelled.old.items spelled.new.items result (item_at left bytes.now) }
     ensures grown { Grows spelled.old.items spelled.new.items }
