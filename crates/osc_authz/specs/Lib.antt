@@ -12,6 +12,7 @@ pub mod Client
 pub mod Errors
 pub mod Agreement
 pub mod Granted
+pub mod Enrolling
 pub mod Members
 pub mod Marked
 pub mod Contexts
@@ -25,6 +26,7 @@ pub use Begun.{ClientContextState}
 pub use Client.{Finishes, another_code, equal_ids, made, made_name, no_answer, offered_id}
 pub use Contexts.{AreKept, HasAdded, HasTaken, IsConfirmedOf, IsLive, IsPendingOf, OfToken, confirmed_by, of_token, of_tokens, pending_of}
 pub use Desk.{DeskState}
+pub use Enrolling.{FitAToken, HasScope, IsDeskOf, IsLawful, IsRefusal, IsUngranted, of_mint, of_scope}
 pub use Errors.{post_number}
 pub use Exchange.{IsAnswer, IsPost, answer_item, post_item}
 pub use Granted.{IsSecret, IsShort}

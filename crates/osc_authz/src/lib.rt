@@ -1,5 +1,5 @@
 //! The exchange by which a token becomes a security context, at both ends (RFC 9203 section 4): the server's desk, which
-//! judges what is posted to authz-info and keeps the contexts, and the client's.
+//! judges what is posted to authz-info and keeps the contexts, and the client's. Before it: who is granted what, and his token.
 //!
 //! Generic over the cipher of tokens: all that is known of it is the law of `Aead`.
 #![tactic(auto)]
@@ -10,6 +10,7 @@ mod client;
 mod context;
 mod derivation;
 mod desk;
+mod enrolling;
 mod error;
 mod granted;
 pub mod laws;
@@ -26,6 +27,7 @@ mod token_entry;
 pub use client::{ClientContext, OpenExchange};
 pub use context::ServerContext;
 pub use desk::{DeskParts, ServerDesk};
+pub use enrolling::{EnrollError, Enrolled, enroll};
 pub use error::{FinishError, GrantError, PostError};
 pub use granted::ClientDesk;
 pub use post::{Post, PostAnswer, PostReply};
