@@ -18,7 +18,7 @@ use Rattle.osc_message.specs.{datagram}
 use Rattle.osc_server.specs.Inner.Parts.{IsReady, IsReplied, IsServedAs, IsTakenFor, Standing, noted_by}
 use Rattle.osc_server.specs.State.{State}
 use Rattle.osc_server.specs.{Met, IsOpened, Serves}
-use Rattle.osc_server.specs.declared.serving.Served.{SealedAnswer}
+use Rattle.osc_server.specs.declared.serving.SealedAnswer.{SealedAnswer}
 use Rattle.osc_server.specs.declared.serving.ReservedAnswer.{ReservedAnswer}
 
 -- what serves of this server

@@ -30,7 +30,7 @@ use Rattle.osc_run.specs.{IsOpenOf, IsSealOf, opening_note, reply_note}
 use Rattle.osc_token.specs.{token_note}
 use Rattle.osc_server.specs.{case_of, Answers, AnswersNew, AnswersProtected, Serves, notes_of_post, post_reply, posting, refusal_age, refusal_code, refusal_number, refused_for, reply_to, refused, served, AreTold, IsOpenedOf, IsToldOf, request_came, sealed_now, sent_before, token_came, unprotected}
 use Rattle.osc_server.specs.State.{State}
-use Rattle.osc_server.specs.declared.case.Case.{RequestCase}
+use Rattle.osc_server.specs.declared.case.RequestCase.{RequestCase}
 use Rattle.osc_server.specs.declared.case.RequestCase.TheVariants as case
 
 -- ---- replies without protection have no option 9
@@ -87,7 +87,7 @@ module _ (is_sealing : Sealings)
         message = message;
         spelled = spelled;
         sealed = it.request.sealed;
-        payload = it.opened.meant.is_request.payload;
+        payload = it.opened.meant.is_request.says.payload;
         is_sealed = it.opened.opens;
       } in
       let note = reply_note it.held.name it.request.number it.reply in

@@ -14,7 +14,7 @@ use Rattle.osc_scope.specs.declared.verdict.Verdict.TheVariants.{Granted}
 use Rattle.osc_message.specs.declared.heard.Heard.{Heard}
 use Rattle.osc_message.specs.declared.heard.Heard.TheVariants as heard
 use Rattle.osc_message.specs.{is_confirmable}
-use Rattle.osc_server.specs.declared.case.Case.{RequestCase}
+use Rattle.osc_server.specs.declared.case.RequestCase.{RequestCase}
 use Rattle.osc_server.specs.declared.case.RequestCase.TheVariants.{Unused, BadOption, ProxyAsked, Protected, Posted, NotPosted, OpenGet, Unauthorised}
 
 abbrev pub has_option : ℕ → List NumberAndValue → Bool

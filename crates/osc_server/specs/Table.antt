@@ -36,7 +36,7 @@ use Rattle.osc_authz.specs.declared.post.PostReply.TheVariants.{New, Known}
 use Rattle.osc_run.specs.{opening_note, reply_note, Replies as AppliesTo}
 use Rattle.osc_server.specs.Case.{case_of}
 use Rattle.osc_server.specs.State.{State}
-use Rattle.osc_server.specs.declared.case.Case.{RequestCase}
+use Rattle.osc_server.specs.declared.case.RequestCase.{RequestCase}
 use Rattle.osc_server.specs.declared.case.RequestCase.TheVariants.{Unused, BadOption, ProxyAsked, Protected, Posted, NotPosted, OpenGet, Unauthorised}
 use Rattle.osc_server.specs.declared.refusal.Refusal.{Refusal}
 use Rattle.osc_server.specs.declared.refusal.Refusal.TheVariants.{Malformed, NoContext, Replayed, NotGenuine}

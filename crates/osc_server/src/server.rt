@@ -16,7 +16,7 @@ ghost use Rattle.osc_server.specs.Hearing.{Hears, Ticks};
 ghost use Rattle.osc_server.specs.Inner.Parts.{AnswersBy, DifferAt, FitsAResource, HeardSendsTo, IsMessage, SendsTo, may_change_by, noted_by};
 ghost use Rattle.osc_server.specs.State.{core};
 ghost use Rattle.osc_server.specs.Steps.{again};
-ghost use Rattle.osc_server.specs.Table.{Answers, AnswersNew, AnswersPost, AnswersProtected, AnswersWith, Refuses, Sends, refusal_code, refusal_number, refusal_to as refusal_to_of, refused_for as refused_for_of};
+ghost use Rattle.osc_server.specs.Table.{Answers, AnswersNew, AnswersPost, AnswersProtected, AnswersWith, Refuses, Sends, refusal_code, refusal_number, refusal_to as refusal_to_of, refused_for as refused_for_of, reply_to as reply_to_of};
 
 use crate::Endpoint;
 use crate::answer::{refusal_to, sent_as, sent_reply};

@@ -30,9 +30,9 @@ use Rattle.osc_run.specs.{opening_note, Replies as AppliesTo}
 use Rattle.osc_options.specs.{oscore, read_request, value, IsWithinRanges}
 use Rattle.osc_server.specs.State.{State}
 use Rattle.osc_server.specs.Table.{IsOpened, Met, answered, notes_of_request, reply_to}
-use Rattle.osc_server.specs.declared.case.Case.{RequestCase}
+use Rattle.osc_server.specs.declared.case.RequestCase.{RequestCase}
 use Rattle.osc_server.specs.declared.case.RequestCase.TheVariants.{OpenGet, Protected}
-use Rattle.osc_server.specs.declared.serving.Served.{SealedAnswer}
+use Rattle.osc_server.specs.declared.serving.SealedAnswer.{SealedAnswer}
 use Rattle.osc_server.specs.declared.serving.ReservedAnswer.{ReservedAnswer}
 
 -- a reply with a payload of at most `most` bytes

@@ -20,7 +20,7 @@ pub fill-requires : goal.fill-requires
 fill-requires c =
     let same = c.header_to-header.ensures.header c.args.reply.now in
     let spelled = subst (λ (m : Message). Spells c.write_reply_message.new.out.items m) same c.write_reply_message.ensures in
-    omega (arith, c.requires.room, c.open-sent.ensures.1, ap length spelled.whole)
+    omega (arith, c.requires.room, c.open-sent.ensures.1, ap length spelled.whole, ap length c.from_vec.ensures)
 
 pub returns : goal.returns
 returns c =
@@ -35,4 +35,5 @@ returns c =
     let fits : length c.write_reply_message.new.out.items ≤ 1152 = omega (arith, ap length spelled.whole, size) in
     let from : c.came.inside.from ≡ came.from = ap (λ (a : Arrival Message). a.from) c.came.view_is in
     subst (λ (peer : Peer). IsSentAs peer answer c.fill.result.0 c.fill.result.1) from
-    (sent_once c.came.inside.from answer c.write_reply_message.new.out.items c.fill.result.1 c.fill.result.0 spelled fits ? ?)
+    (sent_once c.came.inside.from answer c.write_reply_message.new.out.items c.fill.result.1 c.fill.result.0 spelled fits
+    (rw c.from_vec.ensures at c.fill.ensures.sent) (c.fill.ensures.noted ∙ c.from_vec.ensures))

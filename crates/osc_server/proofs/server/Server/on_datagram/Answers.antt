@@ -38,9 +38,9 @@ returns-clause-kind g c =
     c.in_ok-heard.heard c.drawn.ensures answers)
     (c.answer-answered.ensures.answered c.args.bytes.now)
 
-both : {T E : Type 0} {P Q : T → Type 0} (result : Result T E) → IfOk result P → IfOk result Q → IfOk result (λ value. P value × Q value)
-both (Ok value) p q = (p, q)
-both (Err error) p q = tt
+both : {T E : Type 0} (P Q : T → Type 0) (result : Result T E) → IfOk result P → IfOk result Q → IfOk result (λ value. P value × Q value)
+both P Q (Ok value) p q = (p, q)
+both P Q (Err error) p q = tt
 
 pub returns-clause-heard : goal.returns-clause-heard
 returns-clause-heard g c =
@@ -58,4 +58,4 @@ returns-clause-heard g c =
       told = told g.A.Ciphers.is_sealing c.what_is_sealed.ensures old came c.in_ok-heard.heard step c.answer-answered.new.self c.in_ok-heard.ensures.alone spelled it.0;
       fits = it.1.fits;
     })
-    (both c.answer-answered.result (c.answer-answered.ensures.answered c.args.bytes.now) c.answer-answered.ensures.sent)
+    (both _ _ c.answer-answered.result (c.answer-answered.ensures.answered c.args.bytes.now) c.answer-answered.ensures.sent)
