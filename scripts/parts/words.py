@@ -9,7 +9,7 @@ from parts.shared import ROOT, Wrong, filled, osc, own, read
 
 MAN = ROOT / "man/osc.1"
 BASH = ROOT / "completion/osc.bash"
-SETTINGS = ROOT / "crates/osc_settings/src"
+SETTINGS = ROOT / "crates/osc_words/src/settings"
 
 
 # ---- what the program tells

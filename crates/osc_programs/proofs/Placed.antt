@@ -9,7 +9,7 @@ use Rattle.osc_model.specs.{path_cmp, is_revoked}
 use Rattle.osc_model.specs.Tree.{Tree}
 use Rattle.osc_model.specs.declared.resource.Resource.{Resource}
 use Rattle.osc_server.specs.State.{State as Server}
-use Rattle.osc_settings.specs.declared.server.ServerSettings.{ServerSettings}
+use Rattle.osc_words.specs.declared.settings.server.ServerSettings.{ServerSettings}
 use Rattle.osc_programs.specs.{AreRevoked}
 use Rattle.osc_programs.specs.Serving.{IsServerOf}
 

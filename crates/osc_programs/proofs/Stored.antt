@@ -1,8 +1,8 @@
 -- How servers end, with a store or without one.
 use Rattle.std.proofs.Common.{◌≡◌, ◌≢◌, ℕ, List, Option, Some, None, refl, subst, sym}
 use Rattle.osc_model.specs.Tree.{Tree}
-use Rattle.osc_settings.specs.declared.resource.ResourceSetting.{ResourceSetting}
-use Rattle.osc_settings.specs.declared.server.ServerSettings.{ServerSettings}
+use Rattle.osc_words.specs.declared.settings.resource.ResourceSetting.{ResourceSetting}
+use Rattle.osc_words.specs.declared.settings.server.ServerSettings.{ServerSettings}
 use Rattle.osc_model.specs.declared.step.Step.{Step}
 use Rattle.osc_server.specs.State.{State as Server}
 use Rattle.osc_run.specs.{Cause}

@@ -1,8 +1,8 @@
 -- Why settings are none, as it is told.
 use Rattle.std.proofs.Common.{inl, ◌≡◌, ◌≢◌, ◌∙◌, sym, subst, ℕ, List, Option, Some, None, IfSome}
 use Rattle.toml.specs.Data.{Members}
-use Rattle.osc_settings.specs.declared.error.SettingsError.{SettingsError}
-use Rattle.osc_settings.specs.declared.error.SettingsError.TheVariants.{Memory}
+use Rattle.osc_words.specs.declared.settings.error.SettingsError.{SettingsError}
+use Rattle.osc_words.specs.declared.settings.error.SettingsError.TheVariants.{Memory}
 use Rattle.osc_log.specs.{Told, Writes}
 use Rattle.osc_programs.specs.{IsUnreadText, IsWhy, TellsWhy}
 use Rattle.osc_programs.specs.declared.ended.Ended.{Ended}

@@ -3,11 +3,11 @@ use Rattle.std.specs.Prelude.{ℕ, List, [], ◌++◌, length, map, Option, Some
 use Rattle.std.specs.List.{flat_map}
 use Rattle.osc_model.specs.{algorithm_number, peer_text}
 use Rattle.osc_model.specs.declared.node.Peer.{Peer}
-use Rattle.osc_settings.specs.declared.client.ClientSettings.{ClientSettings}
-use Rattle.osc_settings.specs.declared.proxy.ProxySettings.{ProxySettings}
-use Rattle.osc_settings.specs.declared.proxy.TargetSetting.{TargetSetting}
-use Rattle.osc_settings.specs.declared.resource.ResourceSetting.{ResourceSetting}
-use Rattle.osc_settings.specs.declared.server.ServerSettings.{ServerSettings}
+use Rattle.osc_words.specs.declared.settings.client.ClientSettings.{ClientSettings}
+use Rattle.osc_words.specs.declared.settings.proxy.ProxySettings.{ProxySettings}
+use Rattle.osc_words.specs.declared.settings.proxy.TargetSetting.{TargetSetting}
+use Rattle.osc_words.specs.declared.settings.resource.ResourceSetting.{ResourceSetting}
+use Rattle.osc_words.specs.declared.settings.server.ServerSettings.{ServerSettings}
 use Rattle.osc_simulation.specs.{line}
 use Rattle.osc_log.specs.{shown_byte}
 

@@ -10,7 +10,7 @@ use Rattle.osc_model.specs.declared.step.Step.{Step}
 use Rattle.osc_message.specs.{fresh}
 use Rattle.osc_client.specs.{Begins, Requests as Asks, acts_at, IsStep, HostAndPort}
 use Rattle.osc_client.specs.State.{State as Client}
-use Rattle.osc_settings.specs.declared.client.ClientSettings.{ClientSettings}
+use Rattle.osc_words.specs.declared.settings.client.ClientSettings.{ClientSettings}
 use Rattle.osc_simulation.specs.{learnt_text, is_sealing, tag_of, line}
 use Rattle.osc_turn.specs.{Gives, IsSeeded, ClockAndRandomState}
 use Rattle.osc_programs.specs.Turning.{Running, TakesTurn}

@@ -13,10 +13,10 @@ use Rattle.osc_proxy.specs.State.{State as Proxy}
 use Rattle.osc_proxy.specs.declared.targets.Target.{Target}
 use Rattle.osc_server.specs.State.{State as Server}
 use Rattle.osc_server.specs.{IsStep as IsStepOfServer, acts as server_acts}
-use Rattle.osc_settings.specs.declared.proxy.ProxySettings.{ProxySettings}
-use Rattle.osc_settings.specs.declared.proxy.TargetSetting.{TargetSetting}
-use Rattle.osc_settings.specs.declared.resource.ResourceSetting.{ResourceSetting}
-use Rattle.osc_settings.specs.declared.server.ServerSettings.{ServerSettings}
+use Rattle.osc_words.specs.declared.settings.proxy.ProxySettings.{ProxySettings}
+use Rattle.osc_words.specs.declared.settings.proxy.TargetSetting.{TargetSetting}
+use Rattle.osc_words.specs.declared.settings.resource.ResourceSetting.{ResourceSetting}
+use Rattle.osc_words.specs.declared.settings.server.ServerSettings.{ServerSettings}
 use Rattle.osc_simulation.specs.{is_sealing}
 use Rattle.osc_programs.specs.Holding.{proxy_held, server_held}
 use Rattle.osc_programs.specs.Turning.{Runs}

@@ -11,8 +11,8 @@ use Rattle.sqlite_trees.specs.View.{View, IsClean}
 use Rattle.sqlite_wal.specs.Recovery.{Image}
 use Rattle.osc_model.specs.Tree.{Tree}
 use Rattle.osc_model.specs.declared.resource.Resource.{Resource}
-use Rattle.osc_settings.specs.declared.resource.ResourceSetting.{ResourceSetting}
-use Rattle.osc_settings.specs.declared.server.ServerSettings.{ServerSettings}
+use Rattle.osc_words.specs.declared.settings.resource.ResourceSetting.{ResourceSetting}
+use Rattle.osc_words.specs.declared.settings.server.ServerSettings.{ServerSettings}
 use Rattle.osc_server.specs.State.{State as Server}
 use Rattle.osc_simulation.specs.{line}
 use Rattle.osc_store.specs.{FindsTree, Keeps}

@@ -4,12 +4,12 @@ use Rattle.std.specs.Str.{IsUtf8}
 use Rattle.toml.specs.Data.{Members}
 use Rattle.osc_log.specs.{IsUnreadText as Unread, Told, Writes, shown_byte}
 use Rattle.osc_log.specs.declared.form.Form.{Form}
-use Rattle.osc_settings.specs.{Lacks, form_of, name_of}
+use Rattle.osc_words.specs.Settings.{Lacks, form_of, name_of}
 use Rattle.osc_programs.specs.Input.{IsBeyond, longest_settings}
-use Rattle.osc_settings.specs.declared.error.KeyFault.{KeyFault}
-use Rattle.osc_settings.specs.declared.error.KeyFault.TheVariants.{Unknown, Missing, Wrong}
-use Rattle.osc_settings.specs.declared.error.SettingsError.{SettingsError}
-use Rattle.osc_settings.specs.declared.error.SettingsError.TheVariants.{NotToml, Key, Target, Memory}
+use Rattle.osc_words.specs.declared.settings.error.KeyFault.{KeyFault}
+use Rattle.osc_words.specs.declared.settings.error.KeyFault.TheVariants.{Unknown, Missing, Wrong}
+use Rattle.osc_words.specs.declared.settings.error.SettingsError.{SettingsError}
+use Rattle.osc_words.specs.declared.settings.error.SettingsError.TheVariants.{NotToml, Key, Target, Memory}
 
 -- ---- the words
 

@@ -5,7 +5,7 @@ ghost use Rattle.osc_programs.specs.Checked as spec;
 
 use osc_log::shown;
 use osc_model::{Bytes, Path, Peer};
-use osc_settings::{
+use osc_words::{
     ClientSettings, ProxySettings, ResourceSetting, ServerSettings, StoreFile, TargetSetting,
 };
 use std::alloc::{AllocError, Global};

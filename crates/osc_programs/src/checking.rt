@@ -5,17 +5,17 @@ ghost use Rattle.osc_programs.specs.Checked as spec;
 ghost use Rattle.osc_programs.specs.Ended as ends;
 ghost use Rattle.osc_programs.specs.Input.{IsWithin, TakesAtMost, longest_settings};
 ghost use Rattle.osc_programs.specs.Unread.{TellsWhy};
-ghost use Rattle.osc_settings.specs.{StandsFor, IsClientFault, IsFaultOfProxy, IsKeyFault, IsServerFault, AreClientSettings, AreProxySettings, AreServerSettings};
-ghost use Rattle.osc_settings.specs.declared.client.ClientSettings.{ClientSettings as AskedBy};
-ghost use Rattle.osc_settings.specs.declared.proxy.ProxySettings.{ProxySettings as ForwardedBy};
-ghost use Rattle.osc_settings.specs.declared.server.ServerSettings.{ServerSettings as ServedBy};
+ghost use Rattle.osc_words.specs.Settings.{StandsFor, IsClientFault, IsFaultOfProxy, IsKeyFault, IsServerFault, AreClientSettings, AreProxySettings, AreServerSettings};
+ghost use Rattle.osc_words.specs.declared.settings.client.ClientSettings.{ClientSettings as AskedBy};
+ghost use Rattle.osc_words.specs.declared.settings.proxy.ProxySettings.{ProxySettings as ForwardedBy};
+ghost use Rattle.osc_words.specs.declared.settings.server.ServerSettings.{ServerSettings as ServedBy};
 
 use crate::checked::{client_text, proxy_text, server_text};
 use crate::ended::Ended;
 use crate::issue::written;
 use crate::reading::{client_settings, proxy_settings, server_settings};
 use osc_log::Log;
-use osc_settings::{ClientSettings, ProxySettings, ServerSettings};
+use osc_words::{ClientSettings, ProxySettings, ServerSettings};
 use std::alloc::Global;
 use std::io::{Read, Write};
 

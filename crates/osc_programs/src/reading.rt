@@ -4,13 +4,13 @@ ghost use Rattle.osc_programs.specs.Ended as ends;
 ghost use Rattle.osc_log.specs.{Writes};
 ghost use Rattle.osc_programs.specs.Input.{IsWithin, TakesAtMost, longest_settings};
 ghost use Rattle.osc_programs.specs.Unread as spec;
-ghost use Rattle.osc_settings.specs.{StandsFor, IsClientFault, IsFaultOfProxy, IsKeyFault, IsServerFault, AreClientSettings, AreProxySettings, AreServerSettings};
+ghost use Rattle.osc_words.specs.Settings.{StandsFor, IsClientFault, IsFaultOfProxy, IsKeyFault, IsServerFault, AreClientSettings, AreProxySettings, AreServerSettings};
 
 use crate::ended::Ended;
 use crate::input::{LONGEST_SETTINGS, bytes_within};
 use crate::unread::{long_words, unread_words};
 use osc_log::Log;
-use osc_settings::{
+use osc_words::{
     ClientSettings, ProxySettings, ServerSettings, SettingsError, read_client_settings,
     read_proxy_settings, read_server_settings,
 };

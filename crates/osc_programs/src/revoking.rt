@@ -13,10 +13,10 @@ use osc_ccm::Suite;
 use osc_model::laws::paths_are_ordered;
 use osc_model::{Bytes, Path, Resource, revoked_path};
 use osc_server::Server;
-use osc_settings::ServerSettings;
 use osc_store::{Forgetful, KeepError};
 use osc_tree::Tree;
 use osc_turn::KeepsSteps;
+use osc_words::ServerSettings;
 use std::alloc::{AllocError, Global};
 use std::io::Eprint;
 

@@ -9,7 +9,7 @@ ghost use Rattle.osc_store.specs.{IsWhole, Keeps, MayLeave};
 ghost use Rattle.sqlite_wal.specs.Files.{image_at};
 ghost use Rattle.osc_model.specs.Tree.{Tree as AnyTree};
 ghost use Rattle.osc_server.specs.State.{State as AnyServer};
-ghost use Rattle.osc_settings.specs.declared.resource.ResourceSetting.{ResourceSetting as AnySetting};
+ghost use Rattle.osc_words.specs.declared.settings.resource.ResourceSetting.{ResourceSetting as AnySetting};
 ghost use Rattle.osc_programs.specs.Ended as ends;
 ghost use Rattle.osc_programs.specs.Serving.{with_resource};
 ghost use Rattle.osc_programs.specs.Storing as spec;
@@ -28,7 +28,6 @@ use osc_ccm::Suite;
 use osc_model::laws::paths_are_ordered;
 use osc_model::{Code, Entry, Path, Resource, StepNotes};
 use osc_server::Server;
-use osc_settings::ResourceSetting;
 use osc_store::{
     FRAMED_LOG, FileKeeper, KeepError, Keeper, Keeping, OpenStoreError, Start, Unknown, Wary,
     draw_mark, read_store,
@@ -36,7 +35,7 @@ use osc_store::{
 use osc_tree::Tree;
 use osc_turn::laws::one_path_changes;
 use osc_turn::{KeepsSteps, keep_change};
-use osc_words::{FileName, StoreWords};
+use osc_words::{FileName, ResourceSetting, StoreWords};
 use sqlite_std_file::FileFrom;
 use sqlite_store::FileStore;
 use std::alloc::{AllocError, Global};

@@ -2,12 +2,12 @@
 ghost use Rattle.std.specs.Prelude.{◌≡◌, ◌++◌, IfOk, codes, decimal, map, string_bytes};
 ghost use Rattle.osc_log.specs.{shown_byte};
 ghost use Rattle.osc_programs.specs.Unread as spec;
-ghost use Rattle.osc_settings.specs.{form_of, name_of};
-ghost use Rattle.osc_settings.specs.declared.error.KeyFault.TheVariants as AnyFault;
-ghost use Rattle.osc_settings.specs.declared.error.SettingsError.TheVariants as AnyError;
+ghost use Rattle.osc_words.specs.Settings.{form_of, name_of};
+ghost use Rattle.osc_words.specs.declared.settings.error.KeyFault.TheVariants as AnyFault;
+ghost use Rattle.osc_words.specs.declared.settings.error.SettingsError.TheVariants as AnyError;
 
 use osc_log::shown;
-use osc_settings::{KeyFault, SettingsError, SettingsKey};
+use osc_words::{KeyFault, SettingsError, SettingsKey};
 use std::alloc::{AllocError, Global};
 
 /// The words of this error: `settings: WHY`, where WHY names the key and says what should be there. Nothing of what is there is in

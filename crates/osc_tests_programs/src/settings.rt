@@ -1,7 +1,5 @@
 //! What is printed of settings, and of why a text isn't settings. Which texts are settings is in examples/cases/settings.
-use osc_settings::{
-    KeyFault, SettingsError, SettingsKey, read_client_settings, read_server_settings,
-};
+use osc_words::{KeyFault, SettingsError, SettingsKey, read_client_settings, read_server_settings};
 use std::test::Fail;
 
 const SERVER: &str =

@@ -1,8 +1,7 @@
 //! What `osc store` prints of a store in a file of the system, as a list or as settings, and the back-up that it writes.
 use osc_model::{Bytes, Path, Resource};
 use osc_programs::{Ended, KeepsServer, Stores, list_store};
-use osc_settings::{ResourceSetting, ServerSettings, read_server_settings};
-use osc_words::{Words, read_words};
+use osc_words::{ResourceSetting, ServerSettings, Words, read_server_settings, read_words};
 use std::alloc::Global;
 use std::test::Fail;
 use std::{fs, str};

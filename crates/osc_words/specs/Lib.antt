@@ -13,6 +13,7 @@ pub mod SimWords
 pub mod StoreWords
 pub mod Command
 pub mod Inner
+pub mod Settings
 pub use Choices.{AreSome, IsNotOne, command_of}
 pub use ClientWords.{AreClientWords, AreRequest, IsPayload, SaysPatience, SaysPayload, SpellsMethod}
 pub use Command.{AreWords, AsksByMethod, HasNotOne, client_app, client_options, lab_app, node_app, program, token_options}

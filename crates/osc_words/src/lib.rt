@@ -10,6 +10,7 @@ mod held;
 mod hidden_option;
 mod named_option;
 mod node_words;
+mod settings;
 mod sim_words;
 mod source;
 mod store_words;
@@ -26,6 +27,11 @@ pub use held::{held_key, held_secret};
 pub use hidden_option::HiddenOption;
 pub use named_option::NamedOption;
 pub use node_words::{LogForm, NodeWords};
+pub use settings::{
+    ClientSettings, KeyFault, ProxySettings, ResourceSetting, ServerSettings, SettingsError,
+    SettingsKey, StoreFile, TargetSetting, read_client_settings, read_proxy_settings,
+    read_server_settings,
+};
 pub use sim_words::{DiagramForm, SimWords};
 pub use source::{FileName, Source};
 pub use store_words::StoreWords;

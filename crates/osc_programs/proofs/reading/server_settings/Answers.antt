@@ -1,6 +1,6 @@
 use Rattle.std.proofs.Common.{inr, subst}
 use Rattle.std.proofs.lemmas.Result.{err_from_is_err_and}
-use Rattle.osc_settings.specs.{IsKeyFault, IsServerFault}
+use Rattle.osc_words.specs.Settings.{IsKeyFault, IsServerFault}
 use Rattle.osc_programs.specs.{IsWhy, TellsWhy}
 use Rattle.osc_programs.proofs.WhyUnread.{tells_why}
 use Rattle.osc_programs.proofs.reading.server_settings.Goals as goal

@@ -1,5 +1,5 @@
 use Rattle.std.proofs.Common.{◌∙◌, ℕ, List, subst}
-use Rattle.osc_settings.specs.declared.resource.ResourceSetting.{ResourceSetting}
+use Rattle.osc_words.specs.declared.settings.resource.ResourceSetting.{ResourceSetting}
 use Rattle.osc_programs.proofs.Stored.{begins_stored, begins_without, kept_serving, kept_stored, kept_without}
 use Rattle.osc_programs.proofs.running.serve_by.Goals as goal
 

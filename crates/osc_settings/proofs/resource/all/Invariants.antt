@@ -1,9 +1,0 @@
-use Rattle.std.proofs.Common.{take}
-use Rattle.toml.specs.View.{items_view}
-use Rattle.osc_settings.specs.Inner.Reading.{StandForAll}
-use Rattle.osc_settings.specs.{IsResourceTable}
-use Rattle.osc_settings.proofs.resource.all.Given as goal
-
--- what the values so far stand for
-abbrev pub invariant-loop-value : goal.invariant-loop-value
-invariant-loop-value l = StandForAll IsResourceTable (items_view (take l.value-index l.values)) l.resources

@@ -1,7 +1,0 @@
-use Rattle.std.proofs.Common.{sym, ◌∙◌}
-use Rattle.toml.specs.View.{table_view}
-use Rattle.osc_settings.proofs.Resources.{or_none}
-use Rattle.osc_settings.proofs.resource.resources.Goals as goal
-
-pub returns-then-has : goal.returns-then-has
-returns-then-has c = or_none (λ xs. xs.items) (table_view c.args.table.now) c.listed.result (sym c.has.ensures ∙ c.if-has.true) c.listed.ensures

@@ -1,9 +1,0 @@
-use Rattle.osc_settings.specs.{IsRevokedId}
-use Rattle.osc_settings.proofs.Few.{are_few, too_many}
-use Rattle.osc_settings.proofs.revoked.few.Goals as goal
-
-pub returns-then-values-gt-MOST_TOKENS : goal.returns-then-values-gt-MOST_TOKENS
-returns-then-values-gt-MOST_TOKENS c = too_many 64 (IsRevokedId c.args.root.now) c.args.values.now c.if-values-gt-MOST_TOKENS.true
-
-pub returns : goal.returns
-returns c = are_few 64 (IsRevokedId c.args.root.now) (λ xs. xs.items) c.args.values.now c.all.result c.if-values-gt-MOST_TOKENS.false c.all.ensures

@@ -1,9 +1,0 @@
-use Rattle.std.proofs.Common.{take}
-use Rattle.toml.specs.View.{items_view}
-use Rattle.osc_settings.specs.Inner.Reading.{StandForAll}
-use Rattle.osc_settings.specs.{IsPathText}
-use Rattle.osc_settings.proofs.server.paths.Given as goal
-
--- what the values so far stand for
-abbrev pub invariant-loop-value : goal.invariant-loop-value
-invariant-loop-value l = StandForAll IsPathText (items_view (take l.value-index l.values)) l.paths

@@ -1,0 +1,18 @@
+use Rattle.std.proofs.Common.{List, Bor}
+use Rattle.toml.specs.View.{items_view, table_view}
+use Rattle.toml.specs.declared.value.Value.{Value}
+use Rattle.osc_words.specs.Settings.{IsRevokedId}
+use Rattle.osc_words.specs.declared.settings.key.SettingsKey.TheVariants as key
+use Rattle.osc_words.proofs.settings.Few.{few_read, no_few}
+use Rattle.osc_words.proofs.settings.Keys.{seen_some, seen_none}
+use Rattle.osc_words.proofs.settings.revoked.listed.Goals as goal
+
+pub returns-in-Some : goal.returns-in-Some
+returns-in-Some c =
+    let there = seen_some (λ (items : Bor (List Value)). items_view items.now) c.items_at.result _ c.in-Some.values c.items_at.ensures c.in-Some.is in
+    few_read key.RevokedIds 64 (IsRevokedId c.args.root.now) (λ xs. xs.items) (table_view c.args.table.now) (items_view c.in-Some.values.now) c.few.result c.read_at.result there c.few.ensures c.read_at.ensures
+
+pub returns-in-None : goal.returns-in-None
+returns-in-None c =
+    let none = seen_none (λ (items : Bor (List Value)). items_view items.now) c.items_at.result _ c.items_at.ensures c.in-None.is in
+    no_few key.RevokedIds 64 (IsRevokedId c.args.root.now) (table_view c.args.table.now) c.untyped_at.result none c.untyped_at.ensures
