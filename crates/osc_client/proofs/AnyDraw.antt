@@ -1,5 +1,4 @@
 -- What a client answers rests on no random bytes.
-use Rattle.std.proofs.Common.{◌≡◌, List, ℕ}
 use Rattle.osc_model.specs.Arrival.{Arrival}
 use Rattle.osc_model.specs.declared.node.Draw.{Draw}
 use Rattle.osc_model.specs.declared.step.Step.{Step}
@@ -7,7 +6,7 @@ use Rattle.osc_ccm.specs.{Sealings}
 use Rattle.osc_coap.specs.Message.{Message}
 use Rattle.osc_client.specs.{AnswersNew}
 use Rattle.osc_client.specs.State.{State}
-use Rattle.osc_client.specs.declared.case.Case.{ResponseCase}
+use Rattle.osc_client.specs.declared.case.ResponseCase.{ResponseCase}
 use Rattle.osc_client.specs.declared.case.ResponseCase.TheVariants.{Refused, Unused, Counted}
 
 pub any_draw : (is_sealing : Sealings) (old : State) (came : Arrival Message) (draw : Draw) (case : ResponseCase) (step : Step) (new : State)

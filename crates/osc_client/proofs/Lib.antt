@@ -1,5 +1,4 @@
 pub mod AnyDraw
-pub mod Around
 pub mod Outcomes
 pub mod Fitting
 pub mod Opened

@@ -17,7 +17,7 @@ use Rattle.osc_model.specs.declared.node.Moment.{Moment}
 use Rattle.osc_ccm.specs.{Sealings}
 use Rattle.osc_client.specs.{case_of, is_ended, Answers, AnswersNew, SendsOne, Settles, refusal}
 use Rattle.osc_client.specs.State.{State}
-use Rattle.osc_client.specs.declared.case.Case.{ResponseCase}
+use Rattle.osc_client.specs.declared.case.ResponseCase.{ResponseCase}
 use Rattle.osc_client.specs.declared.case.ResponseCase.TheVariants.{Refused, Unused, Counted}
 
 sent_by : (from : Peer) (step : Step) (out : List Datagram) → step.out ≡ out → SendsOne from out → SendsOne from step.out

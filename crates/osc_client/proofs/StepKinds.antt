@@ -16,13 +16,13 @@ use Rattle.osc_message.specs.declared.heard.Heard.{Heard}
 use Rattle.osc_message.specs.declared.heard.Heard.TheVariants as heard
 use Rattle.osc_authz.specs.{ClientContextState, Finishes}
 use Rattle.osc_authz.specs.Begun.{Begun}
-use Rattle.osc_run.specs.{Asked, ClientStep, ClientIdle, Ended, IsMade, Lied, ClientState, Nothing, Exchange as OpenExchange, request_note}
+use Rattle.osc_run.specs.{Asked, ClientStep, ClientIdle, Ended, IsMade, ClientState, Nothing, Exchange as OpenExchange, request_note}
 use Rattle.osc_client.specs.Inner.Bounds.{HasContext}
 use Rattle.osc_client.specs.{case_of, is_ended, is_reset, core, opened, outstanding, Answers, AnswersNew, Settles}
 use Rattle.osc_context.specs.{greatest_number}
-use Rattle.osc_ccm.specs.{Sealings, Tags}
+use Rattle.osc_ccm.specs.{Sealings}
 use Rattle.osc_client.specs.State.{State}
-use Rattle.osc_client.specs.declared.case.Case.{ResponseCase}
+use Rattle.osc_client.specs.declared.case.ResponseCase.{ResponseCase}
 use Rattle.osc_client.specs.declared.case.ResponseCase.TheVariants.{Refused as RefusedCase, Unused, Counted}
 use Rattle.osc_client.specs.declared.waiting.Awaited.TheVariants.{Ask}
 use Rattle.osc_client.specs.declared.waiting.Waiting.{Waiting}

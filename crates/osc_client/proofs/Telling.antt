@@ -40,7 +40,7 @@ use Rattle.osc_client.specs.Answering as comes
 use Rattle.osc_client.specs.State.{State}
 use Rattle.osc_client.specs.declared.answering.AnswerEffect.{AnswerEffect}
 use Rattle.osc_client.specs.declared.answering.AnswerEffect.TheVariants as outcome
-use Rattle.osc_client.specs.declared.case.Case.{ResponseCase}
+use Rattle.osc_client.specs.declared.case.ResponseCase.{ResponseCase}
 use Rattle.osc_client.specs.declared.case.ResponseCase.TheVariants as case
 use Rattle.osc_client.specs.declared.waiting.Awaited.{Awaited}
 use Rattle.osc_client.specs.declared.waiting.Awaited.TheVariants.{Exchange, Ask}

@@ -1,18 +1,17 @@
 -- Messages to a server behind a proxy: what is encrypted of them.
-use Rattle.std.proofs.Common.{◌≡◌, ℕ, ◌+◌, ◌-◌, ◌<◌, ◌≤◌, Bool, true, false, ◌==◌, nat_lt, if◌then◌else◌, List, [], ◌∷◌, ◌++◌, length, Option, Some, None, Result, Ok, Err, codes, refl, sym, ap, ap₂, subst, ◌∙◌, append_assoc, arith, inl, inr}
+use Rattle.std.proofs.Common.{◌≡◌, ℕ, ◌≤◌, Bool, true, false, ◌==◌, if◌then◌else◌, List, [], ◌∷◌, ◌++◌, length, Option, Some, None, codes, refl, sym, ap, ap₂, subst, ◌∙◌, append_assoc, arith, inl, inr}
 use Rattle.std.specs.Prelude.{filter}
-use Rattle.std.specs.Result.{IsErr, IsOk}
-use Rattle.std.proofs.lemmas.Bool.{both_ways, cases_Bool, cases_lt, eqb-true, lt-ltb, le-ltb}
+use Rattle.std.proofs.lemmas.Bool.{cases_Bool}
 use Rattle.std.proofs.lemmas.List.Elements.{filter-append}
 use Rattle.osc_model.specs.declared.request.Request.{Request}
-use Rattle.osc_coap.specs.{NumberAndValue, spelling, bare, extension_length, option_length, options_length, spelled_length}
+use Rattle.osc_coap.specs.{NumberAndValue, spelling, bare, spelled_length}
 use Rattle.osc_coap.specs.Message.{Message}
 use Rattle.osc_coap.specs.declared.kind.Kind.{Kind}
 use Rattle.osc_coap.specs.declared.kind.Kind.TheVariants.{Confirmable}
 use Rattle.osc_coap.specs.Plaintext.{Plaintext}
 use Rattle.osc_options.specs.declared.table.Class.TheVariants.{E}
 use Rattle.osc_model.specs.{segments_of}
-use Rattle.osc_options.specs.{uint_bytes, each, none_match_options, path_options, request_options, uint_options, with_request, request_plaintext, AreInOrder, has_oscore, inner_options, insert, merge, of_number, outer_options, plaintext_of, same_class, unprotected, class_of}
+use Rattle.osc_options.specs.{uint_bytes, each, none_match_options, path_options, request_options, uint_options, with_request, request_plaintext, AreInOrder, has_oscore, inner_options, merge, of_number, outer_options, plaintext_of, same_class, unprotected, class_of}
 use Rattle.osc_client.specs.{plain_request, post_with, HostAndPort, proxy_options, through}
 
 -- ---- the laws that this is on

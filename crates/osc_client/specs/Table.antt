@@ -18,7 +18,7 @@ use Rattle.osc_client.specs.Answering.{Comes, CountsInMemory, context_after, not
 use Rattle.osc_client.specs.Case.{case_of, is_ended}
 use Rattle.osc_client.specs.State.{State}
 use Rattle.osc_client.specs.declared.answering.AnswerEffect.{AnswerEffect}
-use Rattle.osc_client.specs.declared.case.Case.{ResponseCase}
+use Rattle.osc_client.specs.declared.case.ResponseCase.{ResponseCase}
 use Rattle.osc_client.specs.declared.case.ResponseCase.TheVariants.{Refused, Unused, Counted}
 use Rattle.osc_client.specs.declared.waiting.Waiting.{Waiting}
 

@@ -22,7 +22,7 @@ use Rattle.osc_model.specs.declared.node.Moment.{Moment}
 use Rattle.osc_proxy.specs.{ended_by, first_key, is_named, goes_now, sends_own, Answers, AnswersNew, FitsBy, ForwardsBy, IsForwarded, IsRefused, Settles, answer_for, back_sends, counted, forwarded_by, key_for, named, bad_gateway, taken_up}
 use Rattle.osc_proxy.specs.State.{State}
 use Rattle.osc_proxy.specs.Passage.{Passage}
-use Rattle.osc_proxy.specs.declared.case.Case.{ForwardCase}
+use Rattle.osc_proxy.specs.declared.case.ForwardCase.{ForwardCase}
 use Rattle.osc_proxy.specs.declared.case.ForwardCase.TheVariants.{Refused, Forwarded, Counted, Unused}
 use Rattle.osc_proxy.proofs.Ending.{one_back}
 

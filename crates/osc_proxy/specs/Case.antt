@@ -10,9 +10,9 @@ use Rattle.osc_message.specs.{is_confirmable}
 use Rattle.osc_proxy.specs.Exchanges.{Table, answers, first_key}
 use Rattle.osc_proxy.specs.ProxyUri.{HostAndPort}
 use Rattle.osc_proxy.specs.Route.{route}
-use Rattle.osc_proxy.specs.declared.case.Case.{ForwardCase}
+use Rattle.osc_proxy.specs.declared.case.ForwardCase.{ForwardCase}
 use Rattle.osc_proxy.specs.declared.case.ForwardCase.TheVariants.{Refused, Forwarded, Counted, Unused}
-use Rattle.osc_proxy.specs.declared.route.Route.{Destination}
+use Rattle.osc_proxy.specs.declared.route.Destination.{Destination}
 use Rattle.osc_proxy.specs.declared.route.Destination.TheVariants.{BadOption, NotFound, NotSupported, To}
 use Rattle.osc_proxy.specs.declared.targets.Target.{Target}
 

@@ -6,7 +6,7 @@ use Rattle.osc_coap.specs.{NumberAndValue}
 use Rattle.osc_options.specs.{proxy_scheme, proxy_uri, uri_host, uri_port, has_unrecognised_unsafe, recognised, uint, value}
 use Rattle.osc_proxy.specs.ProxyUri.{HostAndPort, Reads}
 use Rattle.osc_proxy.specs.Targets.{peer_of}
-use Rattle.osc_proxy.specs.declared.route.Route.{Destination}
+use Rattle.osc_proxy.specs.declared.route.Destination.{Destination}
 use Rattle.osc_proxy.specs.declared.route.Destination.TheVariants.{BadOption, NotFound, NotSupported, To}
 use Rattle.osc_proxy.specs.declared.targets.Target.{Target}
 

@@ -25,7 +25,7 @@ use Rattle.osc_proxy.specs.ProxyUri.{HostAndPort}
 use Rattle.osc_proxy.specs.Route.{Names}
 use Rattle.osc_proxy.specs.State.{State}
 use Rattle.osc_options.specs.{has_unrecognised_unsafe}
-use Rattle.osc_proxy.specs.declared.case.Case.{ForwardCase}
+use Rattle.osc_proxy.specs.declared.case.ForwardCase.{ForwardCase}
 use Rattle.osc_proxy.specs.declared.case.ForwardCase.TheVariants.{Refused, Forwarded, Counted, Unused}
 use Rattle.osc_proxy.specs.declared.exchanges.Exchange.{Exchange}
 

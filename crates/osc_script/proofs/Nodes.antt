@@ -7,7 +7,7 @@ use Rattle.std.proofs.lemmas.Slice.Eq.{bytes_eq-Decides}
 use Rattle.osc_model.specs.declared.code.Method.{Method}
 use Rattle.osc_model.specs.declared.code.Method.TheVariants as method
 use Rattle.osc_script.specs.declared.client_name.ClientName.{ClientName}
-use Rattle.osc_script.specs.declared.node.Node.{NodeName}
+use Rattle.osc_script.specs.declared.node.NodeName.{NodeName}
 use Rattle.osc_script.specs.declared.node.NodeName.TheVariants.{Server, Client, Proxy, Stranger}
 use Rattle.osc_script.specs.declared.proxy_name.ProxyName.{ProxyName}
 use Rattle.osc_model.specs.declared.node.Peer.{Peer}

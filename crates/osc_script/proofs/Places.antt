@@ -6,7 +6,7 @@ use Rattle.std.proofs.lemmas.List.Folds.{list_any-append}
 use Rattle.std.proofs.lemmas.List.Sums.{sum_by-append}
 use Rattle.osc_script.specs.declared.client_name.ClientName.{ClientName}
 use Rattle.osc_script.specs.declared.line.Line.{Line}
-use Rattle.osc_script.specs.declared.place.Place.{LinesAbove}
+use Rattle.osc_script.specs.declared.place.LinesAbove.{LinesAbove}
 use Rattle.osc_script.specs.declared.proxy_name.ProxyName.{ProxyName}
 use Rattle.osc_script.specs.{grants, is_event, is_put, is_revocation, makes, moment_after, moment_behind, routes}
 use Rattle.osc_script.specs.Inner.Place.{IsPlace}

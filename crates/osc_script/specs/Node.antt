@@ -3,7 +3,7 @@ use Rattle.std.specs.Prelude.{ℕ, ◌+◌, List, [], ◌∷◌, codes}
 use Rattle.osc_model.specs.{default_port, v4_peer}
 use Rattle.osc_model.specs.declared.node.Peer.{Peer}
 use Rattle.osc_script.specs.declared.client_name.ClientName.{ClientName}
-use Rattle.osc_script.specs.declared.node.Node.{NodeName}
+use Rattle.osc_script.specs.declared.node.NodeName.{NodeName}
 use Rattle.osc_script.specs.declared.node.NodeName.TheVariants.{Server, Client, Proxy, Stranger}
 use Rattle.osc_script.specs.declared.proxy_name.ProxyName.{ProxyName}
 

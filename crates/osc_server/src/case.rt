@@ -1,5 +1,5 @@
 //! Which case a new message is.
-ghost use Rattle.std.specs.Prelude.{◌≡◌, option_map, if◌then◌else◌, IfOk, OnErr};
+ghost use Rattle.std.specs.Prelude.{◌≡◌, option_map, IfOk, OnErr};
 ghost use Rattle.osc_server.specs.Case as spec;
 ghost use Rattle.osc_coap.specs.Message.{Message as AnyMessage};
 ghost use Rattle.osc_server.specs.Inner.Parts.{AsksGet, HasValue};

@@ -1,5 +1,5 @@
-//! A resource server: CoAP (RFC 7252), tokens at authz-info (RFC 9203) and OSCORE (RFC 8613). One datagram in, its step out. `specs/Case.antt` says which case a datagram is,
-//! and `specs/Table.antt` what is sent in each, and kept after it.
+//! A resource server: CoAP (RFC 7252), tokens at authz-info (RFC 9203) and OSCORE (RFC 8613). One datagram in, its step out.
+//! `specs/Case.antt` says which case a datagram is, and `specs/Table.antt` what is sent in each, and kept after it.
 #![tactic(auto)]
 
 mod answer;

@@ -1,8 +1,8 @@
 //! The server.
-ghost use Rattle.std.specs.Prelude.{◌≡◌, ◌≤◌, ◌<◌, ℕ, List, [], ◌∷◌, length, false, true, IsOk, IfOk, None, OnErr, Some, option_map};
+ghost use Rattle.std.specs.Prelude.{◌≡◌, ◌≤◌, ◌<◌, ℕ, List, length, false, true, IfOk, None, OnErr, Some, option_map};
 ghost use Rattle.std.specs.List.{All};
 ghost use Rattle.osc_authz.specs.{AreMarked, IsTable, KeepsPlace};
-ghost use Rattle.osc_coap.specs.{Spells, spelling};
+ghost use Rattle.osc_coap.specs.{Spells};
 ghost use Rattle.osc_coap.specs.Message.{Message};
 ghost use Rattle.osc_message.specs.{fresh, AnswersAlone, heard as heard_as, Receives, FitsDatagram, datagram, is_confirmable as is_confirmable_of, rejection as rejection_of, acts};
 ghost use Rattle.osc_message.specs.declared.received.Received.{Received as AnyReceived};

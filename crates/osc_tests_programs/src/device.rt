@@ -483,3 +483,66 @@ fn a_device_goes_on_with_what_was_kept(rt: HostRuntime) -> Result<(), Fail> {
     }
     Ok(())
 }
+
+// ---- without memory
+
+/// The device's own calls that change `/log`, each made again where memory was refused; whether all are made. They aren't where the store itself
+/// failed.
+fn changes<K: Keeping>(
+    alloc: Global,
+    device: &mut KeptDevice<K>,
+    guest: &mut Client,
+) -> Result<bool, CallError> {
+    for number in [2, 3, 6] {
+        if calls(alloc, device, guest, number).is_err() {
+            if device.unkept().is_some() {
+                return Ok(false);
+            }
+            calls(alloc, device, guest, number)?;
+        }
+    }
+    Ok(true)
+}
+
+/// Whether a tree has at `/log` what the other has there.
+fn agrees(alloc: Global, tree: &Tree, other: &Tree) -> Result<bool, AllocError> {
+    let path = log(alloc)?;
+    Ok(match (tree.get(&path), other.get(&path)) {
+        (Some(one), Some(two)) => one.payload.as_slice() == two.payload.as_slice(),
+        (None, None) => true,
+        _ => false,
+    })
+}
+
+/// A device that changes `/log` over this store: whether all was kept, the tree that it answered from, and the files that it leaves.
+fn changed_over<D: Disk + Drop>(
+    alloc: Global,
+    store: FileStore<D>,
+    tree: Tree,
+) -> Result<(Files<D>, bool, Tree), Fail> {
+    let mut device = device(alloc, Keeper::new(alloc, store), tree)?;
+    let mut guest = client(alloc, own(1, GET_AND_POST), straight())?;
+    opens(alloc, &mut device, 1)?;
+    let all = changes(alloc, &mut device, &mut guest)?;
+    drop(guest);
+    let answered = device.device().server().tree().copy(alloc)?;
+    Ok((closed(device), all, answered))
+}
+
+/// Run with each allocation refused in turn: a change is made and kept, or it isn't made, and the device goes on.
+#[test]
+fn a_change_without_memory(rt: HostRuntime) -> Result<(), Fail> {
+    let alloc = rt.alloc();
+    let files = pair(alloc, b"", b"")?;
+    let Ok((store, tree)) = open_files(alloc, files, 7) else {
+        return Ok(());
+    };
+    let (files, all, answered) = changed_over(alloc, store, tree)?;
+    match open_files(alloc, files, 8) {
+        Ok((_store, found)) => {
+            assert!(&rt; !all || agrees(alloc, &found, &answered)?);
+            Ok(())
+        }
+        Err((error, _left)) => Err(Fail::from(error)),
+    }
+}

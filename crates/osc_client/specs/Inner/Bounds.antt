@@ -12,7 +12,7 @@ use Rattle.osc_protect.specs.{plain_bytes, request_length}
 use Rattle.osc_protect.specs.declared.request.RequestSize.{RequestSize}
 use Rattle.osc_context.specs.{greatest_number}
 use Rattle.osc_client.specs.Case.{counts}
-use Rattle.osc_client.specs.declared.case.Case.{ResponseCase}
+use Rattle.osc_client.specs.declared.case.ResponseCase.{ResponseCase}
 use Rattle.osc_client.specs.declared.case.ResponseCase.TheVariants.{Counted}
 use Rattle.osc_client.specs.declared.answering.AnswerEffect.{AnswerEffect}
 use Rattle.osc_client.specs.declared.answering.AnswerEffect.TheVariants.{Stays}

@@ -2,7 +2,7 @@
 use Rattle.osc_log.specs.Line as spec
 use Rattle.osc_log.specs.Line.{Growing}
 use Rattle.osc_log.specs.Inner.Objects.{members_of}
-use Rattle.osc_log.specs.declared.line.Line.{LogLine}
+use Rattle.osc_log.specs.declared.line.LogLine.{LogLine}
 use Rattle.osc_log.specs.declared.line.LogLine.TheVariants.{Text, Json}
 
 abbrev pub line_of : LogLine → Growing

@@ -8,7 +8,7 @@ use Rattle.osc_coap.specs.declared.kind.Kind.TheVariants.{Acknowledgement, Reset
 use Rattle.osc_message.specs.declared.heard.Heard.{Heard}
 use Rattle.osc_message.specs.declared.heard.Heard.TheVariants.{Message}
 use Rattle.osc_proxy.specs.Exchanges.{Table, answers, get, is_named}
-use Rattle.osc_proxy.specs.declared.case.Case.{ForwardCase}
+use Rattle.osc_proxy.specs.declared.case.ForwardCase.{ForwardCase}
 use Rattle.osc_proxy.specs.declared.case.ForwardCase.TheVariants.{Refused, Forwarded, Counted, Unused}
 use Rattle.osc_proxy.specs.declared.exchanges.Exchange.{Exchange}
 

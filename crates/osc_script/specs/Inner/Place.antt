@@ -4,7 +4,7 @@ use Rattle.std.specs.List.{list_any}
 use Rattle.osc_script.specs.Line.{grants, is_event, is_put, is_revocation, makes, moment_after, routes}
 use Rattle.osc_script.specs.declared.line.Line.{Line}
 use Rattle.osc_script.specs.declared.client_name.ClientName.{ClientName}
-use Rattle.osc_script.specs.declared.place.Place.{LinesAbove}
+use Rattle.osc_script.specs.declared.place.LinesAbove.{LinesAbove}
 use Rattle.osc_script.specs.declared.proxy_name.ProxyName.{ProxyName}
 
 -- what is kept is so of the lines above

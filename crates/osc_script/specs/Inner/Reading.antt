@@ -20,7 +20,7 @@ use Rattle.osc_script.specs.declared.line.Change.{Change}
 use Rattle.osc_script.specs.declared.line.Line.{Line}
 use Rattle.osc_script.specs.declared.line.Line.TheVariants.{Put, Open, Revoked, Proxy, Via, At, Draw, Drop, Skip, Exchange, Ask, Tick, Restart, Deliver, Alter, Graft, Inject, Lie, Quiet}
 use Rattle.osc_script.specs.declared.client_name.ClientName.{ClientName}
-use Rattle.osc_script.specs.declared.node.Node.{NodeName}
+use Rattle.osc_script.specs.declared.node.NodeName.{NodeName}
 use Rattle.osc_script.specs.declared.node.NodeName.TheVariants as node
 use Rattle.osc_script.specs.declared.proxy_name.ProxyName.{ProxyName}
 use Rattle.hex.specs.Hex.{decode_of}

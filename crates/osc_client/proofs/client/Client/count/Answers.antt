@@ -2,7 +2,8 @@ use Rattle.std.proofs.Common.{rules, ◌≡◌, ◌∙◌, ap, refl, subst, sym,
 use Rattle.std.specs.Result.{IsErr}
 use Rattle.osc_coap.specs.Message.{Message}
 use Rattle.osc_model.specs.Arrival.{Arrival}
-use Rattle.osc_client.specs.{IsRead, is_read, counts}
+use Rattle.osc_client.specs.{is_read, counts}
+use Rattle.osc_client.specs.Answering.{IsRead}
 use Rattle.osc_client.specs.Inner.Bounds.{KeepsOwn}
 use Rattle.osc_client.proofs.Own.{counted_gone, has_after, own_none}
 use Rattle.osc_client.proofs.Outcomes.{grant_after}

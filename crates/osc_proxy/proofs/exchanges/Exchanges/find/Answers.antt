@@ -1,7 +1,6 @@
-use Rattle.std.proofs.Common.{◌≡◌, ◌∷◌, drop, true, false, Some, None, ap, sym, ◌∙◌, subst}
-use Rattle.std.specs.Prelude.{option_copied}
+use Rattle.std.proofs.Common.{◌≡◌, drop, false, sym, ◌∙◌, subst}
 use Rattle.std.proofs.lemmas.Option.{same_Some}
-use Rattle.osc_proxy.specs.{HasOwnTokens, answers, get}
+use Rattle.osc_proxy.specs.{HasOwnTokens, answers}
 use Rattle.osc_proxy.specs.declared.exchanges.Exchange.{Exchange}
 use Rattle.osc_proxy.proofs.Tokens.{first_of, found_by_own, none_elsewhere, none_of, none_without}
 use Rattle.osc_proxy.proofs.exchanges.Exchanges.find.Goals as goal

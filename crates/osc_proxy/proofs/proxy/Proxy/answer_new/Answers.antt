@@ -4,7 +4,7 @@ use Rattle.osc_proxy.specs.{IsNewAnswered, case_of, Names, AnswersNew}
 use Rattle.osc_coap.specs.Message.{Message}
 use Rattle.osc_model.specs.Arrival.{Arrival}
 use Rattle.osc_proxy.specs.State.{State}
-use Rattle.osc_proxy.specs.declared.case.Case.{ForwardCase}
+use Rattle.osc_proxy.specs.declared.case.ForwardCase.{ForwardCase}
 use Rattle.osc_proxy.proofs.proxy.Proxy.answer_new.Goals as goal
 
 weaker : {T E : Type 0} (r : Result T E) (P Q : Type 0) → (P → Q) → OnErr r P → OnErr r Q

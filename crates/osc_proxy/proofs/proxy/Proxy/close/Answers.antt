@@ -1,6 +1,5 @@
-use Rattle.std.proofs.Common.{◌≡◌, ◌+◌, ◌++◌, true, false, refl, ap, sym, ◌∙◌, subst, Some, None}
+use Rattle.std.proofs.Common.{◌≡◌, ◌++◌, true, false, refl, ap, sym, ◌∙◌, subst, Some, None}
 use Rattle.std.specs.Option.{option_to_list}
-use Rattle.std.specs.Prelude.{OnSome}
 use Rattle.osc_message.specs.{is_named as names_message, EndpointState, acknowledged_by, settled, AreSendable, FitsDatagram, acknowledgement, sent_to}
 use Rattle.osc_message.specs.declared.handling.Handling.TheVariants as handling
 use Rattle.osc_message.specs.declared.heard.Heard.TheVariants as heard

@@ -1,12 +1,11 @@
-use Rattle.std.proofs.Common.{◌≡◌, ℕ, ◌+◌, [], ◌++◌, true, false, nat_eq, ◌&&◌, refl, ap, sym, ◌∙◌, subst, Some, None}
-use Rattle.std.specs.Option.{option_to_list}
+use Rattle.std.proofs.Common.{◌≡◌, ℕ, ◌+◌, true, false, nat_eq, ◌&&◌, refl, ap, sym, ◌∙◌, subst, Some, None}
 use Rattle.std.specs.Prelude.{OnSome}
 use Rattle.std.proofs.lemmas.Bool.{and_parts, eqb-true}
 use Rattle.osc_coap.specs.{HasSpelling, spelling}
 use Rattle.osc_coap.specs.Message.{Message}
 use Rattle.osc_model.specs.Arrival.{Arrival}
 use Rattle.osc_model.specs.{code, sends, same_peer}
-use Rattle.osc_message.specs.{is_named as names_message, EndpointState, own_id, OutboxState}
+use Rattle.osc_message.specs.{is_named as names_message, EndpointState, own_id}
 use Rattle.osc_proxy.specs.{EachHasItsExchange, is_request, Changes, count, get, back_kept, back_sends, failure, named, next_own, bad_gateway}
 use Rattle.osc_proxy.specs.Inner.Going.{IsOwn, back_kept_by}
 use Rattle.osc_proxy.specs.State.{State}
