@@ -177,9 +177,7 @@ impl Server {
         drawn(draw);
         self.desk.has_a_table();
         let heard = self.hear(alloc, now, from, bytes)?;
-        let answered = self.answer::<A>(alloc, now, from, draw, heard);
-        self.desk.has_a_table();
-        answered
+        self.answer::<A>(alloc, now, from, draw, heard)
     }
 
     /// What these bytes are to the message layer.
@@ -211,26 +209,33 @@ impl Server {
         requires { HeardSendsTo from heard }
         ensures answered { (bytes : List ℕ)
             → IfOk result (λ step. Answers A.is_sealing self.old (record { at = now; from = from; draw = draw.now; what = bytes }) heard.entry step self.new) }
+        ensures table { IfOk result (λ _. IsTable self.new.desk.table) }
         ensures sent { IfOk result (λ step. SendsTo from step.out) }
         ensures same { self.new.open_scope ≡ self.old.open_scope }
         ensures err { OnErr result (self.new ≡ self.old) }
         ensures needs_memory { OnErr result (IsAnswered self.old.open_scope heard.entry) }
     {
         match heard {
-            Heard::Alone(out) => return Ok(Step::sending(out)),
+            Heard::Alone(out) => {
+                self.desk.has_a_table();
+                return Ok(Step::sending(out));
+            }
             Heard::Empty(kind, id) => {
                 self.endpoint.settle_empty(now, from, kind, id);
-                Ok(Step::sending(Datagrams::new(alloc)))
+                self.desk.has_a_table();
+                return Ok(Step::sending(Datagrams::new(alloc)));
             }
-            Heard::Message(message) => self.answer_new::<A>(
-                alloc,
-                Arrival {
-                    at: now,
-                    from,
-                    draw,
-                    message,
-                },
-            ),
+            Heard::Message(message) => {
+                return self.answer_new::<A>(
+                    alloc,
+                    Arrival {
+                        at: now,
+                        from,
+                        draw,
+                        message,
+                    },
+                );
+            }
         }
     }
 
@@ -241,6 +246,7 @@ impl Server {
         came: Arrival<'_>,
     ) -> Result<Step, AllocError>
         ensures answered { IfOk result (λ step. AnswersNew A.is_sealing self.old came.entry (case_in self.old.open_scope came.entry.what) step self.new) }
+        ensures table { IfOk result (λ _. IsTable self.new.desk.table) }
         ensures sent { IfOk result (λ step. SendsTo came.entry.from step.out) }
         ensures same { self.new.open_scope ≡ self.old.open_scope }
         ensures err { OnErr result (self.new ≡ self.old) }
@@ -248,17 +254,24 @@ impl Server {
     {
         let mut place = None;
         match case_of(alloc, &self.open_scope, &came.message, &mut place)? {
-            RequestCase::Unused => reject(alloc, &came),
-            RequestCase::BadOption => self.refuse(alloc, came, Code::BAD_OPTION),
-            RequestCase::ProxyAsked => self.refuse(alloc, came, Code::PROXYING_NOT_SUPPORTED),
-            RequestCase::Protected(value) => self.protected::<A>(alloc, came, &value),
-            RequestCase::Posted => self.posted::<A>(alloc, came),
-            RequestCase::NotPosted => self.refuse(alloc, came, Code::METHOD_NOT_ALLOWED),
+            RequestCase::Unused => {
+                self.desk.has_a_table();
+                return reject(alloc, &came);
+            }
+            RequestCase::BadOption => return self.refuse(alloc, came, Code::BAD_OPTION),
+            RequestCase::ProxyAsked => return self.refuse(
+                alloc,
+                came,
+                Code::PROXYING_NOT_SUPPORTED,
+            ),
+            RequestCase::Protected(value) => return self.protected::<A>(alloc, came, &value),
+            RequestCase::Posted => return self.posted::<A>(alloc, came),
+            RequestCase::NotPosted => return self.refuse(alloc, came, Code::METHOD_NOT_ALLOWED),
             RequestCase::OpenGet(grant) => {
                 let reply = open_reply(alloc, self.desk.revoked(), &mut self.tree, &grant);
-                self.give(alloc, came, &reply)
+                return self.give(alloc, came, &reply);
             }
-            RequestCase::Unauthorised => self.refuse(alloc, came, Code::UNAUTHORIZED),
+            RequestCase::Unauthorised => return self.refuse(alloc, came, Code::UNAUTHORIZED),
         }
     }
 
@@ -267,11 +280,13 @@ impl Server {
     fn give(&mut self, alloc: Global, came: Arrival<'_>, reply: &Reply) -> Result<Step, AllocError>
         requires { FitsAResource reply.now }
         ensures replied { IfOk result (λ step. AnswersWith self.old came.entry reply.now step self.new) }
+        ensures table { IfOk result (λ _. IsTable self.new.desk.table) }
         ensures sent { IfOk result (λ step. SendsTo came.entry.from step.out) }
         ensures same { self.new.open_scope ≡ self.old.open_scope }
         ensures err { OnErr result (self.new ≡ self.old) }
     {
         let out = self.reply(alloc, came, reply)?;
+        self.desk.has_a_table();
         Ok(Step::sending(out))
     }
 
@@ -280,11 +295,13 @@ impl Server {
     fn refuse(&mut self, alloc: Global, came: Arrival<'_>, code: Code) -> Result<Step, AllocError>
         requires { 0 < code.0 }
         ensures refused { IfOk result (λ step. Refuses self.old came.entry code step self.new) }
+        ensures table { IfOk result (λ _. IsTable self.new.desk.table) }
         ensures sent { IfOk result (λ step. SendsTo came.entry.from step.out) }
         ensures err { OnErr result (self.new ≡ self.old) }
     {
         let out = self.reply(alloc, came, &Reply::bare(alloc, code))?;
         let why = RefusedRequest { code, reason: None };
+        self.desk.has_a_table();
         Ok(Step::refusing(why, out))
     }
 
@@ -332,6 +349,7 @@ impl Server {
     #[inline(never)]
     fn posted<A: Ciphers>(&mut self, alloc: Global, came: Arrival<'_>) -> Result<Step, AllocError>
         ensures answered { IfOk result (λ step. AnswersPost A.is_sealing self.old came.entry step self.new) }
+        ensures table { IfOk result (λ _. IsTable self.new.desk.table) }
         ensures sent { IfOk result (λ step. SendsTo came.entry.from step.out) }
         ensures same { self.new.open_scope ≡ self.old.open_scope }
         ensures err { OnErr result (self.new ≡ self.old) }
@@ -352,6 +370,7 @@ impl Server {
             .post::<TokenCipher<A>>(alloc, &on, &mut self.marks, body, came.draw)?;
         let (out, reply) = post_answer(alloc, payload, room, &self.endpoint, &came, answer);
         self.note(came, reply);
+        self.desk.has_a_table();
         Ok(Step {
             out,
             notes: notes_of(opened, answer, holder),
@@ -368,6 +387,7 @@ impl Server {
     ) -> Result<Step, AllocError>
         requires { value_in 9 came.what.options ≡ Some value.now }
         ensures answered { IfOk result (λ step. AnswersProtected A.is_sealing self.old came.entry step self.new) }
+        ensures table { IfOk result (λ _. IsTable self.new.desk.table) }
         ensures sent { IfOk result (λ step. SendsTo came.entry.from step.out) }
         ensures same { self.new.open_scope ≡ self.old.open_scope }
         ensures err { OnErr result (self.new ≡ self.old) }
@@ -397,6 +417,7 @@ impl Server {
                 mark_changed(&self.desk, &mut self.marks, &self.tree, &notes);
                 keep_in_hand(alloc, &self.desk, &mut self.in_hand);
                 self.note(came, reply);
+                self.desk.has_a_table();
                 Ok(Step { out, notes })
             }
             Ok(Err(refusal)) => self.complain(alloc, came, refusal),
@@ -414,6 +435,7 @@ impl Server {
     ) -> Result<Step, AllocError>
         ensures sends { IfOk result (λ step. Sends self.old came.entry (refusal_to_of self.old.endpoint came.entry refusal)
             (refused_for_of (refusal_code refusal) (Some (refusal_number refusal))) step self.new) }
+        ensures table { IfOk result (λ _. IsTable self.new.desk.table) }
         ensures sent { IfOk result (λ step. SendsTo came.entry.from step.out) }
         ensures err { OnErr result (self.new ≡ self.old) }
     {
@@ -421,6 +443,7 @@ impl Server {
         let room = ReplyRoom::new(alloc, answer.bytes().len())?;
         let (out, reply) = sent_as(room, came.from, &answer);
         self.note(came, reply);
+        self.desk.has_a_table();
         Ok(Step::refusing(refusal.noted(), out))
     }
 

@@ -24,23 +24,23 @@ on_error_weaker (Err error) f holds = f holds
 pub returns-clause-needs_memory : goal.returns-clause-needs_memory
 returns-clause-needs_memory g c =
     let is = c.in_ok-heard.ensures.heard in
-    on_error_weaker c.answer-answered.result (λ asked. (is.0, is.1, subst (IsAnswered c.args.self.now.open_scope) is.2 asked)) c.answer-answered.ensures.needs_memory
-
-pub returns-clause-kind : goal.returns-clause-kind
-returns-clause-kind g c =
-    IfOk-weaker c.answer-answered.result _ _
-    (λ step answers. kind_of g.A.Ciphers.is_sealing
-    (record { agrees = c.posts_that_agree.ensures; refuses = c.posts_that_are_refused.ensures; knows = c.posts_that_are_known.ensures; opens = c.requests_that_open.ensures })
-    c.args.self.now step c.answer-answered.new.self
-    (subst (λ s. IsTable s.desk.table) c.self.view_is c.has_a_table.ensures)
-    (subst (λ s. IsTable s.desk.table) c.self-2.view_is c.has_a_table-2.ensures)
-    (record { at = c.args.now; from = c.args.from; draw = c.args.draw.now; what = c.args.bytes.now })
-    c.in_ok-heard.heard c.drawn.ensures answers)
-    (c.answer-answered.ensures.answered c.args.bytes.now)
+    on_error_weaker c.answer.result (λ asked. (is.0, is.1, subst (IsAnswered c.args.self.now.open_scope) is.2 asked)) c.answer.ensures.needs_memory
 
 both : {T E : Type 0} (P Q : T → Type 0) (result : Result T E) → IfOk result P → IfOk result Q → IfOk result (λ value. P value × Q value)
 both P Q (Ok value) p q = (p, q)
 both P Q (Err error) p q = tt
+
+pub returns-clause-kind : goal.returns-clause-kind
+returns-clause-kind g c =
+    IfOk-weaker c.answer.result _ _
+    (λ step it. kind_of g.A.Ciphers.is_sealing
+    (record { agrees = c.posts_that_agree.ensures; refuses = c.posts_that_are_refused.ensures; knows = c.posts_that_are_known.ensures; opens = c.requests_that_open.ensures })
+    c.args.self.now step c.answer.new.self
+    (subst (λ s. IsTable s.desk.table) c.self.view_is c.has_a_table.ensures)
+    it.1
+    (record { at = c.args.now; from = c.args.from; draw = c.args.draw.now; what = c.args.bytes.now })
+    c.in_ok-heard.heard c.drawn.ensures it.0)
+    (both _ _ c.answer.result (c.answer.ensures.answered c.args.bytes.now) c.answer.ensures.table)
 
 pub returns-clause-heard : goal.returns-clause-heard
 returns-clause-heard g c =
@@ -50,12 +50,12 @@ returns-clause-heard g c =
     let spelled : (message : Message) → c.in_ok-heard.heard ≡ heard_as.Message message → Spells c.args.bytes.now message =
     λ message e. (subst (Receives c.args.bytes.now) (c.what_is_heard.ensures old.endpoint.seen c.args.now c.args.from is.0 message (sym is.2 ∙ e)) is.1).1
     in
-    IfOk-weaker c.answer-answered.result _ _
+    IfOk-weaker c.answer.result _ _
     (λ step it. record {
       received = is.0;
       receives = is.1;
-      answers = subst (λ (h : Heard). Answers g.A.Ciphers.is_sealing old came h step c.answer-answered.new.self) is.2 it.0;
-      told = told g.A.Ciphers.is_sealing c.what_is_sealed.ensures old came c.in_ok-heard.heard step c.answer-answered.new.self c.in_ok-heard.ensures.alone spelled it.0;
+      answers = subst (λ (h : Heard). Answers g.A.Ciphers.is_sealing old came h step c.answer.new.self) is.2 it.0;
+      told = told g.A.Ciphers.is_sealing c.what_is_sealed.ensures old came c.in_ok-heard.heard step c.answer.new.self c.in_ok-heard.ensures.alone spelled it.0;
       fits = it.1.fits;
     })
-    (both _ _ c.answer-answered.result (c.answer-answered.ensures.answered c.args.bytes.now) c.answer-answered.ensures.sent)
+    (both _ _ c.answer.result (c.answer.ensures.answered c.args.bytes.now) c.answer.ensures.sent)
