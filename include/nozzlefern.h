@@ -298,7 +298,7 @@ typedef struct nzf_proxy { void *held; } nzf_proxy;
  * key, where there is one. The device's own token, of the id "device", which no other token may have, is minted here: its secret and its IV are taken
  * from the draw. A context counts until its token ends, and for at most `context_seconds`, the device's own too: then it needs `open` again. Of the 64
  * ids that may have a context at once, one place is kept for the device's own. A resource below the revocation path revokes the tokens of one id, as
- * `revoke` says. Heap: some 38 KiB, for as long as it is held; with a revocation path 2 KiB more, which are kept in hand for `revoke`.
+ * `revoke` says. Heap: some 50 KiB, for as long as it is held; with a revocation path 2 KiB more, which are kept in hand for `revoke`.
  * NZF_BAD_SCOPE where `own` is no scope, or has +SUB with `no_subtrees`, or `unprotected` is neither a scope nor empty. NZF_TOO_LONG where `own` and `audience` are so long that the post
  * of the device's token, which `open` sends, fits no datagram: together they may have some 900 bytes. NZF_BAD_ARGUMENT: the size, an audience that is
  * no UTF-8, a flag that is neither 0 nor 1, a revocation path that is none or has more than 4 segments. Also NZF_NO_MEMORY, whatever the scopes are. */
@@ -371,7 +371,7 @@ void nzf_device_free(nzf_device *device) NZF_POINTERS;
 /* ---- a client */
 
 /* Makes a client. NZF_BAD_ARGUMENT: the size, a length, a flag that is neither 0 nor 1, or an algorithm that is none. Also NZF_NO_MEMORY. Heap: some
- * 19 KiB, for as long as it is held. */
+ * 25 KiB, for as long as it is held. */
 int32_t nzf_client_new(nzf_client *client, const nzf_client_settings *settings) NZF_CALL;
 
 /* Posts the token, so that the client has a security context once `result` tells NZF_RESULT_MADE. What is sent is taken by `next`. Where it is not

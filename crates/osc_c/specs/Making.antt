@@ -13,7 +13,7 @@ use Rattle.osc_device.specs.declared.error.NewError.TheVariants.{Token}
 use Rattle.osc_device.specs.declared.error.NewError.TheVariants as device
 use Rattle.osc_device.specs.declared.own_token.OwnToken.{OwnToken}
 use Rattle.osc_device.specs.declared.own_token.ServerParts.{ServerParts}
-use Rattle.osc_world.specs.declared.error.EnrollError.TheVariants as enroll
+use Rattle.osc_authz.specs.declared.enrolling.EnrollError.TheVariants as enroll
 use Rattle.osc_c.specs.Arguments.{IsUnfit}
 use Rattle.osc_c.specs.Given.{GivenDevice, GivenRules, device_settings_size, first_device_settings}
 use Rattle.osc_c.specs.Last.{nothing}

@@ -24,7 +24,7 @@ use std::alloc::Global;
 /// Makes a client that was granted this token, in the place of one that is held.
 ///
 /// Answers 0; or 9 without memory, and 34 where `size` isn't that of the struct, or a length or the algorithm is out of its range: then what was held
-/// is held. Heap: some 19 KiB, for as long as it is held.
+/// is held. Heap: some 25 KiB, for as long as it is held.
 #[unsafe(no_mangle)]
 pub extern "C" fn nzf_client_new(
     alloc: Global,

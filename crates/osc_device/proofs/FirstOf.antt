@@ -6,6 +6,7 @@ use Rattle.std.proofs.lemmas.List.{length-append}
 use Rattle.osc_cbor.specs.{byte_string, item, map, no_items, no_pairs, pair, unsigned, head, items_spelling, pairs_spelling, spelling}
 use Rattle.osc_ccm.specs.{most_tag, IsLongerBy, Sealings}
 use Rattle.osc_cose.specs.{enc_structure, object_item}
+use Rattle.osc_authz.specs.{FitAToken, IsDeskOf, IsLawful}
 use Rattle.osc_authz.specs.HoldsToken.{HoldsToken}
 use Rattle.osc_client.specs.{PostIsTooLong}
 use Rattle.osc_client.specs.State.{State as Client}
@@ -14,11 +15,12 @@ use Rattle.osc_server.specs.State.{State as Server}
 use Rattle.osc_model.specs.{has_subtrees}
 use Rattle.osc_scope.specs.{Entry, IsScope, scope_of}
 use Rattle.osc_token.specs.{HasLawfulParts, algorithm_header, claims_item, token_object}
-use Rattle.osc_world.specs.{FitAToken, IsLawful, Beginning, Enrols, first_nodes}
+use Rattle.osc_world.specs.{Beginning, Enrols, IsPlaced, first_nodes, minted_of}
 use Rattle.osc_world.specs.declared.nodes.Placed.{Placed}
 use Rattle.osc_world.specs.declared.start.NewHolder.{NewHolder}
 use Rattle.osc_device.specs.{IsBegun, IsGranted, IsTooLongToPost, own_claims, own_holder, server_alone, server_address}
-use Rattle.osc_device.specs.State.{State}
+use Rattle.osc_device.specs.Inner.Holding.{HoldsOwn}
+use Rattle.osc_device.specs.State.{State, own_address}
 use Rattle.osc_device.specs.declared.own_token.OwnToken.{OwnToken}
 use Rattle.osc_device.specs.declared.own_token.ServerParts.{ServerParts}
 
@@ -63,28 +65,45 @@ token_most iv ciphertext =
 
 -- ---- the device
 
-pub enrolled : (is_sealing : Sealings) (parts : ServerParts) (own : OwnToken) (alone : Beginning) (holder : NewHolder) (start : Beginning)
-    → alone ≡ server_alone parts own.id → holder ≡ own_holder parts own → Enrols is_sealing alone holder start
-    → Enrols is_sealing (server_alone parts own.id) (own_holder parts own) start
-enrolled is_sealing parts own alone holder start same is enrols =
-    subst (λ (h : NewHolder). Enrols is_sealing (server_alone parts own.id) h start) is (subst (λ (s : Beginning). Enrols is_sealing s holder start) same enrols)
+-- the beginning of a world whose server is the device's, and whose one client is this one, with a token of this scope
+abbrev start_of : ServerParts → OwnToken → List Entry → Client → Beginning
+start_of parts own entries client = record (server_alone parts own.id) {
+  minted = minted_of 0 (own_claims parts own) entries ∷ [];
+  clients = record { at = own_address; node = client } ∷ [];
+}
 
-pub one_client : (is_sealing : Sealings) (parts : ServerParts) (own : OwnToken) (start : Beginning)
-    → (enrols : Enrols is_sealing (server_alone parts own.id) (own_holder parts own) start) → start.clients ≡ enrols.placed ∷ []
-one_client is_sealing parts own start enrols = ap (λ (s : Beginning). s.clients) enrols.is
+placed : (is_sealing : Sealings) (parts : ServerParts) (own : OwnToken) (client : Client) → (holds : HoldsOwn is_sealing parts.key own.iv (own_claims parts own) client)
+    → IsPlaced (own_holder parts own) (spelling (object_item (token_object own.iv holds.ciphertext))) (record { at = own_address; node = client })
+placed is_sealing parts own client holds = record {
+  at = refl;
+  next_hop = ap (λ (c : Client). c.next_hop) holds.is;
+  origin = ap (λ (c : Client). c.origin) holds.is;
+  desk = subst (λ (c : Client). IsDeskOf (own_claims parts own).material (spelling (object_item (token_object own.iv holds.ciphertext))) c.desk) (sym holds.is) holds.granted;
+  context = ap (λ (c : Client). c.context) holds.is;
+  waiting = ap (λ (c : Client). c.waiting) holds.is;
+  endpoint = ap (λ (c : Client). c.endpoint) holds.is;
+}
 
-same_client : (clients : List (Placed Client)) (a b : Placed Client) → clients ≡ a ∷ [] → clients ≡ b ∷ [] → a ≡ b
-same_client clients a b e f = cc
-
-pub is_begun : (is_sealing : Sealings) (parts : ServerParts) (own : OwnToken) (start : Beginning) (server : Server) (placed : Placed Client)
-    → Enrols is_sealing (server_alone parts own.id) (own_holder parts own) start
-    → server ≡ (first_nodes start).server → start.clients ≡ placed ∷ []
-    → IsBegun is_sealing parts own (record { server = server; own = placed.node })
-is_begun is_sealing parts own start server placed enrols is there = record {
-  start = start;
-  enrols = enrols;
+pub is_begun : (is_sealing : Sealings) (parts : ServerParts) (own : OwnToken) (client : Client) (server : Server)
+    → HoldsOwn is_sealing parts.key own.iv (own_claims parts own) client → server ≡ (first_nodes (server_alone parts own.id)).server
+    → IsBegun is_sealing parts own (record { server = server; own = client })
+is_begun is_sealing parts own client server holds is = record {
+  start = start_of parts own holds.entries client;
+  enrols = record {
+    minted = minted_of 0 (own_claims parts own) holds.entries;
+    placed = record { at = own_address; node = client };
+    enrolled = record {
+      entries = holds.entries;
+      scope = holds.scope;
+      ciphertext = holds.ciphertext;
+      sealed = holds.sealed;
+      granted = refl;
+      client = placed is_sealing parts own client holds;
+    };
+    is = refl;
+  };
   server = is;
-  own_is = ap (λ (p : Placed Client). p.node) (same_client start.clients placed enrols.placed there (one_client is_sealing parts own start enrols));
+  own_is = refl;
 }
 
 pub lawful_parts : (parts : ServerParts) (own : OwnToken) → IsLawful (own_claims parts own)
@@ -153,28 +172,22 @@ reserved is_sealing parts own device is =
     ap (λ (s : Server). s.desk.rules.reserved) is.server ∙ ap (λ (s : Beginning). s.rules.reserved) is.enrols.is
 
 -- the device sends straight to its server
-pub straight : (is_sealing : Sealings) (parts : ServerParts) (own : OwnToken) (start : Beginning) (placed : Placed Client)
-    → Enrols is_sealing (server_alone parts own.id) (own_holder parts own) start → start.clients ≡ placed ∷ []
-    → (placed.node.origin ≡ None) × (placed.node.next_hop ≡ server_address)
-straight is_sealing parts own start placed enrols there =
-    let same = ap (λ (p : Placed Client). p.node) (same_client start.clients placed enrols.placed there (one_client is_sealing parts own start enrols)) in
-    (ap (λ (c : Client). c.origin) same ∙ enrols.enrolled.client.origin, ap (λ (c : Client). c.next_hop) same ∙ enrols.enrolled.client.next_hop)
+pub straight : (is_sealing : Sealings) (parts : ServerParts) (own : OwnToken) (client : Client) → HoldsOwn is_sealing parts.key own.iv (own_claims parts own) client
+    → (client.origin ≡ None) × (client.next_hop ≡ server_address)
+straight is_sealing parts own client holds = (ap (λ (c : Client). c.origin) holds.is, ap (λ (c : Client). c.next_hop) holds.is)
 
 -- what stands against it: the post of its token
 pub too_long : (is_sealing : Sealings) (tag : ℕ) → IsLongerBy tag (is_sealing EightByteTag) → tag ≡ 8
-    → (parts : ServerParts) (own : OwnToken) (start : Beginning) (placed : Placed Client)
-    → Enrols is_sealing (server_alone parts own.id) (own_holder parts own) start → start.clients ≡ placed ∷ [] → PostIsTooLong placed.node
+    → (parts : ServerParts) (own : OwnToken) (client : Client) → HoldsOwn is_sealing parts.key own.iv (own_claims parts own) client → PostIsTooLong client
     → IsTooLongToPost (own_holder parts own)
-too_long is_sealing tag sealed_length eight parts own start placed enrols there long =
-    let enrolled = enrols.enrolled in
-    record {
-      ciphertext = enrolled.ciphertext;
-      sealed_size = omega (
-        arith,
-        eight,
-        sealed_length parts.key own.iv (enc_structure algorithm_header []) (spelling (claims_item (own_claims parts own))) enrolled.ciphertext enrolled.sealed,
-      );
-      placed = enrols.placed;
-      client = enrolled.client;
-      too_long = subst (λ (p : Placed Client). PostIsTooLong p.node) (same_client start.clients placed enrols.placed there (one_client is_sealing parts own start enrols)) long;
-    }
+too_long is_sealing tag sealed_length eight parts own client holds long = record {
+  ciphertext = holds.ciphertext;
+  sealed_size = omega (
+    arith,
+    eight,
+    sealed_length parts.key own.iv (enc_structure algorithm_header []) (spelling (claims_item (own_claims parts own))) holds.ciphertext holds.sealed,
+  );
+  placed = record { at = own_address; node = client };
+  client = placed is_sealing parts own client holds;
+  too_long = long;
+}

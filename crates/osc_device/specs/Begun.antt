@@ -1,6 +1,6 @@
 -- Where a device begins: as a world does whose server is the device's, and whose one client is the device itself.
 use Rattle.std.specs.Prelude.{◌≡◌, ◌<◌, ℕ, ◌+◌, true, false, List, [], length, Some, None}
-use Rattle.osc_authz.specs.{is_allowed}
+use Rattle.osc_authz.specs.{IsRefusal, is_allowed}
 use Rattle.osc_authz.specs.HoldsToken.{HoldsToken}
 use Rattle.osc_cbor.specs.{spelling}
 use Rattle.osc_client.specs.{PostIsTooLong}
@@ -12,7 +12,7 @@ use Rattle.osc_scope.specs.{Entry, IsScope, scope_of}
 use Rattle.osc_token.specs.{HasLawfulParts, claims_item, token_object}
 use Rattle.osc_token.specs.declared.claims.Claims.{Claims}
 use Rattle.osc_client.specs.State.{State as Client}
-use Rattle.osc_world.specs.{Refuses, Beginning, Enrols, IsPlaced, first_nodes}
+use Rattle.osc_world.specs.{Beginning, Enrols, IsPlaced, first_nodes}
 use Rattle.osc_world.specs.declared.nodes.Placed.{Placed}
 use Rattle.osc_world.specs.declared.start.NewHolder.{NewHolder}
 use Rattle.osc_device.specs.State.{State, own_address, server_address}
@@ -78,7 +78,7 @@ ReachesTooFar parts own = (parts.subtrees ≡ false) × (entries : List Entry) �
 abbrev pub IsNoDevice : ServerParts → OwnToken → NewError → Type 0
 IsNoDevice parts own Id = 64 < length own.id
 IsNoDevice parts own Subtrees = ReachesTooFar parts own
-IsNoDevice parts own (Token error) = Refuses (server_alone parts own.id) (own_holder parts own) error
+IsNoDevice parts own (Token error) = IsRefusal (own_claims parts own) error
 IsNoDevice parts own TooLong = IsTooLongToPost (own_holder parts own)
 
 -- `is_sealing algorithm` is the relation of the algorithm's cipher

@@ -1,2 +1,3 @@
 -- What private functions owe one another; no public contract rests on it.
 pub mod Entries
+pub mod Holding

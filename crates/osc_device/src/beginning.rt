@@ -1,24 +1,24 @@
 //! Where a device begins.
-ghost use Rattle.std.specs.Prelude.{◌≡◌, ◌∷◌, ◌<◌, ◌^◌, ◌||◌, [], List, true, false, not, IfErr, IfOk, OnOk, length};
+ghost use Rattle.std.specs.Prelude.{◌≡◌, ◌<◌, ◌^◌, ◌||◌, List, true, false, not, IfErr, IfOk, OnOk, length};
 ghost use Rattle.std.specs.Str.{IsUtf8};
-ghost use Rattle.osc_client.specs.State.{State as AnyClient};
+ghost use Rattle.osc_authz.specs.{IsLawful, IsRefusal};
 ghost use Rattle.osc_model.specs.{has_subtrees};
 ghost use Rattle.osc_scope.specs.{Entry, IsScope, scope_of};
-ghost use Rattle.osc_world.specs.{IsLawful, Refuses, Enrols, first_nodes};
-ghost use Rattle.osc_world.specs.declared.nodes.Placed.{Placed as AnyPlaced};
-ghost use Rattle.osc_device.specs.Begun.{ReachesTooFar, own_claims, own_holder as own_holder_of, server_alone as server_alone_of};
+ghost use Rattle.osc_world.specs.{first_nodes};
+ghost use Rattle.osc_device.specs.Begun.{ReachesTooFar, own_claims as own_claims_of, server_alone};
+ghost use Rattle.osc_device.specs.Inner.Holding.{HoldsOwn};
 ghost use Rattle.osc_device.specs.declared.own_token.ServerParts.{ServerParts as AnyParts};
 
 use crate::own_token::{OwnToken, ServerParts};
-use osc_authz::ContextRules;
+use osc_authz::{ContextRules, DeskParts, EnrollError, Enrolled, ServerDesk, enroll};
 use osc_ccm::Ciphers;
 use osc_client::{Client, Route};
 use osc_model::limits::REMEMBERED_POSTS;
 use osc_model::{Algorithm, Bytes, Peer};
+use osc_protect::TokenCipher;
 use osc_scope::{Scope, ScopeError};
 use osc_server::Server;
 use osc_token::{Audience, Claims, InputMaterial};
-use osc_world::{EnrollError, NewHolder, Parts, Placed, Start};
 use std::alloc::{AllocError, Global};
 
 /// The address of the device, for its server.
@@ -55,9 +55,9 @@ pub(crate) fn reaches_too_far(
     }
 }
 
-/// The server alone, before the device is a client of it. It keeps a place for the tokens of this id, the device's own.
-pub(crate) fn server_alone(alloc: Global, parts: ServerParts, own: Bytes) -> Start
-    ensures { result ≡ server_alone_of parts own }
+/// The server, before it did anything. It keeps a place for the tokens of this id, the device's own.
+pub(crate) fn server_of(alloc: Global, parts: ServerParts, own: Bytes) -> Result<Server, AllocError>
+    ensures { IfOk result (λ server. server ≡ (first_nodes (server_alone parts own)).server) }
 {
     let ServerParts {
         tree,
@@ -69,80 +69,68 @@ pub(crate) fn server_alone(alloc: Global, parts: ServerParts, own: Bytes) -> Sta
         context_seconds,
         subtrees,
     } = parts;
-    let mut start = Start::new(alloc, tree, open_scope, key, audience, SERVER);
-    if let Some(key) = old_key {
-        start.keep_old_key(key);
-    }
-    start.rule_contexts(ContextRules {
+    let rules = ContextRules {
         revoked,
         seconds: context_seconds,
         remembered: REMEMBERED_POSTS,
         reserved: Some(own),
         subtrees,
-    });
-    start
+    };
+    let desk = ServerDesk::of(
+        alloc,
+        DeskParts {
+            key,
+            old_key,
+            audience,
+            rules,
+        },
+    );
+    Server::new(alloc, tree, desk, open_scope)
 }
 
-/// The device as a client that is to be enrolled at a server of this audience.
-pub(crate) fn own_holder(alloc: Global, audience: Audience, own: OwnToken) -> NewHolder
-    ensures { (parts : AnyParts) → parts.audience ≡ audience → result ≡ own_holder_of parts own }
+/// What the device's own token claims at a server of this audience.
+pub(crate) fn own_claims(alloc: Global, audience: Audience, own: OwnToken) -> Claims
+    ensures { (parts : AnyParts) → parts.audience ≡ audience → result ≡ own_claims_of parts own }
 {
     let OwnToken {
         id,
         secret,
         scope,
-        iv,
+        iv: _,
     } = own;
-    NewHolder {
-        at: OWN,
-        way: Route {
-            next_hop: SERVER,
-            origin: None,
+    Claims {
+        audience,
+        not_before: None,
+        expires: None,
+        material: InputMaterial {
+            id,
+            secret,
+            salt: Bytes::new(alloc),
+            id_context: None,
+            alg: Algorithm::EightByteTag,
         },
-        claims: Claims {
-            audience,
-            not_before: None,
-            expires: None,
-            material: InputMaterial {
-                id,
-                secret,
-                salt: Bytes::new(alloc),
-                id_context: None,
-                alg: Algorithm::EightByteTag,
-            },
-            scope,
-        },
-        iv,
+        scope,
     }
 }
 
-/// The server, and this client of it.
-pub(crate) fn enrolled<A: Ciphers>(
+/// The device as a client of its server, with the token of these claims, which is minted under this key.
+pub(crate) fn own_client<A: Ciphers>(
     alloc: Global,
-    mut start: Start,
-    holder: NewHolder,
-) -> Result<Start, EnrollError>
-    ensures enrolled { IfOk result (λ after. Enrols A.is_sealing start holder after) }
-    ensures lawful { OnOk result (IsLawful holder.claims) }
-    ensures refused { IfErr result (λ error. Refuses start holder error) }
+    claims: &Claims,
+    key: &[u8; 16],
+    iv: &[u8; 13],
+) -> Result<Client, EnrollError>
+    ensures holds { IfOk result (λ client. HoldsOwn A.is_sealing key.now iv.now claims.now client) }
+    ensures lawful { OnOk result (IsLawful claims.now) }
+    ensures refused { IfErr result (λ error. IsRefusal claims.now error) }
 {
-    start.enroll::<A>(alloc, holder)?;
-    Ok(start)
-}
-
-/// The nodes of a beginning with one client.
-pub(crate) fn nodes_of(alloc: Global, start: Start) -> Result<(Server, Placed<Client>), AllocError>
-    requires { (placed : AnyPlaced AnyClient) × (start.clients ≡ placed ∷ []) }
-    ensures server { IfOk result (λ nodes. nodes.0 ≡ (first_nodes start).server) }
-    ensures own { IfOk result (λ nodes. start.clients ≡ nodes.1 ∷ []) }
-{
-    let Parts { nodes, .. } = start.into_parts(alloc)?;
-    let (server, mut clients, _) = nodes.into_parts();
-    match clients.pop() {
-        Some(placed) => Ok((server, placed)),
-        // There is one.
-        None => unreachable!(),
-    }
+    let Enrolled { desk, .. } = enroll::<TokenCipher<A>>(alloc, claims, key, iv)?;
+    let way = Route {
+        next_hop: SERVER,
+        origin: None,
+    };
+    let client = Client::new(alloc, desk, way)?;
+    Ok(client)
 }
 
 /// For proofs: the parts are as long as their types allow. Does nothing.

@@ -10,16 +10,14 @@ ghost use Rattle.osc_model.specs.declared.node.Moment.{Moment as AnyMoment};
 ghost use Rattle.osc_authz.specs.{KeepsPlace};
 ghost use Rattle.osc_rounds.specs.{IsLawfulServer};
 ghost use Rattle.osc_device.specs.Answered.{own_request as own_request_of};
-ghost use Rattle.osc_device.specs.Begun.{IsBegun, IsGranted, IsNoDevice, own_claims};
+ghost use Rattle.osc_device.specs.Begun.{IsBegun, IsGranted, IsNoDevice, own_claims as own_claims_of};
 ghost use Rattle.osc_device.specs.Calls.{HandsOut, HasRuled, HasTicked};
 ghost use Rattle.osc_device.specs.Carrying.{Carries, ComesBack, Reaches, asked_at, at_server};
 ghost use Rattle.osc_device.specs.Runs.{AllGoOn, restarts};
 ghost use Rattle.osc_device.specs.Ruling.{method_of};
 ghost use Rattle.osc_device.specs.State.{server_address};
 
-use crate::beginning::{
-    OWN, SERVER, enrolled, fits, nodes_of, own_holder, reaches_too_far, server_alone,
-};
+use crate::beginning::{OWN, SERVER, fits, own_claims, own_client, reaches_too_far, server_of};
 use crate::calls::{DeviceCalls, nothing, own_request};
 use crate::draws::OwnDraws;
 use crate::error::NewError;
@@ -36,7 +34,6 @@ use osc_model::limits::LONGEST_ID;
 use osc_model::{Draw, Moment, Path, Peer, Request, Step};
 use osc_server::Server;
 use osc_tree::Tree;
-use osc_world::Placed;
 use osc_world::laws::where_a_world_begins;
 use std::alloc::{AllocError, Global};
 use std::marker::Model;
@@ -44,7 +41,7 @@ use std::marker::Model;
 /// A server, and the device itself as a client of it.
 pub struct Device {
     server: Server,
-    own: Placed<Client>,
+    own: Client,
 }
 
 impl Drop for Device {
@@ -64,9 +61,9 @@ impl Model for Device {
 
     ghost coded = { Prim.hlevel (codes, coded_scope, coded_tree) };
 
-    ghost view = { λ d. record { server = d.server; own = d.own.node } };
+    ghost view = { λ d. record { server = d.server; own = d.own } };
 
-    ghost invariant = { λ d. (d.own.node.origin ≡ None) × (d.own.node.next_hop ≡ server_address) × PostFits d.own.node };
+    ghost invariant = { λ d. (d.own.origin ≡ None) × (d.own.next_hop ≡ server_address) × PostFits d.own };
 }
 
 /// Whether a resource is at this path, if there is one.
@@ -124,7 +121,7 @@ impl Device {
         own: OwnToken,
     ) -> Result<Device, NewError>
         ensures begun { IfOk result (λ device. IsBegun A.is_sealing parts own device) }
-        ensures granted { IfOk result (λ device. (entries : List Entry) × IsScope own.scope entries × IsGranted A.is_sealing device (own_claims parts own) entries) }
+        ensures granted { IfOk result (λ device. (entries : List Entry) × IsScope own.scope entries × IsGranted A.is_sealing device (own_claims_of parts own) entries) }
         ensures fits { IfOk result (λ device. PostFits device.own) }
         // Its server keeps a place for its token.
         ensures place { IfOk result (λ device. device.server.desk.rules.reserved ≡ Some own.id) }
@@ -139,18 +136,20 @@ impl Device {
         if far {
             return Err(NewError::Subtrees);
         }
+        let key = parts.key;
+        let iv = own.iv;
         let audience = parts.audience.clone()?;
         let id = own.id.clone()?;
-        let alone = server_alone(alloc, parts, id);
-        let start = match enrolled::<A>(alloc, alone, own_holder(alloc, audience, own)) {
-            Ok(start) => start,
-            Err(error) => return Err(NewError::Token(error)),
-        };
-        let (server, own) = nodes_of(alloc, start)?;
-        if !own.node.post_fits() {
+        let claims = own_claims(alloc, audience, own);
+        let client = own_client::<A>(alloc, &claims, &key, &iv)?;
+        if !client.post_fits() {
             return Err(NewError::TooLong);
         }
-        Ok(Device { server, own })
+        let server = server_of(alloc, parts, id)?;
+        Ok(Device {
+            server,
+            own: client,
+        })
     }
 
     /// The server, with its resources.
@@ -164,7 +163,7 @@ impl Device {
     pub fn own(&self) -> &Client
         ensures { result.now ≡ self.now.own }
     {
-        &self.own.node
+        &self.own
     }
 
     /// The time has come for what is due by this moment: the server lets its notes go whose lifetime has ended, and what the device began
@@ -176,7 +175,7 @@ impl Device {
         runs_go_on::<A>();
         runs_keep_their_promises::<A>();
         let _let_go = self.server.on_tick(alloc, now);
-        let begun = self.own.node.on_tick(alloc, now);
+        let begun = self.own.on_tick(alloc, now);
         self.carry::<A>(alloc, now, begun, server_draw)
     }
 
@@ -186,7 +185,7 @@ impl Device {
         ensures some { IfSome result (λ deadline. (now : AnyMoment) → (acts_at self.now.own now ≡ true) ↔ (deadline ≤ now.ms)) }
         ensures none { IfNone result ((now : AnyMoment) → acts_at self.now.own now ≡ false) }
     {
-        self.own.node.next_deadline()
+        self.own.next_deadline()
     }
 
     /// Starts again: the server as [`Server::restart`] says, and the device without its context, so that it posts its token again.
@@ -199,7 +198,7 @@ impl Device {
     {
         runs_go_on_alone();
         self.server.restart();
-        self.own.node.restart();
+        self.own.restart();
     }
 
     /// Gives back what the server keeps in hand.
@@ -296,7 +295,6 @@ impl Device {
         match step.out.as_slice() {
             [datagram] => self
                 .own
-                .node
                 .on_datagram::<A>(alloc, now, SERVER, datagram.bytes.as_slice())
                 .ok(),
             _ => None,
@@ -335,8 +333,8 @@ impl DeviceCalls for Device {
         keeps_its_place(&self.server);
         is_drawn(&draws.server);
         is_drawn(&draws.own);
-        let begun = self.own.node.exchange(alloc, now, &draws.own)?;
-        self.own.node.has_lawful_parts();
+        let begun = self.own.exchange(alloc, now, &draws.own)?;
+        self.own.has_lawful_parts();
         Ok(self.carry::<A>(alloc, now, begun, &draws.server))
     }
 
@@ -351,8 +349,8 @@ impl DeviceCalls for Device {
         runs_go_on::<A>();
         runs_keep_their_promises::<A>();
         is_lawful(&self.server);
-        let begun = self.own.node.ask::<A>(alloc, now, request, &draws.own)?;
-        self.own.node.has_lawful_parts();
+        let begun = self.own.ask::<A>(alloc, now, request, &draws.own)?;
+        self.own.has_lawful_parts();
         Ok(self.carry::<A>(alloc, now, begun, &draws.server))
     }
 

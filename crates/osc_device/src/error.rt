@@ -1,11 +1,11 @@
 //! Why there is no device, or a call of one hands nothing out.
 ghost use Rattle.std.specs.Prelude.{◌≡◌};
+ghost use Rattle.osc_authz.specs.declared.enrolling.EnrollError.TheVariants as enroll;
 ghost use Rattle.osc_device.specs.declared.error.CallError.TheVariants as call;
 ghost use Rattle.osc_device.specs.declared.error.NewError.TheVariants as variants;
-ghost use Rattle.osc_world.specs.declared.error.EnrollError.TheVariants as enroll;
 
+use osc_authz::EnrollError;
 use osc_store::KeepError;
-use osc_world::EnrollError;
 use std::alloc::AllocError;
 use thiserror::Error;
 

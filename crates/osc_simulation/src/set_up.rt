@@ -22,7 +22,7 @@ use osc_script::laws::key_of_tokens;
 use osc_script::{ClientName, Line, NodeName, ProxyName, TOKEN_KEY, grant_claims, token_iv};
 use osc_token::{Audience, Claims};
 use osc_tree::Tree;
-use osc_world::{EnrollError, NewHolder, Start, World};
+use osc_world::{NewHolder, Start, World};
 use std::alloc::{AllocError, Global};
 
 // The server's host, by which proxies know it.

@@ -2,14 +2,14 @@
 
 use crate::common::{SCOPE, counts, exchanges, start};
 use crate::quiet::settles;
-use osc_authz::GrantError;
+use osc_authz::{EnrollError, GrantError};
 use osc_ccm::Suite;
 use osc_fixtures::{CLIENT, PROXY, SERVER, straight};
 use osc_model::{Algorithm, Bytes, Peer};
 use osc_proxy::Targets;
 use osc_token::{Audience, Claims, InputMaterial};
 use osc_tree::Tree;
-use osc_world::{EnrollError, NewHolder, PlaceError, Start};
+use osc_world::{AdmitError, NewHolder, PlaceError, Start};
 use std::alloc::{AllocError, Global};
 use std::process::Abort;
 use std::test::*;
@@ -72,7 +72,7 @@ fn claims(alloc: Global, row: Row) -> Result<Claims, AllocError> {
 }
 
 /// Why the client of this row isn't enrolled there, if it isn't.
-fn refusal(alloc: Global, start: &mut Start, at: Peer, row: Row) -> Option<EnrollError> {
+fn refusal(alloc: Global, start: &mut Start, at: Peer, row: Row) -> Option<AdmitError> {
     match claims(alloc, row) {
         Ok(claims) => {
             let holder = NewHolder {
@@ -83,7 +83,7 @@ fn refusal(alloc: Global, start: &mut Start, at: Peer, row: Row) -> Option<Enrol
             };
             start.enroll::<Suite>(alloc, holder).err()
         }
-        Err(_) => Some(EnrollError::Memory),
+        Err(_) => Some(AdmitError::Refused(EnrollError::Memory)),
     }
 }
 
@@ -103,7 +103,7 @@ fn who_is_refused(rt: HostRuntime) {
     let mut start = start(rt.alloc(), Tree::new(rt.alloc()), "a").expect(&rt, "memory");
     for &(row, error) in &REFUSED {
         assert!(rt;
-            refusal(rt.alloc(), &mut start, CLIENT, row) == Some(error),
+            refusal(rt.alloc(), &mut start, CLIENT, row) == Some(AdmitError::Refused(error)),
             "{error}"
         );
     }
@@ -119,14 +119,17 @@ fn placed(alloc: Global, start: &mut Start, at: Peer) -> Result<(), PlaceError> 
 /// No two nodes share an address, whatever the claims are; who was refused takes none.
 fn takes_no_second(rt: &impl Abort, alloc: Global, start: &mut Start) {
     assert!(rt; placed(alloc, start, SERVER) == Err(PlaceError::AddressTaken));
-    assert!(rt; refusal(alloc, start, CLIENT, REFUSED[0].0) == Some(EnrollError::BadScope));
+    assert!(rt;
+        refusal(alloc, start, CLIENT, REFUSED[0].0)
+            == Some(AdmitError::Refused(EnrollError::BadScope))
+    );
     assert!(rt; !start.is_taken(CLIENT));
     assert!(rt; refusal(alloc, start, CLIENT, GOOD) == None);
     assert!(rt; placed(alloc, start, PROXY) == Ok(()));
     for &at in &[SERVER, CLIENT, PROXY] {
         assert!(rt; start.is_taken(at));
         for &row in &[GOOD, REFUSED[0].0] {
-            assert!(rt; refusal(alloc, start, at, row) == Some(EnrollError::AddressTaken));
+            assert!(rt; refusal(alloc, start, at, row) == Some(AdmitError::AddressTaken));
         }
         assert!(rt; placed(alloc, start, at) == Err(PlaceError::AddressTaken));
     }

@@ -11,7 +11,7 @@ use Rattle.osc_ccm.specs.{most_tag, Sealings, IsLongerBy}
 use Rattle.osc_cbor.specs.{spelling}
 use Rattle.osc_cose.specs.{enc_structure}
 use Rattle.osc_authz.specs.HoldsToken.{HoldsToken}
-use Rattle.osc_authz.specs.{IsFull, IsWelcome, has_token, is_allowed}
+use Rattle.osc_authz.specs.{FitAToken, IsFull, IsWelcome, has_token, is_allowed}
 use Rattle.osc_client.specs.{HostAndPort}
 use Rattle.osc_dedup.specs.{looked}
 use Rattle.osc_message.specs.{EndpointState}
@@ -23,7 +23,7 @@ use Rattle.osc_token.specs.{FitTheirTypes, HasLawfulParts, algorithm_header, cla
 use Rattle.osc_token.specs.declared.claims.Claims.{Claims}
 use Rattle.osc_proxy.specs.State.{State as Proxy}
 use Rattle.osc_world.specs.declared.nodes.Placed.{Placed}
-use Rattle.osc_world.specs.{ClientRound, IsReady, FitAToken, Beginning, Enrols, begun, new_proxy}
+use Rattle.osc_world.specs.{ClientRound, IsReady, Beginning, Enrols, begun, new_proxy}
 use Rattle.osc_world.specs.Ready as ready_as
 use Rattle.osc_world.specs.declared.start.NewHolder.{NewHolder}
 

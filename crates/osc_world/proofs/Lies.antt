@@ -88,7 +88,7 @@ module _ (is_sealing : Sealings) (old : State) (now : Moment) where
   refusal_told step number e = as_told step (refusing number) e (record {
     out = All-nil (λ sent. IsToldOf is_sealing old now (record quiet { result = Some (Refused number) }) sent);
     seals = λ note seal. absurd (cc);
-    opens = λ note open. absurd (cc);
+    opens = λ note opened. absurd (cc);
     answers = λ reply answer. absurd (cc);
   })
 

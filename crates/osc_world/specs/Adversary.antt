@@ -52,7 +52,7 @@ module _ (is_sealing : Sealings) (tag : Tags) where
         → Lies client lie draw step
 
   -- a lie is told, or refused; the client stays as it is
-  pub record TellsLie (tag : Tags) (old : State) (lie : Lie) (draw : Draw) (step : Step) : Type 0 where
-    pub lies : Lies is_sealing tag old lie draw step
+  pub record TellsLie (old : State) (lie : Lie) (draw : Draw) (step : Step) : Type 0 where
+    pub lies : Lies old lie draw step
     pub told : (now : Moment) → AreTold is_sealing old now None step
     pub fits : AreSendable step.out

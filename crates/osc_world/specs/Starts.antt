@@ -9,9 +9,7 @@ use Rattle.osc_cose.specs.{enc_structure, object_item}
 use Rattle.osc_scope.specs.{Entry, IsScope, scope_of}
 use Rattle.osc_token.specs.{algorithm_header, claims_item, token_object}
 use Rattle.osc_token.specs.declared.claims.Claims.{Claims}
-use Rattle.osc_token.specs.declared.claims.InputMaterial.{InputMaterial}
-use Rattle.osc_authz.specs.{In}
-use Rattle.osc_authz.specs.declared.granted.ClientDesk.{ClientDesk}
+use Rattle.osc_authz.specs.{In, IsDeskOf}
 use Rattle.osc_message.specs.{fresh}
 use Rattle.osc_ccm.specs.{Sealings}
 use Rattle.osc_run.specs.{IsNewClient, IsTextOf, Minted}
@@ -68,14 +66,6 @@ minted_of number claims entries = record {
   };
   text = spelling (claims_item claims);
 }
-
--- what the holder of a token with this input material is granted
-pub record IsDeskOf (material : InputMaterial) (token : List ℕ) (desk : ClientDesk) : Type 0 where
-  pub token_is : desk.token ≡ token
-  pub secret : desk.secret ≡ material.secret
-  pub salt : desk.salt ≡ material.salt
-  pub id_context : desk.id_context ≡ material.id_context
-  pub alg : desk.alg ≡ material.alg
 
 -- a client that is there and reaches its server that way, with this token, with no context, waiting for nothing, and having heard nothing
 pub record IsPlaced (holder : NewHolder) (token : List ℕ) (placed : Placed Client) : Type 0 where

@@ -1,6 +1,6 @@
 //! What a holder may do that keeps no rule of a client: it seals any text at any number, taken or not. No node does so, and no crate below
 //! seals at a number that wasn't taken.
-ghost use Rattle.std.specs.Prelude.{◌≡◌, ◌≤◌, ◌+◌, ◌↔◌, ◌∷◌, [], length, IfOk, IfSome, IsErr, IsSome, Some};
+ghost use Rattle.std.specs.Prelude.{◌≡◌, ◌≤◌, ◌+◌, ◌↔◌, ◌∷◌, [], length, IfOk, IfSome, IsErr, IsSome, Some, true};
 ghost use Rattle.osc_ccm.specs.{Sealings};
 ghost use Rattle.osc_coap.specs.{Spells, spelling};
 ghost use Rattle.osc_model.specs.declared.context.Side.TheVariants.{Client as ClientSide};

@@ -1,34 +1,23 @@
-//! Why a client can't be enrolled, or a proxy added.
+//! Why a client isn't taken in, or a proxy isn't added.
 
 ghost use Rattle.std.specs.Prelude.{◌≡◌};
-ghost use Rattle.osc_world.specs.Errors.{of_mint, of_scope};
-ghost use Rattle.osc_world.specs.declared.error.EnrollError.TheVariants as enroll_variants;
+ghost use Rattle.osc_authz.specs.declared.enrolling.EnrollError.TheVariants as enroll_variants;
+ghost use Rattle.osc_world.specs.declared.error.AdmitError.TheVariants as admit_variants;
 ghost use Rattle.osc_world.specs.declared.error.PlaceError.TheVariants as place_variants;
 
-use osc_authz::GrantError;
-use osc_scope::ScopeError;
-use osc_token::MintError;
-use std::alloc::{AllocError, AllocFailed};
+use osc_authz::EnrollError;
+use std::alloc::AllocError;
 use thiserror::Error;
 
-/// Why a client can't be enrolled: the first of these that applies, or lack of memory.
+/// Why a client isn't taken in: the first of these that applies, or lack of memory.
 #[derive(Clone, Copy, Debug, PartialEq, Eq, Error)]
-pub enum EnrollError {
+pub enum AdmitError {
     /// A node is at its address.
     #[error("another node stands at this address")]
     AddressTaken,
-    /// The scope of the claims isn't one.
-    #[error("the scope can't be read")]
-    BadScope,
-    /// The claims have more than 65535 bytes.
-    #[error("the claims are too long for a token")]
-    TooLong,
-    /// The input material has a length that no token may have.
+    /// It can't be enrolled, or there was no memory.
     #[error("{0}")]
-    Grant(GrantError),
-    /// There was no memory.
-    #[error("out of memory")]
-    Memory,
+    Refused(EnrollError),
 }
 
 /// Why a proxy can't be added.
@@ -50,48 +39,18 @@ impl From<AllocError> for PlaceError {
     }
 }
 
-impl From<ScopeError> for EnrollError {
-    ghost from_gives = { λ error e. e ≡ of_scope error };
+impl From<EnrollError> for AdmitError {
+    ghost from_gives = { λ error e. e ≡ admit_variants.Refused error };
 
-    fn from(error: ScopeError) -> EnrollError {
-        match error {
-            ScopeError::BadScope => EnrollError::BadScope,
-            ScopeError::Memory => EnrollError::Memory,
-        }
+    fn from(error: EnrollError) -> AdmitError {
+        AdmitError::Refused(error)
     }
 }
 
-impl From<MintError> for EnrollError {
-    ghost from_gives = { λ error e. e ≡ of_mint error };
+impl From<AllocError> for AdmitError {
+    ghost from_gives = { λ _ e. e ≡ admit_variants.Refused enroll_variants.Memory };
 
-    fn from(error: MintError) -> EnrollError {
-        match error {
-            MintError::TooLong => EnrollError::TooLong,
-            MintError::Memory => EnrollError::Memory,
-        }
-    }
-}
-
-impl From<GrantError> for EnrollError {
-    ghost from_gives = { λ error e. e ≡ enroll_variants.Grant error };
-
-    fn from(error: GrantError) -> EnrollError {
-        EnrollError::Grant(error)
-    }
-}
-
-impl From<AllocError> for EnrollError {
-    ghost from_gives = { λ _ e. e ≡ enroll_variants.Memory };
-
-    fn from(_error: AllocError) -> EnrollError {
-        EnrollError::Memory
-    }
-}
-
-impl<T: Drop> From<AllocFailed<T>> for EnrollError {
-    ghost from_gives = { λ _ e. e ≡ enroll_variants.Memory };
-
-    fn from(_error: AllocFailed<T>) -> EnrollError {
-        EnrollError::Memory
+    fn from(_error: AllocError) -> AdmitError {
+        AdmitError::Refused(EnrollError::Memory)
     }
 }

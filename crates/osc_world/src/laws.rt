@@ -6,7 +6,7 @@ ghost use Rattle.osc_model.specs.declared.node.Draw.{Draw as AnyDraw};
 ghost use Rattle.osc_model.specs.declared.node.Moment.{Moment as AnyMoment};
 ghost use Rattle.osc_model.specs.declared.node.Peer.{Peer as AnyPeer};
 ghost use Rattle.osc_cbor.specs.{spelling};
-ghost use Rattle.osc_authz.specs.{IsLive, is_allowed};
+ghost use Rattle.osc_authz.specs.{FitAToken, IsLive, is_allowed};
 ghost use Rattle.osc_authz.specs.HoldsToken.{HoldsToken};
 ghost use Rattle.osc_model.specs.declared.algorithm.Algorithm.TheVariants.{EightByteTag};
 ghost use Rattle.osc_context.specs.{greatest_number};
@@ -33,7 +33,6 @@ ghost use Rattle.osc_world.specs.Ready.{AnswersWhatWasAsked, AskedRequest, Begun
 ghost use Rattle.osc_world.specs.Worlds.{Happens, State};
 ghost use Rattle.osc_world.specs.declared.event.Event.{Event as AnyEvent};
 ghost use Rattle.osc_world.specs.declared.log.SentDatagram.{SentDatagram as AnySent};
-ghost use Rattle.osc_world.specs.Refusals.{FitAToken};
 ghost use Rattle.osc_world.specs.Starts.{Beginning, Enrols, begun, new_proxy};
 ghost use Rattle.osc_world.specs.declared.nodes.Placed.{Placed as AnyPlaced};
 ghost use Rattle.osc_world.specs.declared.nodes.Whose.TheVariants as whose;

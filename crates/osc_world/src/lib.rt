@@ -15,7 +15,7 @@ mod start;
 mod world;
 
 pub use draws::Draws;
-pub use error::{EnrollError, PlaceError};
+pub use error::{AdmitError, PlaceError};
 pub use event::{Event, What};
 pub use log::{Record, SentDatagram};
 pub use nodes::{Nodes, Placed, StepTaken, Whose};

@@ -2,33 +2,30 @@
 ghost use Rattle.std.specs.Prelude.{◌≡◌, ◌<◌, ◌^◌, ◌++◌, ℕ, List, [], ◌∷◌, IfErr, IfOk, None, OnErr, OnOk, Some, length, true};
 ghost use Rattle.std.specs.List.{list_any};
 ghost use Rattle.std.specs.Option.{ForSome};
-ghost use Rattle.osc_cbor.specs.{spelling};
-ghost use Rattle.osc_cose.specs.{enc_structure, object_item};
+ghost use Rattle.osc_authz.specs.{IsLawful, IsRefusal};
 ghost use Rattle.osc_model.specs.{same_peer};
-ghost use Rattle.osc_model.specs.declared.algorithm.Algorithm.TheVariants.{EightByteTag};
 ghost use Rattle.osc_run.specs.{IsReached, IsTextOf};
-ghost use Rattle.osc_scope.specs.{Entry, IsScope, scope_of};
-ghost use Rattle.osc_token.specs.{FitTheirTypes, algorithm_header, claims_item, token_object};
+ghost use Rattle.osc_token.specs.{FitTheirTypes};
 ghost use Rattle.osc_world.specs.Nodes.{StandApart, is_among};
-ghost use Rattle.osc_world.specs.Refusals.{FitAToken, HasScope, IsFree, IsLawful, IsRefusal, Refuses, RefusesPlace};
-ghost use Rattle.osc_world.specs.Starts.{Enrols, IsDeskOf, IsEnrolled, begun, new_proxy, places_of};
+ghost use Rattle.osc_world.specs.Refusals.{IsFree, Refuses, RefusesPlace};
+ghost use Rattle.osc_world.specs.Starts.{Enrols, IsEnrolled, begun, new_proxy, places_of};
 ghost use Rattle.osc_world.specs.Starting.{AreParts};
 ghost use Rattle.osc_world.specs.Worlds.{run_of};
 
-use crate::error::{EnrollError, PlaceError};
+use crate::error::{AdmitError, PlaceError};
 use crate::nodes::{Nodes, Placed};
 use crate::world::World;
-use osc_authz::{ClientDesk, ContextRules, DeskParts, ServerDesk};
+use osc_authz::{ContextRules, DeskParts, EnrollError, Enrolled, ServerDesk, enroll};
 use osc_ccm::Ciphers;
 use osc_client::{Client, Route};
+use osc_model::Peer;
 use osc_model::laws::one_peer;
-use osc_model::{Bytes, Peer};
 use osc_protect::TokenCipher;
 use osc_proxy::{Proxy, Targets};
 use osc_run::{Grant, Minted, kinds};
 use osc_scope::Scope;
 use osc_server::Server;
-use osc_token::{Audience, Claims, InputMaterial, claims_text, mint};
+use osc_token::{Audience, Claims, InputMaterial};
 use osc_tree::Tree;
 use std::alloc::{AllocError, Global};
 use std::marker::Model;
@@ -156,14 +153,9 @@ impl Start {
     ///
     /// # Errors
     ///
-    /// The first that applies: `AddressTaken` where a node is at its address, `BadScope` where the scope of its claims isn't one,
-    /// `TooLong` where its claims have more than 65535 bytes, `Grant` where its input material has a length that no token may have; or,
-    /// where its address is free, `Memory`, whatever its claims are. Then nothing has changed.
-    pub fn enroll<A: Ciphers>(
-        &mut self,
-        alloc: Global,
-        holder: NewHolder,
-    ) -> Result<(), EnrollError>
+    /// `AddressTaken` where a node is at its address; else `Refused`, for the reason that [`osc_authz::enroll`] has, or for lack of memory,
+    /// whatever its claims are. Then nothing has changed.
+    pub fn enroll<A: Ciphers>(&mut self, alloc: Global, holder: NewHolder) -> Result<(), AdmitError>
         ensures enrolled { OnOk result (Enrols A.is_sealing self.old holder self.new) }
         ensures free { OnOk result (IsFree self.old holder.at) }
         ensures lawful { OnOk result (IsLawful holder.claims) }
@@ -171,9 +163,10 @@ impl Start {
         ensures err { OnErr result (self.new ≡ self.old) }
     {
         if self.is_taken(holder.at) {
-            return Err(EnrollError::AddressTaken);
+            return Err(AdmitError::AddressTaken);
         }
-        self.admit::<A>(alloc, holder)
+        self.admit::<A>(alloc, holder)?;
+        Ok(())
     }
 
     /// The same of a client whose address is free.
@@ -301,10 +294,7 @@ fn enrolled<A: Ciphers>(
         claims,
         iv,
     } = holder;
-    let scope = scope_in(alloc, &claims)?;
-    let token = token_of::<A>(alloc, &claims, key, &iv)?;
-    let text = Bytes::from_vec(claims_text(alloc, &claims)?);
-    let desk = desk_of(&claims, token)?;
+    let Enrolled { desk, scope, text } = enroll::<TokenCipher<A>>(alloc, &claims, key, &iv)?;
     let client = Client::new(alloc, desk, way)?;
     let Claims {
         not_before,
@@ -320,48 +310,6 @@ fn enrolled<A: Ciphers>(
         holder: number,
     };
     Ok((Minted { grant, text }, Placed { at, node: client }))
-}
-
-/// The scope of claims.
-fn scope_in(alloc: Global, claims: &Claims) -> Result<Scope, EnrollError>
-    ensures found { IfOk result (λ scope. (entries : List Entry) × IsScope claims.now.scope entries × (scope ≡ scope_of entries)) }
-    ensures refused { IfErr result (λ error. IsRefusal claims.now error) }
-{
-    Ok(Scope::from_cbor(alloc, claims.scope.as_slice())?)
-}
-
-/// The token of claims that have a scope.
-fn token_of<A: Ciphers>(
-    alloc: Global,
-    claims: &Claims,
-    key: &[u8; 16],
-    iv: &[u8; 13],
-) -> Result<Bytes, EnrollError>
-    requires { HasScope claims.now }
-    ensures sealed { IfOk result (λ token. (ciphertext : List ℕ)
-        × A.is_sealing EightByteTag key.now iv.now (enc_structure algorithm_header []) (spelling (claims_item claims.now)) ciphertext
-        × (token ≡ spelling (object_item (token_object iv.now ciphertext)))) }
-    ensures fits { OnOk result (FitAToken claims.now) }
-    ensures refused { IfErr result (λ error. IsRefusal claims.now error) }
-{
-    let mut token = Vec::new(alloc);
-    mint::<TokenCipher<A>>(alloc, claims, key, iv, &mut token)?;
-    Ok(Bytes::from_vec(token))
-}
-
-/// What the holder of the token of these claims is granted.
-fn desk_of(claims: &Claims, token: Bytes) -> Result<ClientDesk, EnrollError>
-    requires scope { HasScope claims.now }
-    requires fits { FitAToken claims.now }
-    ensures desk { IfOk result (λ desk. IsDeskOf claims.now.material token desk) }
-    ensures lawful { OnOk result (IsLawful claims.now) }
-    ensures refused { IfErr result (λ error. IsRefusal claims.now error) }
-{
-    let material = &claims.material;
-    let secret = material.secret.clone()?;
-    let salt = material.salt.clone()?;
-    let id_context = material.id_context.clone()?;
-    Ok(ClientDesk::new(token, secret, salt, id_context, material.alg)?)
 }
 
 /// For proofs: the parts of claims are as long as their types allow. Does nothing.

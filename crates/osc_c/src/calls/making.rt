@@ -16,6 +16,7 @@ use crate::calls::last::Last;
 use crate::calls::outcome::Outcome;
 use crate::calls::plain::{PlainDeviceSettings, PlainDraw};
 use crate::calls::tokens::scope_bytes;
+use osc_authz::EnrollError;
 use osc_ccm::Ciphers;
 use osc_device::{Device, NewError, OwnToken, ServerParts};
 use osc_model::limits::MOST_REVOCATION_SEGMENTS;
@@ -23,7 +24,6 @@ use osc_model::{Bytes, Path};
 use osc_scope::{Scope, ScopeError};
 use osc_token::Audience;
 use osc_tree::Tree;
-use osc_world::EnrollError;
 use std::alloc::Global;
 
 /// By what the device's own token is named.

@@ -1,6 +1,7 @@
 use Rattle.std.proofs.Common.{◌≡◌, ◌∙◌, ◌<◌, ◌≤◌, ◌+◌, ℕ, true, false, length, refl, ap, ap₂, sym, subst, inl, inr, Some, List, [], ◌∷◌}
 use Rattle.std.proofs.lemmas.Bool.{cases_lt}
 use Rattle.osc_coap.specs.Message.{Message}
+use Rattle.osc_model.specs.declared.context.ContextName.{ContextName}
 use Rattle.osc_model.specs.declared.node.Peer.{Peer}
 use Rattle.osc_model.specs.{quiet}
 use Rattle.osc_model.specs.StepNotes.{StepNotes}
@@ -14,15 +15,19 @@ use Rattle.osc_world.specs.{Lie, lie_length, lies}
 use Rattle.osc_world.specs.Adversary.{too_long}
 use Rattle.osc_world.proofs.adversary.lie_under.Goals as goal
 
-pub returns-in-Some-clause-lied : goal.returns-in-Some-clause-lied
-returns-in-Some-clause-lied g c =
-    let name = c.name-under.ensures in
+pub returns-in_ok-message_out-in-Some-clause-lied : goal.returns-in_ok-message_out-in-Some-clause-lied
+returns-in_ok-message_out-in-Some-clause-lied g c =
+    let name : c.deref.result.now ≡ c.args.context.now.name = c.deref.ensures ∙ c.name-under.ensures in
     let outside : c.message.result ≡ c.args.outside.now = c.message.ensures in
     let sealed : IsRequestOf g.A.Ciphers.is_sealing c.args.text.now c.args.context.now.name c.args.number c.args.outside.now c.in-Some.message =
-    rw (name, outside) at c.in-Some.ensures.protected in
+    subst (λ (n : ContextName). IsRequestOf g.A.Ciphers.is_sealing c.args.text.now n c.args.number c.args.outside.now c.in-Some.message) name
+    (subst (λ (m : Message). IsRequestOf g.A.Ciphers.is_sealing c.args.text.now c.deref.result.now c.args.number m c.in-Some.message) outside c.in-Some.ensures.protected) in
     let fits : length_of_request (length c.args.text.now + g.A.Ciphers.TAG (algorithm_of c.args.context.now.name)) c.args.context.now.name c.args.number c.args.outside.now ≤ longest_message =
-    rw (name, outside) at (c.in-Some.ensures.fits.0 refl) in
-    let note : c.in_ok-note.note ≡ request_note c.args.context.now.name c.args.number c.args.text.now = rw name at c.in_ok-note.ensures in
+    subst (λ (n : ContextName). length_of_request (length c.args.text.now + g.A.Ciphers.TAG (algorithm_of n)) n c.args.number c.args.outside.now ≤ longest_message) name
+    (subst (λ (m : Message). length_of_request (length c.args.text.now + g.A.Ciphers.TAG (algorithm_of c.deref.result.now)) c.deref.result.now c.args.number m ≤ longest_message) outside
+    (c.in-Some.ensures.fits.0 refl)) in
+    let note : c.in_ok-note-in-Some.note ≡ request_note c.args.context.now.name c.args.number c.args.text.now =
+    subst (λ (n : ContextName). c.in_ok-note-in-Some.note ≡ request_note n c.args.number c.args.text.now) c.name-under.ensures c.in_ok-note-in-Some.ensures in
     let message = c.in-Some.message in
     let notes : c.with_seal.result ≡ record quiet { seals = Some (request_note c.args.context.now.name c.args.number c.args.text.now) } =
     c.with_seal.ensures ∙ ap₂ (λ (q : StepNotes) (n : Note). record q { seals = Some n }) c.quiet.ensures note in
@@ -37,16 +42,19 @@ returns-in-Some-clause-lied g c =
     c.in_ok-message_out-in-Some.ensures.spelled
     (ap₂ (λ (o : List Datagram) (n : StepNotes). record { out = o; notes = n }) out notes)
 
-pub returns-clause-lied : goal.returns-clause-lied
-returns-clause-lied g c =
-    let name = c.name-under.ensures in
+pub returns-in-None-clause-lied : goal.returns-in-None-clause-lied
+returns-in-None-clause-lied g c =
+    let name : c.deref.result.now ≡ c.args.context.now.name = c.deref.ensures ∙ c.name-under.ensures in
     let outside : c.message.result ≡ c.args.outside.now = c.message.ensures in
     let size : ℕ = length_of_request (length c.args.text.now + g.A.Ciphers.TAG (algorithm_of c.args.context.now.name)) c.args.context.now.name c.args.number c.args.outside.now in
     let long : longest_message < size =
     elim (cases_lt longest_message size) [
       | inl lt ↦ lt
       | inr le ↦
-          let wrong : false ≡ true = c.in-None.ensures.fits.1 (rw (name, outside) le) in
+          let short : length_of_request (length c.args.text.now + g.A.Ciphers.TAG (algorithm_of c.deref.result.now)) c.deref.result.now c.args.number c.message.result ≤ longest_message =
+          subst (λ (m : Message). length_of_request (length c.args.text.now + g.A.Ciphers.TAG (algorithm_of c.deref.result.now)) c.deref.result.now c.args.number m ≤ longest_message) (sym outside)
+          (subst (λ (n : ContextName). length_of_request (length c.args.text.now + g.A.Ciphers.TAG (algorithm_of n)) n c.args.number c.args.outside.now ≤ longest_message) (sym name) le) in
+          let wrong : false ≡ true = c.in-None.ensures.fits.1 short in
           absurd (cc)
     ] in
     λ client draw held hop from.

@@ -7,7 +7,8 @@ use Rattle.osc_world.proofs.start.enrolled.Goals as goal
 pub returns-clause-text : goal.returns-clause-text
 returns-clause-text g c =
     let claims = c.args.holder.claims in
-    let found = c.in_ok-scope.ensures.found in
+    let made = c.in_ok-desk.ensures in
+    let found = made.scope in
     let grant : Grant =
     record {
       id = claims.material.id;
@@ -15,22 +16,22 @@ returns-clause-text g c =
       salt = claims.material.salt;
       id_context = claims.material.id_context;
       alg = claims.material.alg;
-      scope = c.in_ok-scope.scope;
+      scope = c.in_ok-desk.field-0.scope;
       not_before = claims.not_before;
       expires = claims.expires;
       holder = c.args.number;
     } in
-    subst (λ text. IsTextOf grant text) (sym (c.from_vec-text.ensures ∙ c.in_ok-claims_text.ensures))
+    subst (λ text. IsTextOf grant text) (sym made.text)
     (c.minted_texts.ensures claims found.0 grant c.fits.ensures found.1 refl refl found.2 refl refl)
 
 pub returns-clause-enrolled : goal.returns-clause-enrolled
 returns-clause-enrolled g c =
     let claims = c.args.holder.claims in
     let client = c.in_ok-client.ensures in
-    let desk = c.in_ok-desk.ensures.desk in
-    let text = c.from_vec-text.ensures ∙ c.in_ok-claims_text.ensures in
-    let found = c.in_ok-scope.ensures.found in
-    let sealed = c.in_ok-token.ensures.sealed in
+    let made = c.in_ok-desk.ensures in
+    let found = made.scope in
+    let sealed = made.sealed in
+    let desk = sealed.2 in
     record {
       entries = found.0;
       scope = found.1;
@@ -48,14 +49,14 @@ returns-clause-enrolled g c =
           expires = claims.expires;
           holder = c.args.number;
         };
-        text = text j;
+        text = made.text j;
       };
       client = record {
         at = refl;
         next_hop = ap (λ (k : Client). k.next_hop) client;
         origin = ap (λ (k : Client). k.origin) client;
         desk = record {
-          token_is = ap (λ (k : Client). k.desk.token) client ∙ desk.token_is ∙ sealed.2;
+          token_is = ap (λ (k : Client). k.desk.token) client ∙ desk.token_is;
           secret = ap (λ (k : Client). k.desk.secret) client ∙ desk.secret;
           salt = ap (λ (k : Client). k.desk.salt) client ∙ desk.salt;
           id_context = ap (λ (k : Client). k.desk.id_context) client ∙ desk.id_context;

@@ -17,7 +17,7 @@ returns g c =
     let server = ap (λ d. d.server) c.self.view_is in
     let after : Server → Server = λ s. record s { endpoint = after_tick c.args.now s.endpoint } in
     let gone = c.on_tick-let_go.ensures.ticked.kept ∙ ap after server in
-    let is : (draw : Draw) → IsStep g.A.Ciphers.is_sealing c.self.inside.own.node (Due c.args.now draw) c.on_tick-begun.result c.on_tick-begun.new.self =
+    let is : (draw : Draw) → IsStep g.A.Ciphers.is_sealing c.self.inside.own (Due c.args.now draw) c.on_tick-begun.result c.on_tick-begun.new.self =
     λ draw. record { makes = c.on_tick-begun.ensures.ticked; kind = c.on_tick-begun.ensures.kind } in
     let begun : (draw : Draw) → IsStep g.A.Ciphers.is_sealing c.args.self.now.own (Due c.args.now draw) c.carry.result.begun c.on_tick-begun.new.self =
     λ draw. subst (λ (begun : Step). IsStep g.A.Ciphers.is_sealing c.args.self.now.own (Due c.args.now draw) begun c.on_tick-begun.new.self) (sym c.carry.ensures.begun)
@@ -35,4 +35,4 @@ returns g c =
 
 pub invariant_of-self : goal.invariant_of-self
 invariant_of-self g c =
-    ticked_straight c.self.inside.own.node c.args.now c.on_tick-begun.result c.on_tick-begun.new.self c.on_tick-begun.ensures.ticked c.self.invariant
+    ticked_straight c.self.inside.own c.args.now c.on_tick-begun.result c.on_tick-begun.new.self c.on_tick-begun.ensures.ticked c.self.invariant

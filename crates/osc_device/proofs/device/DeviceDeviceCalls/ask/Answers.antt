@@ -42,5 +42,5 @@ returns g c =
 pub invariant_of-self-2 : goal.invariant_of-self-2
 invariant_of-self-2 g c =
     let asked : Asked = record { at = c.args.now; draw = c.args.draws.own; request = c.args.request.now } in
-    asked_straight g.A.Ciphers.is_sealing g.A.Ciphers.TAG c.self.inside.own.node asked c.in_ok-begun.begun c.ask.new.self
+    asked_straight g.A.Ciphers.is_sealing g.A.Ciphers.TAG c.self.inside.own asked c.in_ok-begun.begun c.ask.new.self
     c.in_ok-begun.ensures.asked.asks c.self.invariant

@@ -37,7 +37,7 @@ returns g c =
             (subst (λ (old : Server). KeepsPlace old.desk.rules.reserved old.desk.table) server c.keeps_its_place.ensures) may)
             whole c.is_drawn.ensures begins carries;
         fits = subst (λ (begun : Step). begun.notes.result ≢ Some (Refused 14)) (sym c.carry.ensures.begun)
-            (never_too_long c.self.inside.own.node c.exchange.new.self c.args.now c.args.draws.own c.in_ok-begun.begun c.is_drawn-2.ensures c.self.invariant.2
+            (never_too_long c.self.inside.own c.exchange.new.self c.args.now c.args.draws.own c.in_ok-begun.begun c.is_drawn-2.ensures c.self.invariant.2
             c.in_ok-begun.ensures.begun.exchanges);
         run = c.runs_go_on.ensures c.args.self.now (device c.args.self.now.server c.exchange.new.self) c.carry.new.self c.args.now c.args.draws.server c.carry.result
             kind refl carries;
@@ -47,4 +47,4 @@ returns g c =
 
 pub invariant_of-self-2 : goal.invariant_of-self-2
 invariant_of-self-2 g c =
-    begun_straight c.self.inside.own.node c.args.now c.args.draws.own c.in_ok-begun.begun c.exchange.new.self c.in_ok-begun.ensures.begun.exchanges c.self.invariant
+    begun_straight c.self.inside.own c.args.now c.args.draws.own c.in_ok-begun.begun c.exchange.new.self c.in_ok-begun.ensures.begun.exchanges c.self.invariant
