@@ -267,13 +267,15 @@ class RustFile:
 
     def at_type(self, module, owner, frm, at, public):
         end = self.statement(at)
-        name, _, value = self.code[at:end].partition("=")
-        name = re.match(r"\s*(\w+)", name).group(1)
+        head, _, value = self.code[at:end].partition("=")
+        name = re.match(r"\s*(\w+)", head)
+        generics = Generics(after_generics(head, name.end())[1])
+        name = name.group(1)
         if owner is None:
             item = self.item(module, name, "alias", frm, end + 1)
-            item.module, item.generics, item.public, item.variants, item.model = module, Generics(), public == "pub", set(), None
+            item.module, item.generics, item.public, item.variants, item.model = module, generics, public == "pub", set(), None
             item.value = value
-            item.fill = lambda names: self.world.types(value, module, Generics(), names)
+            item.fill = lambda names: self.world.types(value, module, generics, names)
             module.items[name] = item
             if public == "pub":
                 module.public.add(name)

@@ -16,7 +16,6 @@ use Rattle.osc_model.specs.{has_subtrees}
 use Rattle.osc_scope.specs.{Entry, IsScope, scope_of}
 use Rattle.osc_token.specs.{HasLawfulParts, algorithm_header, claims_item, token_object}
 use Rattle.osc_world.specs.{Beginning, Enrols, IsPlaced, first_nodes, minted_of}
-use Rattle.osc_world.specs.declared.nodes.Placed.{Placed}
 use Rattle.osc_world.specs.declared.start.NewHolder.{NewHolder}
 use Rattle.osc_device.specs.{IsBegun, IsGranted, IsTooLongToPost, own_claims, own_holder, server_alone, server_address}
 use Rattle.osc_device.specs.Inner.Holding.{HoldsOwn}

@@ -13,8 +13,8 @@ use osc_words::{
 use std::alloc::Global;
 use std::io::Read;
 
-/// The token that is asked for and issued at this second, counted from 1970, with the key and the secret that are given, or that the files hold which are opened for them. A file is
-/// read only where what it holds isn't given, and then a missing one is one that can't be read.
+/// The token that is asked for and issued at this second, counted from 1970, with the key and the secret that are given, or that the files
+/// hold which are opened for them. A file is read only where what it holds isn't given, and then a missing one is one that can't be read.
 ///
 /// # Errors
 ///

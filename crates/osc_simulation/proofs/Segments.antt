@@ -3,11 +3,11 @@ use Rattle.std.proofs.Common.{◌≡◌, ℕ, ◌≤◌, ◌+◌, ◌*◌, ◌-�
 use Rattle.std.specs.List.{list_all, slice_split}
 use Rattle.std.proofs.lemmas.Bool.{and_parts}
 use Rattle.std.proofs.lemmas.List.{at_drop_more, drop_all, take_all}
-use Rattle.osc_model.specs.{IsPath, is_segment, are_segments, path_text}
+use Rattle.osc_model.specs.{IsPath, is_segment, are_segments, path_text, segments_of}
 use Rattle.osc_coap.specs.{NumberAndValue, options_spelling, payload_spelling, plaintext_spelling, datagram_limit, extension_length, option_length, options_length, plaintext_length, bare_plaintext, last_number, payload_of, with_inner_option}
 use Rattle.osc_coap.specs.Plaintext.{Plaintext}
 use Rattle.osc_options.specs.Inner.Merging.{with_inner_options}
-use Rattle.osc_options.specs.{each, segments_of}
+use Rattle.osc_options.specs.{each}
 
 -- ---- the laws of paths, options and plaintexts that are used
 

@@ -2,7 +2,8 @@
 ghost use Rattle.std.specs.Prelude.{◌≡◌, ◌++◌, None, IfOk, OnOk};
 ghost use Rattle.osc_coap.specs.{bare_plaintext, payload_of, payload_spelling};
 ghost use Rattle.osc_options.specs.Inner.Merging.{with_inner_options};
-ghost use Rattle.osc_options.specs.{each, path_options, segments_of};
+ghost use Rattle.osc_model.specs.{segments_of};
+ghost use Rattle.osc_options.specs.{each, path_options};
 ghost use Rattle.osc_simulation.specs.Events as spec;
 
 use osc_coap::laws::{length_of_plaintext, options_in_parts};

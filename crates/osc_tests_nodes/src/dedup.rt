@@ -4,8 +4,8 @@ use osc_dedup::*;
 use osc_model::{Bytes, Moment, Peer};
 use std::alloc::{AllocError, Global};
 
-fn answered(alloc: Global, until: u64) -> Result<Noted, AllocError> {
-    Ok(Noted {
+fn answered(alloc: Global, until: u64) -> Result<Remembered, AllocError> {
+    Ok(Remembered {
         until,
         reply: Some(Bytes::from_slice(alloc, b"reply")?),
     })

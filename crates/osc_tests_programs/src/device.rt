@@ -538,11 +538,11 @@ fn a_change_without_memory(rt: HostRuntime) -> Result<(), Fail> {
         return Ok(());
     };
     let (files, all, answered) = changed_over(alloc, store, tree)?;
-    match open_files(alloc, files, 8) {
-        Ok((_store, found)) => {
+    match start(alloc, files.log.bytes(), files.db.bytes())? {
+        Ok(found) => {
             assert!(&rt; !all || agrees(alloc, &found, &answered)?);
             Ok(())
         }
-        Err((error, _left)) => Err(Fail::from(error)),
+        Err(error) => Err(Fail::from(error)),
     }
 }

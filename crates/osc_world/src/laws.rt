@@ -181,8 +181,9 @@ pub fn what_is_minted<A: Ciphers>()
 
 /// Where a world begins, what is assumed of a run holds if no two grants share a secret. A client that was enrolled holds a token of the
 /// key, and may exchange: at any moment in the time of its token, if that is for the server's audience, isn't revoked by the first
-/// resources, has a scope that the server allows and parts of lawful lengths, and the server's contexts count for a while. The world is ready for it where the client reaches the server straight, or through a proxy
-/// that was added and has the server among its targets, by the host and port that the client writes.
+/// resources, has a scope that the server allows and parts of lawful lengths, and the server's contexts count for a while. The world is
+/// ready for it where the client reaches the server straight, or through a proxy that was added and has the server among its targets, by
+/// the host and port that the client writes.
 pub fn where_a_world_begins<A: Ciphers>()
     ensures premise { (start : Beginning) → HasOwnSecrets start.minted → Premise (begun start).minted (begun start).steps }
     ensures holds { (before after start : Beginning) (holder : AnyHolder) (enrols : Enrols A.is_sealing before holder after)

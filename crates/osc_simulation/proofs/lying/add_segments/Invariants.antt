@@ -1,7 +1,8 @@
 use Rattle.std.proofs.Common.{◌≡◌, ◌≤◌, None, length, drop}
 use Rattle.osc_coap.specs.{last_number}
 use Rattle.osc_options.specs.Inner.Merging.{with_inner_options}
-use Rattle.osc_options.specs.{each, segments_of}
+use Rattle.osc_model.specs.{segments_of}
+use Rattle.osc_options.specs.{each}
 use Rattle.osc_simulation.proofs.lying.add_segments.Given as goal
 
 -- the segments that are left make the same plaintext

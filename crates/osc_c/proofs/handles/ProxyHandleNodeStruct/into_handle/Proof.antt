@@ -24,10 +24,10 @@ use Rattle.osc_c.specs.{ProxyType as R}
 use Rattle.osc_c.proofs.HandleValues.{ptr_good, handle_good, handle_out, handle_in}
 use Rattle.osc_c.specs.contracts.handle.Handle as handle
 use Rattle.osc_c.specs.contracts.handles.ProxyHandle as of_c
-use Rattle.osc_c.specs.contracts.handles.ProxyHandleHolds.into_handle.{ended, clauses}
-use Rattle.osc_c.specs.contracts.handles.ProxyHandleHolds.into_handle.Key.{name as #self}
-use Rattle.osc_c.proofs.handles.ProxyHandleHolds.into_handle.Statement.{statement}
-use Rattle.osc_c.proofs.handles.ProxyHandleHolds.into_handle.Code as code
+use Rattle.osc_c.specs.contracts.handles.ProxyHandleNodeStruct.into_handle.{ended, clauses}
+use Rattle.osc_c.specs.contracts.handles.ProxyHandleNodeStruct.into_handle.Key.{name as #self}
+use Rattle.osc_c.proofs.handles.ProxyHandleNodeStruct.into_handle.Statement.{statement}
+use Rattle.osc_c.proofs.handles.ProxyHandleNodeStruct.into_handle.Code as code
 
 pub into_handle_spec : {M : Type 1} → statement M
 into_handle_spec 𝓤 𝓛 𝓜 𝓡 wired =

@@ -1,7 +1,6 @@
-use Rattle.std.proofs.Common.{◌≡◌, ap, rules, arith, sym, subst, ℕ, List}
+use Rattle.std.proofs.Common.{◌≡◌, rules, arith, sym, subst, ℕ, List}
 use Rattle.osc_model.specs.declared.algorithm.Algorithm.TheVariants.{EightByteTag}
 use Rattle.osc_authz.specs.{IsLawful, IsRefusal}
-use Rattle.osc_server.specs.State.{State as Server}
 use Rattle.osc_token.specs.declared.claims.Claims.{Claims}
 use Rattle.osc_world.specs.{first_nodes}
 use Rattle.osc_device.specs.{own_claims, server_alone}
@@ -9,10 +8,12 @@ use Rattle.osc_device.specs.Inner.Holding.{HoldsOwn}
 use Rattle.osc_device.proofs.FirstOf.{granted, is_begun, lawful_parts, reserved, straight, too_long}
 use Rattle.osc_device.proofs.device.Device.new.Goals as goal
 
-pub returns-in_err-own_client-clause-refused : goal.returns-in_err-own_client-clause-refused
-returns-in_err-own_client-clause-refused g c =
+pub returns-in_err-client-clause-refused : goal.returns-in_err-client-clause-refused
+returns-in_err-client-clause-refused g c =
     let claims : c.own_claims-claims.result ≡ own_claims c.args.parts c.args.own = c.own_claims-claims.ensures c.args.parts (sym c.in_ok-audience.ensures.cases) in
-    subst (λ (claims : Claims). IsRefusal claims c.in_err-own_client.error) claims c.in_err-own_client.ensures.refused
+    let refused : IsRefusal (own_claims c.args.parts c.args.own) c.in_err-client.field-0.0 =
+    subst (λ (claims : Claims). IsRefusal claims c.in_err-client.field-0.0) claims c.in_err-client.ensures.refused in
+    search (rules, refused)
 
 pub invariant_of-result : goal.invariant_of-result
 invariant_of-result g c =
