@@ -223,19 +223,17 @@ impl Server {
             Heard::Empty(kind, id) => {
                 self.endpoint.settle_empty(now, from, kind, id);
                 self.desk.has_a_table();
-                return Ok(Step::sending(Datagrams::new(alloc)));
+                Ok(Step::sending(Datagrams::new(alloc)))
             }
-            Heard::Message(message) => {
-                return self.answer_new::<A>(
-                    alloc,
-                    Arrival {
-                        at: now,
-                        from,
-                        draw,
-                        message,
-                    },
-                );
-            }
+            Heard::Message(message) => self.answer_new::<A>(
+                alloc,
+                Arrival {
+                    at: now,
+                    from,
+                    draw,
+                    message,
+                },
+            ),
         }
     }
 
@@ -256,22 +254,18 @@ impl Server {
         match case_of(alloc, &self.open_scope, &came.message, &mut place)? {
             RequestCase::Unused => {
                 self.desk.has_a_table();
-                return reject(alloc, &came);
+                reject(alloc, &came)
             }
-            RequestCase::BadOption => return self.refuse(alloc, came, Code::BAD_OPTION),
-            RequestCase::ProxyAsked => return self.refuse(
-                alloc,
-                came,
-                Code::PROXYING_NOT_SUPPORTED,
-            ),
-            RequestCase::Protected(value) => return self.protected::<A>(alloc, came, &value),
-            RequestCase::Posted => return self.posted::<A>(alloc, came),
-            RequestCase::NotPosted => return self.refuse(alloc, came, Code::METHOD_NOT_ALLOWED),
+            RequestCase::BadOption => self.refuse(alloc, came, Code::BAD_OPTION),
+            RequestCase::ProxyAsked => self.refuse(alloc, came, Code::PROXYING_NOT_SUPPORTED),
+            RequestCase::Protected(value) => self.protected::<A>(alloc, came, &value),
+            RequestCase::Posted => self.posted::<A>(alloc, came),
+            RequestCase::NotPosted => self.refuse(alloc, came, Code::METHOD_NOT_ALLOWED),
             RequestCase::OpenGet(grant) => {
                 let reply = open_reply(alloc, self.desk.revoked(), &mut self.tree, &grant);
-                return self.give(alloc, came, &reply);
+                self.give(alloc, came, &reply)
             }
-            RequestCase::Unauthorised => return self.refuse(alloc, came, Code::UNAUTHORIZED),
+            RequestCase::Unauthorised => self.refuse(alloc, came, Code::UNAUTHORIZED),
         }
     }
 
