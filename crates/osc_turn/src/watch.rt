@@ -24,7 +24,9 @@ pub struct SystemWatch<'a, R> {
 
 impl<'a, R> SystemWatch<'a, R> {
     /// That of this runtime.
-    pub fn new(runtime: &'a R) -> SystemWatch<'a, R> {
+    pub fn new(runtime: &'a R) -> SystemWatch<'a, R>
+        ensures { result.runtime.now ≡ runtime.now }
+    {
         SystemWatch { runtime }
     }
 }
