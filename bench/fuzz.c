@@ -202,7 +202,7 @@ static int is_of(const asked *it, const nzf_served *told, const uint8_t *bytes) 
            memcmp(it->path, bytes, it->path_length) == 0 && memcmp(it->payload, bytes + it->path_length, it->payload_length) == 0;
 }
 
-static void heed_served(void) {
+static void act_on_served(void) {
     nzf_served it;
     uint8_t bytes[SERVED];
     unsigned kept = refuse_in;
@@ -231,7 +231,7 @@ static void heed_served(void) {
 }
 
 /* What a client learns: only what it has open can end. */
-static void heed_client(size_t at) {
+static void act_on_client(size_t at) {
     nzf_result it;
     uint8_t payload[NZF_DATAGRAM_MAX];
     unsigned kept = refuse_in;
@@ -260,7 +260,7 @@ static void to_device(const datagram *it) {
         SHOULD(is_same(&before, &after));
         return;
     }
-    heed_served();
+    act_on_served();
     take_all(next_of_device, &device, &DEVICE);
 }
 
@@ -275,7 +275,7 @@ static void to_client(size_t at, const datagram *it) {
     int32_t number = nzf_client_on_datagram(&clients[at], now, &it->from, it->bytes, it->length);
     ANSWERS(number, OR(NZF_DONE) | (has_refused ? OR(NZF_NO_MEMORY) : 0));
     if (number != NZF_DONE) return;
-    heed_client(at);
+    act_on_client(at);
     take_all(next_of_client, &clients[at], &AT[at]);
 }
 
@@ -434,7 +434,7 @@ static void pass(void) {
     } else {
         number = nzf_client_on_tick(&clients[who - 2], now);
         ANSWERS(number, OR(NZF_DONE) | (has_refused ? OR(NZF_LOST) : 0));
-        heed_client(who - 2);
+        act_on_client(who - 2);
         take_all(next_of_client, &clients[who - 2], &AT[who - 2]);
     }
 }

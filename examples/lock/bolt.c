@@ -73,7 +73,7 @@ static int posts(void) {
     return nzf_client_exchange(&holder, now(), &it) == NZF_DONE && arrives() == NZF_DONE && is_answered();
 }
 
-/* The holder wants the bolt there, and the lock heeds that while so many blocks are refused. */
+/* The holder wants the bolt there, and the lock obeys that while this number of blocks is refused. */
 static int wants(const char *where, size_t without) {
     nzf_draw it = draw();
     nzf_request put = NZF_REQUEST;
@@ -84,7 +84,7 @@ static int wants(const char *where, size_t without) {
     int32_t number = arrives();
     if (number != NZF_DONE || !is_answered()) return 0;
     refused = without;
-    heed("datagram", number);
+    act_on("datagram", number);
     refused = 0;
     return 1;
 }

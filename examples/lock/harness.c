@@ -294,7 +294,7 @@ static void keep(world *w, uint16_t from, const datagram *it) {
 }
 
 /* What the last step of the device left. */
-static void heed_device(world *w) {
+static void act_on_device(world *w) {
     datagram it;
     while (nzf_device_next(&w->device, &it.to, it.bytes, sizeof it.bytes, &it.length) == NZF_DONE) keep(w, DEVICE_PORT, &it);
     nzf_served served;
@@ -309,12 +309,12 @@ static void heed_device(world *w) {
     if (nzf_device_refused(&w->device, &w->why) == NZF_DONE) w->refusals++;
 }
 
-static void heed_proxy(world *w) {
+static void act_on_proxy(world *w) {
     datagram it;
     while (nzf_proxy_next(&w->proxy, &it.to, it.bytes, sizeof it.bytes, &it.length) == NZF_DONE) keep(w, PROXY_PORT, &it);
 }
 
-static void heed_client(world *w, size_t at) {
+static void act_on_client(world *w, size_t at) {
     datagram it;
     nzf_client *client = &w->clients[at];
     while (nzf_client_next(client, &it.to, it.bytes, sizeof it.bytes, &it.length) == NZF_DONE) keep(w, (uint16_t)(CLIENT_PORT + at), &it);
@@ -328,14 +328,14 @@ static int32_t deliver(world *w, const datagram *it) {
     uint16_t to = it->to.port;
     if (to == DEVICE_PORT) {
         number = nzf_device_on_datagram(&w->device, w->now, &it->from, it->bytes, it->length, &chosen);
-        heed_device(w);
+        act_on_device(w);
     } else if (to == PROXY_PORT) {
         number = nzf_proxy_on_datagram(&w->proxy, w->now, &it->from, it->bytes, it->length, &chosen);
-        heed_proxy(w);
+        act_on_proxy(w);
     } else if (to >= CLIENT_PORT && to < CLIENT_PORT + CLIENTS) {
         size_t at = to - CLIENT_PORT;
         number = nzf_client_on_datagram(&w->clients[at], w->now, &it->from, it->bytes, it->length);
-        heed_client(w, at);
+        act_on_client(w, at);
     }
     return number;
 }
@@ -358,7 +358,7 @@ static int exchange(world *w, size_t at) {
     nzf_draw it = draw();
     w->results[at].what = 0;
     NEEDS(nzf_client_exchange(&w->clients[at], w->now, &it) == NZF_DONE);
-    heed_client(w, at);
+    act_on_client(w, at);
     NEEDS(quiet(w));
     NEEDS(w->results[at].what == NZF_RESULT_MADE);
     return 1;
@@ -372,7 +372,7 @@ static int32_t ask(world *w, size_t at, uint8_t method, const char *path, const 
     asked.payload = nzf_text(payload);
     w->results[at].what = 0;
     int32_t number = nzf_client_ask(&w->clients[at], w->now, &asked, &it);
-    heed_client(w, at);
+    act_on_client(w, at);
     return number;
 }
 
@@ -433,7 +433,7 @@ static int is_refused_by(world *w, size_t at, uint8_t code) {
     nzf_draw it = draw();
     w->results[at].what = 0;
     NEEDS(nzf_client_exchange(&w->clients[at], w->now, &it) == NZF_DONE);
-    heed_client(w, at);
+    act_on_client(w, at);
     NEEDS(quiet(w));
     NEEDS(w->results[at].what == NZF_RESULT_ENDED && w->results[at].code == code);
     return 1;
@@ -1053,11 +1053,11 @@ static void not_begun(world *w) {
     ANSWERS(NZF_DONE, ask(w, 0, 1, "/e", ""));
     CLAIM(w->results[0].what == NZF_RESULT_REFUSED && w->results[0].code == NZF_REASON_NO_CONTEXT && w->waiting == 0);
     ANSWERS(NZF_DONE, nzf_client_exchange(&w->clients[0], w->now, &it));
-    heed_client(w, 0);
+    act_on_client(w, 0);
     CLAIM(w->waiting == 1);
     w->results[0].what = 0;
     ANSWERS(NZF_DONE, nzf_client_exchange(&w->clients[0], w->now, &it));
-    heed_client(w, 0);
+    act_on_client(w, 0);
     CLAIM(w->results[0].what == NZF_RESULT_REFUSED && w->results[0].code == NZF_REASON_BUSY);
     CLAIM(w->waiting == 1 && quiet(w) && w->results[0].what == NZF_RESULT_MADE);
 }
@@ -1120,14 +1120,14 @@ static void timed_out(world *w) {
     size_t sent;
     ANSWERS(NZF_NOTHING, nzf_client_next_deadline(&w->clients[0], &moment));
     ANSWERS(NZF_DONE, nzf_client_exchange(&w->clients[0], w->now, &it));
-    heed_client(w, 0);
+    act_on_client(w, 0);
     sent = w->sent;
     w->results[0].what = 0;
     for (size_t turn = 0; turn < 10 && nzf_client_next_deadline(&w->clients[0], &moment) == NZF_DONE; turn++) {
         CLAIM(moment > w->now);
         w->now = moment;
         ANSWERS(NZF_DONE, nzf_client_on_tick(&w->clients[0], w->now));
-        heed_client(w, 0);
+        act_on_client(w, 0);
     }
     CLAIM(w->sent == sent + 4 && w->results[0].what == NZF_RESULT_TIMED_OUT);
     w->waiting = 0;
@@ -1343,7 +1343,7 @@ static void some_call_of_a_client(world *w, size_t at) {
     case 3: tell(nzf_client_result(&w->clients[at], &result, bytes, room)); break;
     default: tell(ask(w, at, method, path, payload)); break;
     }
-    heed_client(w, at);
+    act_on_client(w, at);
 }
 
 static void some_call_of_a_device(world *w) {
@@ -1367,7 +1367,7 @@ static void some_call_of_a_device(world *w) {
     case 7: tell(nzf_device_allow(&w->device, w->now, path, small % 4, &draws, &code)); break;
     default: tell(writes(w, method, path, payload, &code)); break;
     }
-    heed_device(w);
+    act_on_device(w);
 }
 
 static void some_call_of_a_proxy(world *w) {
@@ -1379,7 +1379,7 @@ static void some_call_of_a_proxy(world *w) {
     case 1: tell(nzf_proxy_next_deadline(&w->proxy, &moment)); break;
     default: tell(nzf_proxy_on_tick(&w->proxy, w->now, &it)); break;
     }
-    heed_proxy(w);
+    act_on_proxy(w);
 }
 
 /* A node starts again, is let go, or is made anew; every other time with a heap that refuses nothing, since a node takes many blocks. */

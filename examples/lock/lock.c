@@ -183,7 +183,7 @@ static void tell(void) {
 }
 
 /* What came of what was left open. It says nothing of how the bolt stands where that has moved since. */
-static void heed_learnt(void) {
+static void act_on_learnt(void) {
     uint8_t code = 0;
     int32_t number = nzf_device_learnt(&device, &code);
     if (number == NZF_NOTHING) return;
@@ -212,7 +212,7 @@ static int is_text(const uint8_t *bytes, size_t length, const char *text) { retu
 /* ---- one step */
 
 /* A PUT of /lock/wanted that was done moves the bolt: the library has judged by then that its holder may, and that it is no repeat. */
-static void heed_served(void) {
+static void act_on_served(void) {
     nzf_served it;
     uint8_t bytes[NZF_PATH_MAX + NZF_DATAGRAM_MAX + NZF_CONTEXT_MAX];
     int32_t number = nzf_device_served(&device, &it, bytes, sizeof bytes);
@@ -228,7 +228,7 @@ static void heed_served(void) {
     if (is_text(payload, it.payload_length, "shut")) move(0, holder, it.context_length);
 }
 
-static void heed_refused(void) {
+static void act_on_refused(void) {
     nzf_refused it;
     int32_t number = nzf_device_refused(&device, &it);
     if (number == NZF_NOTHING) return;
@@ -238,13 +238,13 @@ static void heed_refused(void) {
 }
 
 /* After a call that was done, though some of what it sends may be lost: what its step left is taken before the lock writes for itself, which is a step
- * of its own. After any other number the last step is still there, and was heeded by then: to heed it again would move the bolt twice. */
-static void heed(const char *what, int32_t number) {
+ * of its own. After any other number the last step is still there, and was acted on by then: to act on it again would move the bolt twice. */
+static void act_on(const char *what, int32_t number) {
     if (number == NZF_DONE || number == NZF_LOST) {
         send_all();
-        heed_served();
-        heed_refused();
-        heed_learnt();
+        act_on_served();
+        act_on_refused();
+        act_on_learnt();
     }
     if (number != NZF_DONE) complain(what, number, 0);
     tell();
@@ -252,7 +252,7 @@ static void heed(const char *what, int32_t number) {
 
 static void tick(void) {
     nzf_draw it = draw();
-    heed("tick", nzf_device_on_tick(&device, now(), &it));
+    act_on("tick", nzf_device_on_tick(&device, now(), &it));
     renew();
 }
 
@@ -269,7 +269,7 @@ static void receive(void) {
     nzf_draw it = draw();
     memcpy(from.address, &there.sin_addr, sizeof from.address);
     from.port = ntohs(there.sin_port);
-    heed("datagram", nzf_device_on_datagram(&device, now(), &from, bytes, (size_t)length, &it));
+    act_on("datagram", nzf_device_on_datagram(&device, now(), &from, bytes, (size_t)length, &it));
 }
 
 /* ---- the whole */

@@ -19,7 +19,7 @@ static void send_all(void) {
 }
 
 /* What a step left is sent where it was done. After NZF_NO_MEMORY a datagram is lost, and whoever sent it repeats it. */
-static void heed(const char *what, int32_t number) {
+static void act_on(const char *what, int32_t number) {
     if (number == NZF_DONE || number == NZF_LOST) send_all();
     if (number != NZF_DONE) fprintf(stderr, "proxy: %s: %s\n", what, nzf_outcome_text(number));
 }
@@ -50,11 +50,11 @@ int main(int count, char **words) {
         nzf_peer from;
         nzf_draw it = draw();
         if (receive(udp, tick, bytes, &length, &from)) {
-            heed("datagram", nzf_proxy_on_datagram(&proxy, now(), &from, bytes, length, &it));
+            act_on("datagram", nzf_proxy_on_datagram(&proxy, now(), &from, bytes, length, &it));
             it = draw();
         }
         if (now() >= tick) {
-            heed("tick", nzf_proxy_on_tick(&proxy, now(), &it));
+            act_on("tick", nzf_proxy_on_tick(&proxy, now(), &it));
             tick = now() + SECOND;
         }
     }
