@@ -107,6 +107,7 @@ fn set_marks(marks: &mut Marks, table: &[TokenEntry], path: &Path, mark: bool)
 }
 
 /// The same of one token id.
+#[inline(always)]
 fn set_entry(marks: &mut Marks, entry: &TokenEntry, path: &Path, mark: bool)
     ensures { SetsMarks (is_revoked_at path.now) mark (listed entry.now.confirmed ++ listed entry.now.pending) marks.old marks.new }
 {
@@ -115,6 +116,7 @@ fn set_entry(marks: &mut Marks, entry: &TokenEntry, path: &Path, mark: bool)
 }
 
 /// The same of one context, where it is there.
+#[inline(always)]
 fn set_context(marks: &mut Marks, context: &Option<ServerContext>, path: &Path, mark: bool)
     ensures { SetsMarks (is_revoked_at path.now) mark (listed context.now) marks.old marks.new }
 {

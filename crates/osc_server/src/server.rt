@@ -400,7 +400,7 @@ impl Server {
             &mut self.in_hand,
         ) {
             Ok(Ok(taken)) => {
-                let SealedAnswer { out, reply, notes } = serve_opened::<A>(
+                let sealed = serve_opened::<A>(
                     alloc,
                     &mut self.desk,
                     &mut self.tree,
@@ -408,11 +408,12 @@ impl Server {
                     &request,
                     taken,
                 );
-                mark_changed(&self.desk, &mut self.marks, &self.tree, &notes);
+                mark_changed(&self.desk, &mut self.marks, &self.tree, &sealed.notes);
                 keep_in_hand(alloc, &self.desk, &mut self.in_hand);
+                let SealedAnswer { out, reply, notes } = sealed;
                 self.note(came, reply);
                 self.desk.has_a_table();
-                Ok(Step { out, notes })
+                return Ok(Step { out, notes });
             }
             Ok(Err(refusal)) => self.complain(alloc, came, refusal),
             Err(error) => Err(error),

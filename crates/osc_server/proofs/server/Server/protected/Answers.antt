@@ -22,35 +22,35 @@ returns-in_default-clause-answered g c =
     ))) sends)
     c.complain.ensures.sends
 
-pub serve_opened-out-requires : goal.serve_opened-out-requires
-serve_opened-out-requires g c = rw c.in-Ok-Ok.field-0-is at c.in-Ok-Ok.ensures.ready
+pub serve_opened-sealed-requires : goal.serve_opened-sealed-requires
+serve_opened-sealed-requires g c = rw c.in-Ok-Ok.field-0-is at c.in-Ok-Ok.ensures.ready
 
 pub invariant_of-self : goal.invariant_of-self
 invariant_of-self g c =
     let old = c.self.inside in
     let says = c.in-Ok.says in
-    let marked : AreMarked old.tree c.serve_opened-out.new.desk.table old.marks =
-    subst (λ (desk : DeskState). AreMarked old.tree desk.table old.marks) (sym c.serve_opened-out.ensures.accepted)
+    let marked : AreMarked old.tree c.serve_opened-sealed.new.desk.table old.marks =
+    subst (λ (desk : DeskState). AreMarked old.tree desk.table old.marks) (sym c.serve_opened-sealed.ensures.accepted)
     (c.marks_stay.ensures.accepted old.tree says.kid says.number old.desk.table old.marks c.self.invariant.1)
     in
-    (c.self.invariant.0, c.mark_changed.ensures old.tree c.serve_opened-out.ensures.changed marked)
+    (c.self.invariant.0, c.mark_changed.ensures old.tree c.serve_opened-sealed.ensures.changed marked)
 
 pub returns-in-Ok-Ok-clause-answered : goal.returns-in-Ok-Ok-clause-answered
 returns-in-Ok-Ok-clause-answered g c =
-    let it = c.serve_opened-out.result in
+    let it = c.serve_opened-sealed.result in
     let step : Step = record { out = it.out; notes = it.notes } in
     let kept : c.note.new.self ≡ record {
-      tree = c.serve_opened-out.new.tree;
+      tree = c.serve_opened-sealed.new.tree;
       desk = record c.self.inside.desk { table = accepted c.in-Ok.says.kid c.in-Ok.says.number c.self.inside.desk.table };
       open_scope = c.self.inside.open_scope;
       endpoint = noted_by c.self.inside.endpoint c.args.came it.reply;
-    } = rw (sym c.serve_opened-out.ensures.accepted) c.note.ensures in
+    } = rw (sym c.serve_opened-sealed.ensures.accepted) c.note.ensures in
     subst (λ old. AnswersProtected g.A.Ciphers.is_sealing old c.args.came step c.note.new.self) c.self.view_is
     (served
     (serves g.A.Ciphers.is_sealing
     (record { tree = c.self.inside.tree; desk = c.self.inside.desk; open_scope = c.self.inside.open_scope; endpoint = c.self.inside.endpoint })
-    c.args.came c.in-Ok.says it c.serve_opened-out.new.tree step c.note.new.self
-    c.serve_opened-out.ensures.served refl kept))
+    c.args.came c.in-Ok.says it c.serve_opened-sealed.new.tree step c.note.new.self
+    c.serve_opened-sealed.ensures.served refl kept))
 
 pub returns-in-Ok-Err-clause-answered : goal.returns-in-Ok-Err-clause-answered
 returns-in-Ok-Err-clause-answered g c =
