@@ -4,7 +4,7 @@ ghost use Rattle.std.specs.Prelude.{◌<◌, IfOk};
 use crate::fault::Fault;
 use crate::place::Place;
 use crate::supply::Draws;
-use crate::wire::{LOCK, sent};
+use crate::wire::{lock_peer, sent};
 use osc_authz::ClientDesk;
 use osc_ccm::{Ccm, Suite};
 use osc_client::{Client, Route};
@@ -102,7 +102,7 @@ fn desk(alloc: Global, grant: Grant) -> Result<ClientDesk, Fault> {
 fn client(alloc: Global, grant: Grant) -> Result<Client, Fault> {
     let desk = desk(alloc, grant)?;
     let way = Route {
-        next_hop: LOCK,
+        next_hop: lock_peer(),
         origin: None,
     };
     Ok(Client::new(alloc, desk, way)?)
@@ -173,8 +173,8 @@ impl TokenHolder {
 
     /// These bytes came from the lock: what the holder learns is in the step's `notes.result()`.
     pub fn hears(&mut self, alloc: Global, now: Moment, datagram: &Bytes) -> Result<Step, Fault> {
-        let bytes = datagram.as_slice();
-        Ok(self.client.on_datagram::<Suite>(alloc, now, LOCK, bytes)?)
+        let (lock, bytes) = (lock_peer(), datagram.as_slice());
+        Ok(self.client.on_datagram::<Suite>(alloc, now, lock, bytes)?)
     }
 
     /// Time has passed: what is due goes to the lock again.

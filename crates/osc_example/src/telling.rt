@@ -4,7 +4,7 @@ use crate::words::{Dotted, Shown, method_name};
 use osc_device::{Refused, Served};
 use osc_model::{ClientResult, Code, Path, Reply, Step};
 use std::io;
-use std::net::Ipv4Addr;
+use std::net::Ipv6Addr;
 
 /// What a step did that served no protected request: what it refused, or else what it sent.
 pub fn tell_other(rt: &impl Print, step: &Step) -> io::Result<()> {
@@ -16,8 +16,7 @@ pub fn tell_other(rt: &impl Print, step: &Step) -> io::Result<()> {
 
 /// Who was refused, by which code, and the number of the reason, where the code alone doesn't tell it.
 fn tell_refused(rt: &impl Print, refused: Refused) -> io::Result<()> {
-    let [_, _, _, _, _, _, _, _, _, _, _, _, a, b, c, d] = refused.from.address;
-    let address = Ipv4Addr::from_octets([a, b, c, d]);
+    let address = Ipv6Addr::from_octets(refused.from.address).to_canonical();
     let code = Dotted(refused.why.code);
     match refused.why.reason {
         Some(number) => println!(rt; "lock: refused {address}: {code} ({number})"),

@@ -5,11 +5,9 @@ use osc_model::{Bytes, Peer, Step};
 use std::alloc::{AllocError, Global};
 
 /// Where the lock is.
-pub const LOCK: Peer = Peer {
-    address: [0, 0, 0, 0, 0, 0, 0, 0, 0, 0, 0xff, 0xff, 192, 0, 2, 1],
-    scope: 0,
-    port: 5683,
-};
+pub fn lock_peer() -> Peer {
+    Peer::v4([192, 0, 2, 1], 5683)
+}
 
 /// A copy of what the step sends, if it sends anything. Over a socket each datagram of `step.out` goes to its `to`.
 pub fn sent(alloc: Global, step: &Step) -> Result<Option<Bytes>, AllocError> {

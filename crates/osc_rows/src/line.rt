@@ -65,6 +65,11 @@ impl Line {
     /// Adds bytes, as a row has them.
     pub fn bytes(&mut self, bytes: &[u8]) {
         self.text("x");
+        self.digits(bytes);
+    }
+
+    /// Adds their digits to the last word.
+    fn digits(&mut self, bytes: &[u8]) {
         for byte in bytes {
             let _ = write!(self.text, "{byte:02x}");
         }
@@ -88,10 +93,16 @@ impl Line {
         }
     }
 
-    /// Adds an IPv4 address and a port, as a row has them.
+    /// Adds an address and a port, as a row has them; and between them the zone, where the address isn't one of IPv4.
     pub fn peer(&mut self, peer: Peer) {
-        let [_, _, _, _, _, _, _, _, _, _, _, _, a, b, c, d] = peer.address;
-        let [high, low] = peer.port.to_be_bytes();
-        self.bytes(&[a, b, c, d, high, low]);
+        self.text("x");
+        match peer.octets() {
+            Some(octets) => self.digits(&octets),
+            None => {
+                self.digits(&peer.address);
+                self.digits(&peer.scope.to_be_bytes());
+            }
+        }
+        self.digits(&peer.port.to_be_bytes());
     }
 }

@@ -1,10 +1,10 @@
-//! Rows in, what each gives out, a line for a line: ciphers, items, messages, security contexts, tokens and rights, byte by byte. A row is a verb and its
-//! words; one that begins with `#` is a heading, and stays as it is. What a row should give is from the RFCs, or from another
-//! implementation of them.
+//! Rows in, what each gives out, a line for a line: ciphers, items, messages, security contexts, tokens, rights and captures, byte by byte. A row is a verb
+//! and its words; one that begins with `#` is a heading, and stays as it is. What a row should give is from the RFCs, or from another implementation of them.
 #![tactic(auto)]
 
 mod aes;
 mod authz_info;
+mod capture;
 mod cbor;
 mod ccm;
 mod claims;

@@ -4,7 +4,7 @@ use crate::line::Line;
 use crate::nodes::Nodes;
 use crate::words::{Word, words};
 use crate::{
-    aes, authz_info, cbor, ccm, claims, coap, context, cose, dedup, hkdf, message_layer,
+    aes, authz_info, capture, cbor, ccm, claims, coap, context, cose, dedup, hkdf, message_layer,
     option_value, options, plaintext, protection, requests, scope, token, window,
 };
 use std::alloc::Global;
@@ -127,7 +127,7 @@ fn by_ciphers(alloc: Global, verb: &str, words: &[Word<'_>], line: &mut Line) ->
     }
 }
 
-/// Items, messages in bytes and scopes, and what is of a context.
+/// Items, messages in bytes, captures and scopes, and what is of a context.
 fn by_formats(alloc: Global, verb: &str, words: &[Word<'_>], line: &mut Line) -> Option<()> {
     match verb {
         "item" => cbor::item(alloc, words, line),
@@ -141,6 +141,7 @@ fn by_formats(alloc: Global, verb: &str, words: &[Word<'_>], line: &mut Line) ->
         "plaintext" => coap::plaintext(words, line),
         "code" => coap::code(words, line),
         "option_length" => coap::length_of_option(words, line),
+        "captured" => capture::captured(alloc, words, line),
         "write_scope" => scope::written(alloc, words, line),
         "scope" => scope::read(alloc, words, line),
         "allow" => scope::allowed(alloc, words, line),

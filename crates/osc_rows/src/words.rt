@@ -91,14 +91,14 @@ impl<'a> Word<'a> {
         }
     }
 
-    /// An IPv4 address and a port, in six bytes.
+    /// An IPv4 address and a port, in six bytes; or an address, a zone of four bytes and a port, in 22.
     pub fn peer(&self) -> Option<Peer> {
         match self.bytes()? {
             [a, b, c, d, high, low] => {
                 let port = 256 * *high as u16 + *low as u16;
                 Some(Peer::v4([*a, *b, *c, *d], port))
             }
-            _ => None,
+            bytes => v6_peer(bytes),
         }
     }
 
@@ -110,6 +110,16 @@ impl<'a> Word<'a> {
         }
         Some(Draw(draw))
     }
+}
+
+/// An address of 16 bytes, a zone of four, and a port of two.
+fn v6_peer(bytes: &[u8]) -> Option<Peer> {
+    let (address, bytes) = bytes.split_at_checked(16)?;
+    let (zone, port) = bytes.split_at_checked(4)?;
+    let address = <[u8; 16]>::try_from(address).ok()?;
+    let zone = u32::from_be_bytes(<[u8; 4]>::try_from(zone).ok()?);
+    let port = u16::from_be_bytes(<[u8; 2]>::try_from(port).ok()?);
+    Some(Peer::v6(address, zone, port))
 }
 
 /// The words of a row, parted by one space each.

@@ -46,6 +46,16 @@ fn peers_are_written(rt: HostRuntime) {
     assert!(rt; written);
 }
 
+/// RFC 5952 sections 4.2 and 5.
+#[test]
+fn zeros_and_mapped_addresses_are_written(rt: HostRuntime) {
+    let written = is_written(rt.alloc(), Peer::v6([0; 16], 0, 0), "[::]:0").expect(&rt, "memory");
+    assert!(rt; written);
+    let mapped = Peer::v6(PEER.address, 0, 5683);
+    let written = is_written(rt.alloc(), mapped, "192.0.2.1:5683").expect(&rt, "memory");
+    assert!(rt; written);
+}
+
 /// RFC 4291 section 2.5.5.2.
 #[test]
 fn mapped_addresses_are_of_ipv4(rt: HostRuntime) {

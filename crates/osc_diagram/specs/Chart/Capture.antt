@@ -1,5 +1,7 @@
--- A capture of the network: the classic file of libpcap (draft-ietf-opsawg-pcap), with IPv4 packets (RFC 791) of UDP datagrams (RFC 768).
-use Rattle.std.specs.Prelude.{ℕ, ◌+◌, ◌-◌, ◌*◌, ◌/◌, ◌%◌, Bool, true, false, not, List, [], ◌∷◌, ◌++◌, drop, flat_map, length, take}
+-- A capture of the network: the classic file of libpcap (draft-ietf-opsawg-pcap), with packets of IPv4 (RFC 791) and IPv6 (RFC 8200) of UDP
+-- datagrams (RFC 768).
+use Rattle.std.specs.Prelude.{ℕ, ◌+◌, ◌-◌, ◌*◌, ◌/◌, ◌%◌, Bool, true, false, not, ◌&&◌, if◌then◌else◌, List, [], ◌∷◌, ◌++◌, drop, flat_map, length, take}
+use Rattle.osc_model.specs.Peer.{is_v4}
 use Rattle.osc_model.specs.declared.node.Peer.{Peer}
 use Rattle.osc_diagram.specs.declared.chart.chart.Arrow.{Arrow}
 use Rattle.osc_diagram.specs.declared.chart.chart.Mark.{Mark}
@@ -28,45 +30,74 @@ complement bytes = 65535 - sum_of_pairs true bytes % 65535
 
 -- ---- one datagram
 
--- the most that a UDP datagram over IPv4 carries; a datagram of CoAP has far less
+-- both its ends are of IPv4; any other is a datagram of IPv6, in which an end of IPv4 is its mapped address (RFC 4291 section 2.5.5.2)
+abbrev pub is_of_v4 : Arrow → Bool
+is_of_v4 arrow = is_v4 arrow.from && is_v4 arrow.to
+
+-- the most that a UDP datagram over IPv4 carries, and over IPv6; a datagram of CoAP has far less
+abbrev pub most_carried : Arrow → ℕ
+most_carried arrow = if is_of_v4 arrow then 65507 else 65527
+
 unfoldable pub carried : Arrow → List ℕ
-carried arrow = take 65507 arrow.bytes
+carried arrow = take (most_carried arrow) arrow.bytes
 
 abbrev pub udp_length : Arrow → ℕ
 udp_length arrow = 8 + length (carried arrow)
 
-abbrev pub ip_length : Arrow → ℕ
-ip_length arrow = 20 + udp_length arrow
+-- the header of UDP with this checksum
+unfoldable pub udp_header : Arrow → ℕ → List ℕ
+udp_header arrow checksum = two arrow.from.port ++ two arrow.to.port ++ two (udp_length arrow) ++ two checksum
+
+-- ---- over IPv4
 
 -- the four bytes of an address of IPv4
 unfoldable pub v4_of : Peer → List ℕ
 v4_of peer = drop 12 peer.address
 
 -- the header of IPv4 with this checksum: no option, no fragment, 64 hops, UDP
-unfoldable pub ip_header : Arrow → ℕ → List ℕ
-ip_header arrow checksum =
-    69 ∷ 0 ∷ [] ++ two (ip_length arrow) ++ 0 ∷ 0 ∷ 0 ∷ 0 ∷ 64 ∷ 17 ∷ [] ++ two checksum ++ v4_of arrow.from ++ v4_of arrow.to
+unfoldable pub v4_header : Arrow → ℕ → List ℕ
+v4_header arrow checksum =
+    69 ∷ 0 ∷ [] ++ two (20 + udp_length arrow) ++ 0 ∷ 0 ∷ 0 ∷ 0 ∷ 64 ∷ 17 ∷ [] ++ two checksum ++ v4_of arrow.from ++ v4_of arrow.to
 
--- the header of UDP with this checksum
-unfoldable pub udp_header : Arrow → ℕ → List ℕ
-udp_header arrow checksum = two arrow.from.port ++ two arrow.to.port ++ two (udp_length arrow) ++ two checksum
+unfoldable pub v4_checksum : Arrow → ℕ
+v4_checksum arrow = complement (v4_header arrow 0) % 65535
 
--- what the checksum of UDP is over: a header of addresses, protocol and length, and then the datagram with a checksum of 0
-unfoldable pub pseudo_header : Arrow → List ℕ
-pseudo_header arrow = v4_of arrow.from ++ v4_of arrow.to ++ 0 ∷ 17 ∷ [] ++ two (udp_length arrow)
+-- addresses, protocol and length
+unfoldable pub v4_pseudo_header : Arrow → List ℕ
+v4_pseudo_header arrow = v4_of arrow.from ++ v4_of arrow.to ++ 0 ∷ 17 ∷ [] ++ two (udp_length arrow)
 
-unfoldable pub ip_checksum : Arrow → ℕ
-ip_checksum arrow = complement (ip_header arrow 0) % 65535
+-- ---- over IPv6
 
+-- the header of IPv6 (RFC 8200 section 3): version 6, traffic class and flow label 0, the payload's length, UDP, 64 hops, the addresses
+unfoldable pub v6_header : Arrow → List ℕ
+v6_header arrow = 96 ∷ 0 ∷ 0 ∷ 0 ∷ [] ++ two (udp_length arrow) ++ 17 ∷ 64 ∷ [] ++ arrow.from.address ++ arrow.to.address
+
+-- addresses, length and protocol (RFC 8200 section 8.1)
+unfoldable pub v6_pseudo_header : Arrow → List ℕ
+v6_pseudo_header arrow = arrow.from.address ++ arrow.to.address ++ four (udp_length arrow) ++ 0 ∷ 0 ∷ 0 ∷ 17 ∷ []
+
+-- ---- its packet and its record
+
+abbrev pub ip_header : Arrow → List ℕ
+ip_header arrow = if is_of_v4 arrow then v4_header arrow (v4_checksum arrow) else v6_header arrow
+
+abbrev pub pseudo_header : Arrow → List ℕ
+pseudo_header arrow = if is_of_v4 arrow then v4_pseudo_header arrow else v6_pseudo_header arrow
+
+-- what the checksum of UDP is over: the pseudo-header, and then the datagram with a checksum of 0
 unfoldable pub udp_checksum : Arrow → ℕ
 udp_checksum arrow = complement (pseudo_header arrow ++ udp_header arrow 0 ++ carried arrow)
 
--- its record: seconds, which count modulo 2^32, and microseconds; how many bytes follow, and how many there were
-unfoldable pub record_header : Arrow → List ℕ
-record_header arrow = four (arrow.moment.ms / 1000) ++ four (arrow.moment.ms % 1000 * 1000) ++ four (ip_length arrow) ++ four (ip_length arrow)
-
 unfoldable pub packet : Arrow → List ℕ
-packet arrow = record_header arrow ++ ip_header arrow (ip_checksum arrow) ++ udp_header arrow (udp_checksum arrow) ++ carried arrow
+packet arrow = ip_header arrow ++ udp_header arrow (udp_checksum arrow) ++ carried arrow
+
+-- its moment: seconds, which count modulo 2^32, and microseconds
+unfoldable pub stamp : Arrow → List ℕ
+stamp arrow = four (arrow.moment.ms / 1000) ++ four (arrow.moment.ms % 1000 * 1000)
+
+-- its record: its moment, how many bytes of the packet follow and how many there were, and the packet, of which 65535 bytes are kept at most
+unfoldable pub record_of : Arrow → List ℕ → List ℕ
+record_of arrow packet = stamp arrow ++ four (length (take 65535 packet)) ++ four (length packet) ++ take 65535 packet
 
 -- ---- the file
 
@@ -76,7 +107,7 @@ file_header = four 2712847316 ++ two 2 ++ two 4 ++ four 0 ++ four 0 ++ four 6553
 
 -- the record of an arrow, and nothing for what isn't one
 abbrev pub of_mark : Mark → List ℕ
-of_mark (mark.Arrow arrow) = packet arrow
+of_mark (mark.Arrow arrow) = record_of arrow (packet arrow)
 of_mark other = []
 
 -- the header, and a record for each arrow, in order
