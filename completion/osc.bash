@@ -11,7 +11,7 @@ declare -gA _osc_words=(
     ["server"]="--config --check --turns --log --help -h"
     ["proxy"]="--config --check --turns --log --help -h"
     ["client"]="--turns --timeout --method --path --payload --text --payload-file --format --config --raw --check --help -h"
-    ["lab"]="--turns --help -h"
+    ["lab"]="--turns --ipv6 --help -h"
     ["help"]="sim token key store server proxy client lab"
 )
 # words: end

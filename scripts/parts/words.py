@@ -18,7 +18,7 @@ SETTINGS = ROOT / "crates/osc_words/src/settings"
 class Option:
     """An option as help shows it: `-h, --help  WHAT`, `--only <CLIENT>  WHAT`, or `--diagram [<FORM>]  WHAT` where the value may be left out."""
 
-    LINE = re.compile(r"^ +(?:(-\w), |    )(--[a-z-]+)(?:( \[| )<([A-Z]+)>\]?)?  +(.*)$")
+    LINE = re.compile(r"^ +(?:(-\w), |    )(--[a-z][a-z0-9-]*)(?:( \[| )<([A-Z]+)>\]?)?  +(.*)$")
 
     def __init__(self, line):
         found = self.LINE.match(line)
@@ -115,7 +115,7 @@ def man_synopsis(program):
         if usage.startswith("[OPTIONS]"):
             parts.append(r"[\fIOPTIONS\fR]")
             usage = usage.removeprefix("[OPTIONS]").strip()
-        for option, value in re.findall(r"(--[a-z-]+ )?<([A-Z]+)>", usage):
+        for option, value in re.findall(r"(--[a-z][a-z0-9-]* )?<([A-Z]+)>", usage):
             parts.append((rf"\fB{roff(option.strip())}\fR " if option else "") + rf"\fI{value}\fR")
         lines.append(" ".join(parts))
     lines += [".br", r"\fBosc help\fR [\fICOMMAND\fR]"]

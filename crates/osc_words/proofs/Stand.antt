@@ -34,7 +34,7 @@ asked_by_method (Some entered) (Server words) s = tt
 asked_by_method (Some entered) (Proxy words) s = tt
 asked_by_method (Some entered) (Client words) s =
     code_of_method (value_of (option.Client client.Method) entered.1) words.request.code (s.1.options client.Method)
-asked_by_method (Some entered) (Lab turns) s = tt
+asked_by_method (Some entered) (Lab turns ipv6) s = tt
 
 pub asked_by_methods : (entered : Option (Text × List Row)) (r : Result Words WordsError) → MatchResult r (AreWords entered) (IsRefusalIn entered)
     → IfOk r AsksByMethod
@@ -115,7 +115,7 @@ not_one (Some entered) choice h (Store words) s = elsewhere entered.0 (codes "st
 not_one (Some entered) choice h (Server words) s = elsewhere entered.0 (codes "server") choice h.0 s.0 refl refl
 not_one (Some entered) choice h (Proxy words) s = elsewhere entered.0 (codes "proxy") choice h.0 s.0 refl refl
 not_one (Some entered) choice h (Client words) s = not_asked_for entered.0 entered.1 choice h.0 s.0 h.1 words s.1
-not_one (Some entered) choice h (Lab turns) s = elsewhere entered.0 (codes "lab") choice h.0 s.0 refl refl
+not_one (Some entered) choice h (Lab turns ipv6) s = elsewhere entered.0 (codes "lab") choice h.0 s.0 refl refl
 
 pub stand_for_nothing : (entered : Option (Text × List Row)) (r : Result Words WordsError) (choice : Choice)
     → MatchResult r (AreWords entered) (IsRefusalIn entered) → r ≡ Err (NotOne choice) → (read : Words) → AreWords entered read → ⊥

@@ -1,4 +1,5 @@
-pub mod Addresses
+pub mod OneAddress
+pub mod Bound
 pub mod Few
 pub mod Hexadecimal
 pub mod Keys

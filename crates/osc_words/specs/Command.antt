@@ -11,7 +11,7 @@ use Rattle.osc_words.specs.ClientWords as client
 use Rattle.osc_words.specs.Choices.{IsNotOne, command_of, not_one_text}
 use Rattle.osc_words.specs.NamedOptions.{refusal_text, unread_text, value_of}
 use Rattle.osc_words.specs.NodeWords.{AreNodeWords, SpellsLogForm}
-use Rattle.osc_words.specs.Options.{flag_rule, form_rule, option_rule, value_rule, word_rule}
+use Rattle.osc_words.specs.Options.{flag_rule, form_rule, is_set, option_rule, value_rule, word_rule}
 use Rattle.osc_words.specs.SimWords.{AreSimWords, SpellsForm}
 use Rattle.osc_words.specs.StoreWords.{AreStoreWords}
 use Rattle.osc_words.specs.TokenWords as token
@@ -59,9 +59,9 @@ node_app name =
     with_rule (with_rule (with_rule (with_rule (new_app name) (value_rule (codes "config") false)) (flag_rule (codes "check"))) (value_rule (codes "turns") false))
     (form_rule (codes "log") (codes "text"))
 
--- osc lab --turns N
+-- osc lab --turns N [--ipv6]
 abbrev pub lab_app : App
-lab_app = with_rule (new_app (codes "lab")) (value_rule (codes "turns") true)
+lab_app = with_rule (with_rule (new_app (codes "lab")) (value_rule (codes "turns") true)) (flag_rule (codes "ipv6"))
 
 abbrev pub client_options : List ClientOption
 client_options =
@@ -92,7 +92,8 @@ AreWords (Some entered) (Store words) = (entered.0 ≡ codes "store") × AreStor
 AreWords (Some entered) (Server words) = (entered.0 ≡ codes "server") × AreNodeWords option.ServerTurns entered.1 words
 AreWords (Some entered) (Proxy words) = (entered.0 ≡ codes "proxy") × AreNodeWords option.ProxyTurns entered.1 words
 AreWords (Some entered) (Client words) = (entered.0 ≡ codes "client") × client.AreClientWords entered.1 words
-AreWords (Some entered) (Lab turns) = (entered.0 ≡ codes "lab") × IsGiven SpellsNumber (value_of option.LabTurns entered.1) (Some turns)
+AreWords (Some entered) (Lab turns ipv6) =
+    (entered.0 ≡ codes "lab") × IsGiven SpellsNumber (value_of option.LabTurns entered.1) (Some turns) × (ipv6 ≡ is_set (codes "ipv6") entered.1)
 
 -- an option of the subcommand that was entered says nothing
 abbrev pub HasNothing : Option (Text × List Row) → NamedOption → Type 0

@@ -8,5 +8,5 @@ pub mod Inner
 pub use Document.{IsAlgorithmAt, IsBooleanAt, IsLeftOut, IsPortAt, IsSecondsAt, ListedAt, MayBeSecondsAt, MaySpellAt, SpelledAt, StandForEach, StandsFor, other_key}
 pub use Faults.{IsArrayAt, IsClientFault, IsFaultAt, IsFaultOfProxy, IsFirstFault, IsItemFault, IsKeyFault, IsOriginFault, IsOther, IsProxyFault, IsRevokedIdsFault, IsServerFault, IsTargetFault, IsTextAt, IsWrongAt, Lacks}
 pub use Keys.{form_of, name_of}
-pub use Settings.{AreClientSettings, AreProxySettings, AreResources, AreResourcesAt, AreRevokedIds, AreRevokedIdsAt, AreServerSettings, IsContentOf, IsFormatOf, IsOrigin, IsOriginPort, IsPathOf, IsPathText, IsResource, IsResourceTable, IsRevokedId, IsSalt, IsSubtrees, IsTarget, IsTargetTable, client_keys, proxy_keys, server_keys, target_keys}
-pub use Values.{IsAddress, IsAddressFrom, IsAlgorithm, IsFileName, IsHost, IsIdBelow, IsOpenAddress, IsPort, IsRevocationPath, IsSeconds, SpellsBytes, SpellsHex}
+pub use Settings.{AreAddressTexts, AreAddresses, AreAddressesAt, AreClientSettings, AreProxySettings, AreResources, AreResourcesAt, AreRevokedIds, AreRevokedIdsAt, AreServerSettings, IsAddressText, IsAlone, IsContentOf, IsFormatOf, IsOrigin, IsOriginPort, IsPathOf, IsPathText, IsResource, IsResourceTable, IsRevokedId, IsSalt, IsSubtrees, IsTarget, IsTargetTable, client_keys, proxy_keys, server_keys, target_keys}
+pub use Values.{IsAddress, IsAddressFrom, IsAlgorithm, IsFileName, IsHost, IsIdBelow, IsOpenAddress, IsPort, IsRevocationPath, IsSeconds, IsV4AddressFrom, IsV6AddressFrom, SpellsBytes, SpellsHex, v6_peer}

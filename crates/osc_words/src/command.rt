@@ -33,6 +33,8 @@ const CHECK_HELP: &str = "Reads the settings, says what they are but for what is
 
 const DUMP_HELP: &str = "Prints the resources as settings name them, in place of their list";
 
+const IPV6_HELP: &str = "Binds the sockets at [::1] in place of 127.0.0.1";
+
 const RAW_HELP: &str = "Prints the bytes of the answer's payload, and nothing else";
 
 /// Reads a command line, the program's own name first.
@@ -135,6 +137,7 @@ fn lab_asked(options: &ArgMatches<'_>) -> Result<Words, WordsError>
 {
     Ok(Words::Lab {
         turns: given::required_number(options, NamedOption::LabTurns)?,
+        ipv6: given::is_set(options, "ipv6"),
     })
 }
 
@@ -343,7 +346,8 @@ fn lab_command<'a>(alloc: Global) -> Result<Command<'a>, AllocError>
             "Runs the script on the standard input over UDP sockets, and prints what clients get",
         )
         .after_help("Example: osc lab --turns 1000000 < SCRIPT");
-    with_option(alloc, command, NamedOption::LabTurns, true)
+    let command = with_option(alloc, command, NamedOption::LabTurns, true)?;
+    with_flag(alloc, command, "ipv6", IPV6_HELP)
 }
 
 // A flag.

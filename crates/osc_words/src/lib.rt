@@ -28,9 +28,9 @@ pub use hidden_option::HiddenOption;
 pub use named_option::NamedOption;
 pub use node_words::{LogForm, NodeWords};
 pub use settings::{
-    ClientSettings, KeyFault, ProxySettings, ResourceSetting, ServerSettings, SettingsError,
-    SettingsKey, StoreFile, TargetSetting, read_client_settings, read_proxy_settings,
-    read_server_settings,
+    ClientSettings, KeyFault, MOST_ADDRESSES, ProxySettings, ResourceSetting, ServerSettings,
+    SettingsError, SettingsKey, StoreFile, TargetSetting, read_client_settings,
+    read_proxy_settings, read_server_settings,
 };
 pub use sim_words::{DiagramForm, SimWords};
 pub use source::{FileName, Source};

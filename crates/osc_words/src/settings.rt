@@ -1,5 +1,6 @@
 //! Settings of the programs, read from TOML (<https://toml.io>).
 
+mod addresses;
 mod client;
 mod document;
 mod error;
@@ -11,6 +12,7 @@ mod server;
 mod store_file;
 mod values;
 
+pub use addresses::MOST_ADDRESSES;
 pub use client::{ClientSettings, read_client_settings};
 pub use error::{KeyFault, SettingsError};
 pub use key::SettingsKey;

@@ -31,8 +31,9 @@ pub enum Words {
     Proxy(NodeWords),
     /// `osc client`: post a token and send a request.
     Client(ClientWords),
-    /// `osc lab --turns N`: run a script over sockets, with at most `N` turns after each exchange and request.
-    Lab { turns: u64 },
+    /// `osc lab --turns N [--ipv6]`: run a script over sockets, with at most `N` turns after each exchange and request. The sockets are at
+    /// `127.0.0.1`, or at `[::1]`.
+    Lab { turns: u64, ipv6: bool },
 }
 
 /// Why a command line can't be accepted.

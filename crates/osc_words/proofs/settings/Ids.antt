@@ -1,10 +1,9 @@
 -- The ids that are revoked at each start.
 use Rattle.std.proofs.Common.{◌≡◌, ℕ, true, List, [], Option, Some, None, Result, Ok, Err, refl, sym, ap, subst, ◌∙◌, inl, inr, MatchResult}
 use Rattle.std.specs.Option.{is_some}
-use Rattle.hex.specs.Hex.{decode_of}
 use Rattle.toml.specs.Data.{Data, Members, string, as_str, get_member}
 use Rattle.osc_model.specs.{revoked_path}
-use Rattle.osc_words.specs.Settings.{IsRevocationPath, MaySpellAt, SpelledAt, IsFaultAt, IsIdBelow, IsKeyFault, IsLeftOut, IsRevokedId, IsRevokedIdsFault, name_of, AreRevokedIds, AreRevokedIdsAt, SpellsBytes}
+use Rattle.osc_words.specs.Settings.{IsRevocationPath, SpelledAt, IsFaultAt, IsIdBelow, IsKeyFault, IsLeftOut, IsRevokedId, IsRevokedIdsFault, name_of, AreRevokedIds, AreRevokedIdsAt, SpellsBytes}
 use Rattle.osc_words.specs.Settings.Inner.Reading.{IsRefusal}
 use Rattle.osc_words.specs.declared.settings.error.SettingsError.{SettingsError}
 use Rattle.osc_words.specs.declared.settings.error.ValueError.{ValueError}

@@ -1,7 +1,8 @@
 -- A document that is at fault stands for no settings.
 use Rattle.std.proofs.Common.{◌≡◌, ◌≢◌, ℕ, Bool, zero, suc, List, [], ◌∷◌, Option, Some, None, refl, inl, inr, sym, ◌∙◌, subst}
 use Rattle.toml.specs.Data.{Data, Items, Members, no_items, item, array, string, get_member}
-use Rattle.osc_words.specs.Settings.{IsBooleanAt, IsPortAt, IsSecondsAt, ListedAt, MayBeSecondsAt, MaySpellAt, SpelledAt, StandForEach, other_key, IsArrayAt, IsClientFault, IsFaultAt, IsFaultOfProxy, IsFirstFault, IsItemFault, IsKeyFault, IsOriginFault, IsOther, IsRevokedIdsFault, IsServerFault, IsTargetFault, IsTextAt, IsWrongAt, name_of, AreClientSettings, AreProxySettings, AreRevokedIds, AreRevokedIdsAt, AreServerSettings, IsOrigin, IsPathText, IsSubtrees, IsTarget, IsTargetTable, client_keys, proxy_keys, server_keys, target_keys, IsAddress, IsFileName, IsHost, IsOpenAddress, IsRevocationPath, SpellsBytes, SpellsHex}
+use Rattle.osc_model.specs.declared.node.Peer.{Peer}
+use Rattle.osc_words.specs.Settings.{IsBooleanAt, IsPortAt, IsSecondsAt, ListedAt, MayBeSecondsAt, MaySpellAt, SpelledAt, StandForEach, other_key, IsArrayAt, IsClientFault, IsFaultAt, IsFaultOfProxy, IsFirstFault, IsItemFault, IsKeyFault, IsOriginFault, IsOther, IsRevokedIdsFault, IsServerFault, IsTargetFault, IsTextAt, IsWrongAt, name_of, AreAddressesAt, AreClientSettings, AreProxySettings, AreRevokedIds, AreRevokedIdsAt, AreServerSettings, IsOrigin, IsPathText, IsSubtrees, IsTarget, IsTargetTable, client_keys, proxy_keys, server_keys, target_keys, IsAddress, IsFileName, IsHost, IsOpenAddress, IsRevocationPath, SpellsBytes, SpellsHex}
 use Rattle.osc_words.specs.declared.settings.client.ClientSettings.{ClientSettings}
 use Rattle.osc_words.specs.declared.settings.error.KeyFault.{KeyFault}
 use Rattle.osc_words.specs.declared.settings.error.SettingsError.{SettingsError}
@@ -38,6 +39,9 @@ no_port key document fault port h s = elim h [ inl wrong ↦ wrong.1 port s | in
 no_list : {X : Type 0} (key : SettingsKey) (Stands : Data → X → Type 0) (document : Members) (fault : KeyFault) (xs : List X)
     → IsFaultAt key (λ name. ListedAt name Stands) document fault → ListedAt (name_of key) Stands document xs → ⊥
 no_list key Stands document fault xs h s = elim h [ inl wrong ↦ wrong.1 xs s | inr missing ↦ there_not (get_member (name_of key) document) _ s.1 missing.0 ]
+
+no_bound : (key : SettingsKey) (document : Members) (fault : KeyFault) (peers : List Peer) → IsFaultAt key AreAddressesAt document fault → AreAddressesAt (name_of key) document peers → ⊥
+no_bound key document fault peers h s = elim h [ inl wrong ↦ wrong.1 peers s | inr missing ↦ there_not (get_member (name_of key) document) _ s.1 missing.0 ]
 
 no_array : (key : SettingsKey) (document : Members) (fault : KeyFault) (items : Items) → IsFaultAt key IsArrayAt document fault → IsArrayAt (name_of key) document items → ⊥
 no_array key document fault items h s = elim h [ inl wrong ↦ wrong.1 items s | inr missing ↦ there_not (get_member (name_of key) document) _ s missing.0 ]
@@ -81,7 +85,7 @@ server_fault : (document : Members) (fault : KeyFault) (s : ServerSettings) → 
 server_fault document fault s h a = elim h [
   | inl other ↦ no_other server_keys document fault other a.keys
   | inr only ↦ elim only.1 [
-    | inl bind ↦ no_spelled key.Bind IsAddress document fault s.bind bind a.bind
+    | inl bind ↦ no_bound key.Bind document fault s.bind.items bind a.bind
     | inr bound ↦ elim bound.1 [
       | inl secret ↦ no_spelled key.Key (SpellsBytes 16 16) document fault s.key secret a.key
       | inr keyed ↦ elim keyed.1 [
@@ -156,7 +160,7 @@ no_proxy document NotToml s some h a = h
 no_proxy document (Key fault) s some h a = elim h [
   | inl other ↦ no_other proxy_keys document fault other a.keys
   | inr only ↦ elim only.1 [
-    | inl bind ↦ no_spelled key.Bind IsAddress document fault s.bind bind a.bind
+    | inl bind ↦ no_bound key.Bind document fault s.bind.items bind a.bind
     | inr bound ↦ no_array key.Target document fault a.targets.0 bound.1 a.targets.1
   ]
 ]

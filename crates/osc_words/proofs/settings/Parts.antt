@@ -4,7 +4,7 @@ use Rattle.std.specs.Option.{IsSomeAnd, is_some}
 use Rattle.toml.specs.Data.{Members, get_member}
 use Rattle.toml.specs.Parse.{parse_document}
 use Rattle.osc_model.specs.declared.node.Peer.{Peer}
-use Rattle.osc_words.specs.Settings.{IsBooleanAt, IsLeftOut, IsPortAt, IsSecondsAt, MayBeSecondsAt, MaySpellAt, SpelledAt, StandsFor, other_key, IsFaultAt, IsFaultOfProxy, IsKeyFault, IsOriginFault, IsProxyFault, IsWrongAt, Lacks, name_of, IsOriginPort, IsSalt, IsSubtrees, proxy_keys, IsAddress, IsHost, SpellsBytes}
+use Rattle.osc_words.specs.Settings.{IsBooleanAt, IsLeftOut, IsPortAt, IsSecondsAt, MayBeSecondsAt, MaySpellAt, SpelledAt, StandsFor, other_key, IsFaultAt, IsFaultOfProxy, IsKeyFault, IsOriginFault, IsProxyFault, IsWrongAt, Lacks, name_of, IsOriginPort, IsSalt, IsSubtrees, proxy_keys, AreAddressesAt, IsHost, SpellsBytes}
 use Rattle.osc_words.specs.Settings.Inner.Reading.{AreTargetsRefused, IsNoDocument}
 use Rattle.osc_words.specs.declared.settings.error.KeyFault.{KeyFault}
 use Rattle.osc_words.specs.declared.settings.error.SettingsError.{SettingsError}
@@ -81,13 +81,13 @@ proxy_refused F document (Key fault) so h = so fault h
 proxy_refused F document (Target number fault) so h = absurd h
 proxy_refused F document Memory so h = tt
 
-pub targets_refused : (document : Members) (peer : Peer) (error : SettingsError) → other_key proxy_keys document ≡ None → SpelledAt (name_of key.Bind) IsAddress document peer
+pub targets_refused : (document : Members) (peers : List Peer) (error : SettingsError) → other_key proxy_keys document ≡ None → AreAddressesAt (name_of key.Bind) document peers
     → AreTargetsRefused document error → IsFaultOfProxy document error
-targets_refused document peer NotToml only bind h = absurd h
-targets_refused document peer (Key fault) only bind h = inr (only, inr ((peer, bind), h))
-targets_refused document peer (Target number fault) only bind h = record {
+targets_refused document peers NotToml only bind h = absurd h
+targets_refused document peers (Key fault) only bind h = inr (only, inr ((peers, bind), h))
+targets_refused document peers (Target number fault) only bind h = record {
   keys = only;
-  peer = peer;
+  peers = peers;
   bind = bind;
   items = h.0;
   targets = h.1;
@@ -95,7 +95,7 @@ targets_refused document peer (Target number fault) only bind h = record {
   count = h.2.1;
   first = h.2.2;
 }
-targets_refused document peer Memory only bind h = tt
+targets_refused document peers Memory only bind h = tt
 
 -- ---- of a text
 

@@ -6,7 +6,7 @@ use Rattle.toml.specs.Parse.{parse_document}
 use Rattle.osc_model.specs.declared.node.Peer.{Peer}
 use Rattle.osc_words.specs.Settings.Document.{other_key, IsLeftOut, SpelledAt, MaySpellAt, IsAlgorithmAt, IsBooleanAt, IsPortAt, IsSecondsAt, ListedAt}
 use Rattle.osc_words.specs.Settings.Keys.{name_of}
-use Rattle.osc_words.specs.Settings.Settings.{server_keys, proxy_keys, target_keys, client_keys, AreResourcesAt, AreRevokedIds, AreRevokedIdsAt, IsOrigin, IsPathText, IsTargetTable}
+use Rattle.osc_words.specs.Settings.Settings.{server_keys, proxy_keys, target_keys, client_keys, AreAddressesAt, AreResourcesAt, AreRevokedIds, AreRevokedIdsAt, IsOrigin, IsPathText, IsTargetTable}
 use Rattle.osc_words.specs.Settings.Values.{IsAddress, IsFileName, IsHost, IsOpenAddress, IsRevocationPath, SpellsHex, SpellsBytes}
 use Rattle.osc_words.specs.declared.settings.error.KeyFault.{KeyFault}
 use Rattle.osc_words.specs.declared.settings.error.KeyFault.TheVariants.{Unknown, Missing, Wrong}
@@ -64,7 +64,7 @@ RevokedIdsThen document Later fault = IsRevokedIdsFault document fault
 abbrev pub IsServerFault : Members → KeyFault → Type 0
 IsServerFault document =
     OnlyThen server_keys document
-    (KeyThen key.Bind (λ key. SpelledAt key IsAddress) document
+    (KeyThen key.Bind AreAddressesAt document
     (KeyThen key.Key (λ key. SpelledAt key (SpellsBytes 16 16)) document
     (MayThen key.OldKey (λ key. SpelledAt key (SpellsBytes 16 16)) document
     (KeyThen key.Audience IsTextAt document
@@ -105,14 +105,14 @@ IsArrayAt key document items = get_member key document ≡ Some (array items)
 abbrev pub IsProxyFault : Members → KeyFault → Type 0
 IsProxyFault document =
     OnlyThen proxy_keys document
-    (KeyThen key.Bind (λ key. SpelledAt key IsAddress) document
+    (KeyThen key.Bind AreAddressesAt document
     (IsFaultAt key.Target IsArrayAt document))
 
 -- those of the target of this number, from 1, where the proxy's own are right
 pub record IsFaultIn (document : Members) (number : ℕ) (fault : KeyFault) : Type 0 where
   pub keys : other_key proxy_keys document ≡ None
-  pub peer : Peer
-  pub bind : SpelledAt (name_of key.Bind) IsAddress document peer
+  pub peers : List Peer
+  pub bind : AreAddressesAt (name_of key.Bind) document peers
   pub items : Items
   pub targets : IsArrayAt (name_of key.Target) document items
   pub before : ℕ

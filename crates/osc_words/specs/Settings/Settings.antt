@@ -1,10 +1,11 @@
 -- Which settings a document stands for, program by program. A key that isn't named here is in none of them.
 use Rattle.std.specs.Prelude.{◌≡◌, ◌⊎◌, ◌≤◌, ℕ, Bool, true, pos, List, [], ◌∷◌, length, Option, Some, None, codes}
-use Rattle.toml.specs.Data.{Data, Members, string, integer, table, get_member}
+use Rattle.toml.specs.Data.{Data, Items, Members, array, string, integer, table, get_member}
 use Rattle.osc_model.specs.{IsPath, default_port, longest_payload, most_resources}
 use Rattle.osc_model.specs.declared.algorithm.Algorithm.{Algorithm}
 use Rattle.osc_model.specs.declared.algorithm.Algorithm.TheVariants.{EightByteTag}
-use Rattle.osc_words.specs.Settings.Document.{other_key, IsLeftOut, SpelledAt, MaySpellAt, IsAlgorithmAt, IsBooleanAt, IsPortAt, MayBeSecondsAt, ListedAt}
+use Rattle.osc_model.specs.declared.node.Peer.{Peer}
+use Rattle.osc_words.specs.Settings.Document.{other_key, IsLeftOut, SpelledAt, MaySpellAt, IsAlgorithmAt, IsBooleanAt, IsPortAt, MayBeSecondsAt, ListedAt, StandForEach}
 use Rattle.osc_words.specs.Settings.Values.{IsAddress, IsFileName, IsHost, IsIdBelow, IsOpenAddress, IsRevocationPath, SpellsHex, SpellsBytes}
 use Rattle.osc_words.specs.declared.settings.client.ClientSettings.{ClientSettings}
 use Rattle.osc_words.specs.declared.settings.key.SettingsKey.{SettingsKey}
@@ -13,6 +14,30 @@ use Rattle.osc_words.specs.declared.settings.proxy.ProxySettings.{ProxySettings}
 use Rattle.osc_words.specs.declared.settings.proxy.TargetSetting.{TargetSetting}
 use Rattle.osc_words.specs.declared.settings.resource.ResourceSetting.{ResourceSetting}
 use Rattle.osc_words.specs.declared.settings.server.ServerSettings.{ServerSettings}
+
+-- ---- of a server or a proxy
+
+-- an address that can be sent to, as a text
+abbrev pub IsAddressText : Data → Peer → Type 0
+IsAddressText value peer = (text : List ℕ) × (value ≡ string text) × IsAddress text peer
+
+-- 1 to 8 of them
+abbrev pub AreAddressTexts : Items → List Peer → Type 0
+AreAddressTexts items peers = StandForEach IsAddressText items peers × (1 ≤ length peers) × (length peers ≤ 8)
+
+-- one, alone
+abbrev pub IsAlone : Data → List Peer → Type 0
+IsAlone value (peer ∷ []) = IsAddressText value peer
+IsAlone value peers = ⊥
+
+-- an array of addresses, or the text of one
+abbrev pub AreAddresses : Data → List Peer → Type 0
+AreAddresses (array items) peers = AreAddressTexts items peers
+AreAddresses value peers = IsAlone value peers
+
+-- the addresses that it receives on, at the key
+abbrev pub AreAddressesAt : List ℕ → Members → List Peer → Type 0
+AreAddressesAt name document peers = (value : Data) × (get_member name document ≡ Some value) × AreAddresses value peers
 
 -- ---- of a server
 
@@ -81,7 +106,7 @@ IsSubtrees document may = IsBooleanAt (codes "subtrees") document may ⊎ (IsLef
 
 pub record AreServerSettings (document : Members) (settings : ServerSettings) : Type 0 where
   pub keys : other_key server_keys document ≡ None
-  pub bind : SpelledAt (codes "bind") IsAddress document settings.bind
+  pub bind : AreAddressesAt (codes "bind") document settings.bind.items
   pub key : SpelledAt (codes "key") (SpellsBytes 16 16) document settings.key
   pub old_key : MaySpellAt (codes "old_key") (SpellsBytes 16 16) document settings.old_key
   pub audience : get_member (codes "audience") document ≡ Some (string settings.audience)
@@ -114,7 +139,7 @@ IsTargetTable value target = (document : Members) × (value ≡ table document) 
 
 pub record AreProxySettings (document : Members) (settings : ProxySettings) : Type 0 where
   pub keys : other_key proxy_keys document ≡ None
-  pub bind : SpelledAt (codes "bind") IsAddress document settings.bind
+  pub bind : AreAddressesAt (codes "bind") document settings.bind.items
   pub targets : ListedAt (codes "target") IsTargetTable document settings.targets.items
 
 -- ---- of a client

@@ -1,6 +1,9 @@
 -- What the texts and the numbers of a document spell.
-use Rattle.std.specs.Prelude.{◌≡◌, ℕ, ◌≤◌, ℤ, pos, List, ◌++◌, length, codes, decimal, Ok, Some}
-use Rattle.std.specs.Net.Grammar.{IsDotted}
+use Rattle.std.specs.Prelude.{◌≡◌, ◌⊎◌, ℕ, ◌≤◌, ℤ, pos, List, ◌++◌, length, codes, decimal, Ok, Some}
+use Rattle.std.specs.Net.Addr.{ipv6_octets}
+use Rattle.std.specs.Net.Grammar.{IsDotted, IsSocketV6Text}
+use Rattle.std.specs.Net.Socket.{v6_ip, v6_port, v6_scope_id}
+use Rattle.std.specs.declared.net.socket_addr.SocketAddrV6.{SocketAddrV6}
 use Rattle.hex.specs.Hex.{decode_of}
 use Rattle.osc_model.specs.{algorithm_number, revoked_path, segments_of, v4_peer, IsPath}
 use Rattle.osc_model.specs.declared.algorithm.Algorithm.{Algorithm}
@@ -11,7 +14,7 @@ abbrev pub IsPortNumber : ℕ → Type 0
 IsPortNumber port = (1 ≤ port) × (port ≤ 65535)
 
 -- `A.B.C.D:PORT`: decimal numbers without leading zeros, A to D at most 255, PORT from `least` to 65535
-pub record IsAddressFrom (least : ℕ) (text : List ℕ) (peer : Peer) : Type 0 where
+pub record IsV4AddressFrom (least : ℕ) (text : List ℕ) (peer : Peer) : Type 0 where
   pub dotted : List ℕ
   pub octets : List ℕ
   pub is : peer ≡ v4_peer octets peer.port
@@ -19,6 +22,22 @@ pub record IsAddressFrom (least : ℕ) (text : List ℕ) (peer : Peer) : Type 0 
   pub at_least : least ≤ peer.port
   pub at_most : peer.port ≤ 65535
   pub spelled : text ≡ dotted ++ codes ":" ++ decimal peer.port
+
+-- the peer at this address
+abbrev pub v6_peer : SocketAddrV6 → Peer
+v6_peer address = record { address = ipv6_octets (v6_ip address); scope = v6_scope_id address; port = v6_port address }
+
+-- `[ADDRESS]:PORT` or `[ADDRESS%ZONE]:PORT`: an address as RFC 4291 section 2.2 writes it, ZONE a decimal number (RFC 4007 section 11),
+-- PORT from `least` to 65535
+pub record IsV6AddressFrom (least : ℕ) (text : List ℕ) (peer : Peer) : Type 0 where
+  pub address : SocketAddrV6
+  pub spelled : IsSocketV6Text text address
+  pub is : peer ≡ v6_peer address
+  pub at_least : least ≤ peer.port
+
+-- an address of IPv4 or IPv6, with such a port
+abbrev pub IsAddressFrom : ℕ → List ℕ → Peer → Type 0
+IsAddressFrom least text peer = IsV4AddressFrom least text peer ⊎ IsV6AddressFrom least text peer
 
 -- an address that can be sent to
 abbrev pub IsAddress : List ℕ → Peer → Type 0

@@ -35,9 +35,9 @@ const KEYS: [SettingsKey; 9] = [
 /// What a client is told.
 #[derive(Drop)]
 pub struct ClientSettings {
-    /// The address and the port that it receives on: `bind`, a text `A.B.C.D:PORT`. The system picks the number of a port of 0.
+    /// The address and the port that it receives on: `bind`, a text `A.B.C.D:PORT`, `[ADDRESS]:PORT` or `[ADDRESS%ZONE]:PORT`. The system picks the number of a port of 0.
     pub bind: Peer,
-    /// To whom it sends, the server or a proxy: `peer`, a text `A.B.C.D:PORT`.
+    /// To whom it sends, the server or a proxy: `peer`, a text `A.B.C.D:PORT`, `[ADDRESS]:PORT` or `[ADDRESS%ZONE]:PORT`.
     pub peer: Peer,
     /// Where it sends through a proxy, the host and the port by which the proxy knows the server: `host`, a text of 1 to 255 bytes,
     /// and `port`, from 1 to 65535, which is 5683 where it is left out.

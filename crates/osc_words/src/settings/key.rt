@@ -75,8 +75,11 @@ impl SettingsKey {
         match self {
             SettingsKey::Alg => "the number 10 or 30",
             SettingsKey::Audience => "a text",
-            SettingsKey::Bind | SettingsKey::Peer | SettingsKey::To => {
-                "a text of an address and a port, as 127.0.0.1:5683"
+            SettingsKey::Bind => {
+                "a text of an address and a port, as 127.0.0.1:5683 or [::1]:5683, or, for a server or a proxy, an array of 1 to 8 such texts"
+            }
+            SettingsKey::Peer | SettingsKey::To => {
+                "a text of an address and a port, as 127.0.0.1:5683 or [::1]:5683"
             }
             SettingsKey::Context | SettingsKey::ReservedId | SettingsKey::Salt => {
                 "a text of at most 64 bytes in hexadecimal"

@@ -7,6 +7,7 @@ ghost use Rattle.osc_words.specs.Settings.Inner.Reading.{AllListedAt, AreTargets
 ghost use Rattle.osc_words.specs.Settings.Settings.{AreProxySettings, IsTarget, IsTargetTable};
 ghost use Rattle.osc_words.specs.declared.settings.proxy.ProxySettings.{ProxySettings as AnySettings};
 
+use crate::settings::addresses::addresses_at;
 use crate::settings::document::{
     address_at, document, host_at, items_at, only, port_at, untyped_at,
 };
@@ -25,8 +26,9 @@ const TARGET_KEYS: [SettingsKey; 3] = [SettingsKey::Host, SettingsKey::Port, Set
 /// What a proxy is told.
 #[derive(Debug, Drop)]
 pub struct ProxySettings {
-    /// The address and the port that it receives on: `bind`, a text `A.B.C.D:PORT`.
-    pub bind: Peer,
+    /// The addresses and the ports that it receives on: `bind`, a text `A.B.C.D:PORT`, `[ADDRESS]:PORT` or `[ADDRESS%ZONE]:PORT`, the zone a
+    /// number, or an array of 1 to 8 such texts.
+    pub bind: Vec<Peer>,
     /// Whom it forwards to: a table `[[target]]` each.
     pub targets: Vec<TargetSetting>,
 }
@@ -38,7 +40,7 @@ pub struct TargetSetting {
     pub host: Bytes,
     /// The port by which they name it: `port`, from 1 to 65535.
     pub port: u16,
-    /// Where it is: `to`, a text `A.B.C.D:PORT`.
+    /// Where it is: `to`, a text `A.B.C.D:PORT`, `[ADDRESS]:PORT` or `[ADDRESS%ZONE]:PORT`.
     pub to: Peer,
 }
 
@@ -63,7 +65,7 @@ fn settings_in(alloc: Global, table: &Table) -> Result<ProxySettings, SettingsEr
 {
     only(alloc, &KEYS, table)?;
     Ok(ProxySettings {
-        bind: address_at(alloc, SettingsKey::Bind, table, 1)?,
+        bind: addresses_at(alloc, SettingsKey::Bind, table)?,
         targets: all_targets(alloc, table)?,
     })
 }

@@ -9,8 +9,9 @@ ghost use Rattle.osc_words.specs.Settings.Values.{IsFileName, IsRevocationPath, 
 ghost use Rattle.osc_words.specs.declared.settings.key.SettingsKey.TheVariants as AnyKey;
 ghost use Rattle.osc_words.specs.declared.settings.server.ServerSettings.{ServerSettings as AnySettings};
 
+use crate::settings::addresses::addresses_at;
 use crate::settings::document::{
-    address_at, array_at, boolean_at, bytes_within_at, document, has, items_at, only, read_at,
+    array_at, boolean_at, bytes_within_at, document, has, items_at, only, read_at,
     revocation_path_at, seconds_at, store_file_at, text_at, untyped_at,
 };
 use crate::settings::error::{SettingsError, ValueError};
@@ -45,8 +46,9 @@ const KEYS: [SettingsKey; 12] = [
 /// What a server is told.
 #[derive(Drop)]
 pub struct ServerSettings {
-    /// The address and the port that it receives on: `bind`, a text `A.B.C.D:PORT`.
-    pub bind: Peer,
+    /// The addresses and the ports that it receives on: `bind`, a text `A.B.C.D:PORT`, `[ADDRESS]:PORT` or `[ADDRESS%ZONE]:PORT`, the zone a
+    /// number, or an array of 1 to 8 such texts.
+    pub bind: Vec<Peer>,
     /// The key that it shares with those who issue tokens: `key`, 16 bytes in hexadecimal.
     pub key: [u8; 16],
     /// Its former key, at a change of key: `old_key`, 16 bytes in hexadecimal. It may be left out.
@@ -100,7 +102,7 @@ fn settings_in(alloc: Global, table: &Table) -> Result<ServerSettings, SettingsE
     ensures { MatchResult result (AreServerSettings (table_view table.now)) (IsKeyFault (IsServerFault (table_view table.now))) }
 {
     only(alloc, &KEYS, table)?;
-    let bind = address_at(alloc, SettingsKey::Bind, table, 1)?;
+    let bind = addresses_at(alloc, SettingsKey::Bind, table)?;
     let key = array_at(SettingsKey::Key, table)?;
     let old_key = old_key(table)?;
     let audience = audience(alloc, table)?;

@@ -3,7 +3,7 @@ ghost use Rattle.std.specs.Prelude.{◌≡◌, ◌==◌, ◌↔◌, length, IfOk
 ghost use Rattle.std.specs.Net.Grammar.{IsSocketV4Text};
 ghost use Rattle.std.specs.Net.Text.{socket_v4_text};
 ghost use Rattle.osc_words.specs.Settings.Inner.Reading.{IsRefusal, SpellsPath};
-ghost use Rattle.osc_words.specs.Settings.Values.{IsAddressFrom, IsAlgorithm, IsFileName, IsHost, IsIdBelow, IsPort, IsRevocationPath, IsSeconds, SpellsBytes, SpellsHex};
+ghost use Rattle.osc_words.specs.Settings.Values.{IsAddressFrom, IsAlgorithm, IsFileName, IsHost, IsIdBelow, IsPort, IsRevocationPath, IsSeconds, IsV4AddressFrom, IsV6AddressFrom, SpellsBytes, SpellsHex};
 
 use crate::settings::error::ValueError;
 use crate::settings::store_file::StoreFile;
@@ -11,11 +11,20 @@ use hex::{FromHex, FromHexError};
 use osc_model::limits::{LONGEST_HOST, LONGEST_ID, MOST_REVOCATION_SEGMENTS};
 use osc_model::{Algorithm, Bytes, Path, Peer, revoked_path};
 use std::alloc::{AllocError, Global};
-use std::net::SocketAddrV4;
+use std::net::{SocketAddrV4, SocketAddrV6};
 
-/// An address and a port from `least` on, `A.B.C.D:PORT`.
+/// An address and a port from `least` on: `A.B.C.D:PORT`, `[ADDRESS]:PORT` or `[ADDRESS%ZONE]:PORT`, the zone a number.
 pub(crate) fn address(alloc: Global, text: &str, least: u16) -> Result<Peer, ValueError>
     ensures { MatchResult result (IsAddressFrom least text.now) (IsRefusal (IsAddressFrom least text.now)) }
+{
+    match v4_address(alloc, text, least) {
+        Err(ValueError::Bad) => v6_address(text, least),
+        read => read,
+    }
+}
+
+fn v4_address(alloc: Global, text: &str, least: u16) -> Result<Peer, ValueError>
+    ensures { MatchResult result (IsV4AddressFrom least text.now) (IsRefusal (IsV4AddressFrom least text.now)) }
 {
     match SocketAddrV4::parse_ascii(text.as_bytes()) {
         Ok(address) => plain_address(alloc, address, text, least),
@@ -31,7 +40,7 @@ fn plain_address(
     least: u16,
 ) -> Result<Peer, ValueError>
     requires { IsSocketV4Text text.now address }
-    ensures { MatchResult result (IsAddressFrom least text.now) (IsRefusal (IsAddressFrom least text.now)) }
+    ensures { MatchResult result (IsV4AddressFrom least text.now) (IsRefusal (IsV4AddressFrom least text.now)) }
 {
     if address.port() < least {
         return Err(ValueError::Bad);
@@ -49,6 +58,19 @@ fn is_printed(alloc: Global, address: SocketAddrV4, text: &str) -> Result<bool, 
 {
     let printed = format!(in alloc; "{address}")?;
     Ok(printed.as_str() == text)
+}
+
+fn v6_address(text: &str, least: u16) -> Result<Peer, ValueError>
+    ensures { MatchResult result (IsV6AddressFrom least text.now) (IsRefusal (IsV6AddressFrom least text.now)) }
+{
+    match SocketAddrV6::parse_ascii(text.as_bytes()) {
+        Ok(address) if address.port() >= least => Ok(Peer::v6(
+            address.ip().octets(),
+            address.scope_id(),
+            address.port(),
+        )),
+        _ => Err(ValueError::Bad),
+    }
 }
 
 /// `N` bytes in hexadecimal.

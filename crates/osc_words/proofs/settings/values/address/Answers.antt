@@ -1,8 +1,10 @@
 use Rattle.std.proofs.Common.{subst}
-use Rattle.std.specs.declared.net.socket_addr.SocketAddrV4.{SocketAddrV4}
-use Rattle.std.specs.Net.Grammar.{IsSocketV4Text}
-use Rattle.osc_words.proofs.settings.Addresses.{unparsed}
+use Rattle.osc_words.specs.Settings.{IsV4AddressFrom}
+use Rattle.osc_words.specs.Settings.Inner.Reading.{IsRefusal}
+use Rattle.osc_words.proofs.settings.OneAddress.{v6_instead}
 use Rattle.osc_words.proofs.settings.values.address.Goals as goal
 
-pub returns-in-Err : goal.returns-in-Err
-returns-in-Err c = unparsed c.args.least c.args.text.now (subst (λ text. (a : SocketAddrV4) → ¬ IsSocketV4Text text a) c.as_bytes.ensures.value c.in-Err.ensures)
+pub returns-in-Err-Bad : goal.returns-in-Err-Bad
+returns-in-Err-Bad c =
+    let none = subst (IsRefusal (IsV4AddressFrom c.args.least c.args.text.now)) c.in-Err-Bad.field-0-is c.in-Err-Bad.ensures in
+    v6_instead c.args.least c.args.text.now c.v6_address.result none c.v6_address.ensures

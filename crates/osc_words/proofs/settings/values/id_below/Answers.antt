@@ -1,5 +1,5 @@
 use Rattle.std.proofs.lemmas.Result.{err_from_is_err_and}
-use Rattle.osc_words.proofs.settings.Ids.{no_path_below, unread_id}
+use Rattle.osc_words.proofs.settings.Ids.{unread_id}
 use Rattle.osc_words.proofs.settings.values.id_below.Goals as goal
 
 pub returns-in_err-id : goal.returns-in_err-id

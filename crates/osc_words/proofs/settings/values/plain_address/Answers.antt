@@ -1,5 +1,5 @@
 use Rattle.std.proofs.Common.{IsTrue, ◌<◌, subst}
-use Rattle.osc_words.proofs.settings.Addresses.{no_port, not_printed}
+use Rattle.osc_words.proofs.settings.OneAddress.{no_port, not_printed}
 use Rattle.osc_words.proofs.settings.values.plain_address.Goals as goal
 
 pub returns-then-port-least : goal.returns-then-port-least
