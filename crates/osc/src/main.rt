@@ -53,7 +53,7 @@ fn follow(rt: &HostRuntime, words: Words) -> Ended {
         Words::Server(words) => tell(rt, run_server(rt, &words)),
         Words::Proxy(words) => tell(rt, run_proxy(rt, &words)),
         Words::Client(words) => tell(rt, run_client(rt, words)),
-        Words::Lab { turns } => tell(rt, run_lab(rt, turns)),
+        Words::Lab { turns, ipv6 } => tell(rt, run_lab(rt, turns, ipv6)),
     }
 }
 
@@ -162,10 +162,10 @@ fn unwritten(rt: &HostRuntime, name: &str, error: &io::Error) -> Ended {
     ended_by_io(error)
 }
 
-fn run_lab(rt: &HostRuntime, turns: u64) -> Ended {
+fn run_lab(rt: &HostRuntime, turns: u64, ipv6: bool) -> Ended {
     let mut input = KeepingReader::new(rt.alloc(), FaultKeeper::new(rt.reader()));
     let mut output = FaultKeeper::new(io::writer(rt));
-    let ended = lab(rt.alloc(), rt, &mut input, &mut output, turns);
+    let ended = lab(rt.alloc(), rt, &mut input, &mut output, turns, ipv6);
     tell_line(rt, ended, input.kept());
     tell_streams(
         rt,

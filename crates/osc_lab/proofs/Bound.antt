@@ -8,7 +8,7 @@ use Rattle.osc_lab.specs.Inner.Telling.{AreBound, IsBound}
 use Rattle.osc_lab.specs.declared.port.Known.{Known}
 use Rattle.osc_lab.specs.declared.ports.PacedPort.{PacedPort}
 
-module _ {P : Type 0} (opened : Peer → Option Peer → P → Type 0) (listens : P → Peer → Type 0) where
+module _ {P : Type 0} (opened : P → Type 0) (listens : P → Peer → Type 0) where
   one_at_more : (all : List Known) (ports : List (PacedPort P)) (known : Known) (port : PacedPort P) → AreAt opened listens all ports → IsAt opened listens known port
       → AreAt opened listens (all ++ known ∷ []) (ports ++ port ∷ [])
   one_at_more [] [] known port are is = (is, tt)

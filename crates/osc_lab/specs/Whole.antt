@@ -1,6 +1,6 @@
 -- What the whole of `osc lab` does: the nodes of a script take their turns, one after another, and each result that a client learns is told as it comes.
 use Rattle.std.specs.Option.{IfSome}
-use Rattle.std.specs.Prelude.{◌≡◌, ℕ, true, List, [], ◌∷◌, ◌++◌, Option, None, map}
+use Rattle.std.specs.Prelude.{◌≡◌, ℕ, Bool, true, List, [], ◌∷◌, ◌++◌, Option, None, map, replicate, if◌then◌else◌}
 use Rattle.std.specs.List.{list_all}
 use Rattle.std.specs.Io.KnownBytes.{Appends}
 use Rattle.osc_model.specs.declared.node.Peer.{Peer}
@@ -24,15 +24,19 @@ use Rattle.osc_lab.specs.declared.ports.PacedPort.{PacedPort}
 
 -- ---- where the nodes are at first
 
--- an address of this machine, whose port the system picks
-abbrev pub any_place : Peer
-any_place = local 0
+-- [::1] and a port (RFC 4291 section 2.5.3)
+abbrev pub local_v6 : ℕ → Peer
+local_v6 port = record { address = replicate 15 0 ++ 1 ∷ []; scope = 0; port = port }
+
+-- the address of this machine, of IPv6 or IPv4, whose port the system picks
+abbrev pub any_place : Bool → Peer
+any_place ipv6 = if ipv6 then local_v6 0 else local 0
 
 -- What opens ports opened them so, and its ports listen there.
-module _ {P : Type 0} (opened : Peer → Option Peer → P → Type 0) (listens : P → Peer → Type 0) where
+module _ {P : Type 0} (opened : P → Type 0) (listens : P → Peer → Type 0) where
   -- a port of this machine, at which the node listens, and the node hasn't taken a turn at it
   pub record IsAt (known : Known) (port : PacedPort P) : Type 0 where
-    pub is_open : opened any_place None port.port
+    pub is_open : opened port.port
     pub listening : listens port.port known.socket
     pub rests : port.pace.busy_since ≡ None
 
@@ -57,7 +61,7 @@ module _ {P : Type 0} (opened : Peer → Option Peer → P → Type 0) (listens 
     pub clients_at : AreAt clients ports.clients
 
 -- The system gave these seeds, opened these ports, and they tell this.
-module _ {P : Type 0} (gave : List ℕ → Type 0) (opened : Peer → Option Peer → P → Type 0) (listens : P → Peer → Type 0) (received : P → Option (List (Option Received))) (sent : P → Option (List Datagram)) where
+module _ {P : Type 0} (gave : List ℕ → Type 0) (opened : P → Type 0) (listens : P → Peer → Type 0) (received : P → Option (List (Option Received))) (sent : P → Option (List Datagram)) where
   -- the nodes that the lines of a script set up, as a simulation's, each at its port, and a seed of the system
   pub record IsFirst (lines : List Line) (sockets : List Known) (first : LiveLab P) : Type 0 where
     pub start : Beginning

@@ -1,5 +1,5 @@
 //! A lab: what a script's clients ask, over sockets of this machine.
-ghost use Rattle.std.specs.Prelude.{◌≡◌, ◌≢◌, ◌↔◌, ◌+◌, ℕ, List, Bool, [], length, true, IfErr, IfOk, IfSome, IsTrue, OnErr, OnOk};
+ghost use Rattle.std.specs.Prelude.{◌≡◌, ◌≢◌, ◌↔◌, ◌+◌, ◌∷◌, ℕ, List, Bool, None, [], length, true, IfErr, IfOk, IfSome, IsTrue, OnErr, OnOk};
 ghost use Rattle.std.specs.FinMap as map;
 ghost use Rattle.std.specs.Io.KnownBytes.{Appends};
 ghost use Rattle.std.specs.List.{list_all};
@@ -31,7 +31,7 @@ use std::alloc::Global;
 use std::io::{Read, Write};
 use std::time::Clock;
 
-/// Runs the script that the reader gives with a server, clients and proxies on sockets of this machine, in one process, which take
+/// Runs the script that the reader gives with a server, clients and proxies on sockets of this machine, of IPv6 or IPv4, in one process, which take
 /// their turns one after another: moments are those of the clock, and random bytes are drawn. Its lines are `put`, `open`, `revoked`,
 /// `grant`, `via`, `exchange` and `ask`. After each exchange or request the nodes take turns until its client waits for nothing and no node was
 /// busy in a whole turn, or until this number of whole turns is gone; a client that waits still is `open` then. It writes what the clients
@@ -45,20 +45,21 @@ pub fn lab<R: Clock + Seeds + Sockets, I: Read, W: Write>(
     reader: &mut I,
     writer: &mut W,
     turns: u64,
+    ipv6: bool,
 ) -> Ended
     ensures done { result ≡ Ended.Done → (text : List ℕ)
-        × IfSome (I.remaining reader.old) (λ script. spec.Labs (R.gave runtime.now) (R.opened runtime.now) R.Socket.listens R.Socket.received R.Socket.sent turns script text)
+        × IfSome (I.remaining reader.old) (λ script. spec.Labs (R.gave runtime.now) (R.opened runtime.now (spec.any_place ipv6 ∷ []) None) R.Socket.listens R.Socket.received R.Socket.sent turns script text)
         × Appends (W.contents writer.old) (W.contents writer.new) text }
     ensures bad { (n : ℕ) → result ≡ Ended.BadLine n → IfSome (I.remaining reader.old) (λ script. usage.IsFirstUnused script n)
         × Appends (W.contents writer.old) (W.contents writer.new) [] }
     ensures long { result ≡ Ended.TooLong → IsBeyond longest_script (I.remaining reader.old) × Appends (W.contents writer.old) (W.contents writer.new) [] }
     ensures end { TakesAtMost (longest_script + 1) (I.remaining reader.old) (I.remaining reader.new) }
-    ensures early { result ≢ Ended.Done → spec.EndsEarly (R.gave runtime.now) (R.opened runtime.now) R.Socket.listens R.Socket.received R.Socket.sent result turns (I.remaining reader.old)
+    ensures early { result ≢ Ended.Done → spec.EndsEarly (R.gave runtime.now) (R.opened runtime.now (spec.any_place ipv6 ∷ []) None) R.Socket.listens R.Socket.received R.Socket.sent result turns (I.remaining reader.old)
         (W.contents writer.old) (W.contents writer.new) }
     ensures ends { ends.EndsLab result }
 {
     match script_of(alloc, reader) {
-        Ok(script) => lab_of(alloc, runtime, script, writer, turns),
+        Ok(script) => lab_of(alloc, runtime, script, writer, turns, ipv6),
         Err(ended) => ended,
     }
 }
@@ -86,16 +87,17 @@ fn lab_of<R: Clock + Seeds + Sockets, W: Write>(
     script: Script,
     writer: &mut W,
     turns: u64,
+    ipv6: bool,
 ) -> Ended
     requires { CanPutAll map.empty script }
     ensures done { result ≡ Ended.Done → (text : List ℕ)
-        × spec.LinesPrint (R.gave runtime.now) (R.opened runtime.now) R.Socket.listens R.Socket.received R.Socket.sent turns script text
+        × spec.LinesPrint (R.gave runtime.now) (R.opened runtime.now (spec.any_place ipv6 ∷ []) None) R.Socket.listens R.Socket.received R.Socket.sent turns script text
         × Appends (W.contents writer.old) (W.contents writer.new) text }
-    ensures early { result ≢ Ended.Done → spec.LinesStop (R.gave runtime.now) (R.opened runtime.now) R.Socket.listens R.Socket.received R.Socket.sent result turns script
+    ensures early { result ≢ Ended.Done → spec.LinesStop (R.gave runtime.now) (R.opened runtime.now (spec.any_place ipv6 ∷ []) None) R.Socket.listens R.Socket.received R.Socket.sent result turns script
         (W.contents writer.old) (W.contents writer.new) }
     ensures ends { ends.EndsTurns result }
 {
-    let done = lab_lines(alloc, runtime, script.lines(), writer, turns);
+    let done = lab_lines(alloc, runtime, script.lines(), writer, turns, ipv6);
     drop(script);
     match done {
         Ok(()) => Ended::Done,
@@ -110,18 +112,19 @@ fn lab_lines<R: Clock + Seeds + Sockets, W: Write>(
     lines: &[Line],
     writer: &mut W,
     turns: u64,
+    ipv6: bool,
 ) -> Result<(), Ended>
     requires { CanPutAll map.empty lines.now }
     ensures done { OnOk result ((text : List ℕ)
-        × spec.LinesPrint (R.gave runtime.now) (R.opened runtime.now) R.Socket.listens R.Socket.received R.Socket.sent turns lines.now text
+        × spec.LinesPrint (R.gave runtime.now) (R.opened runtime.now (spec.any_place ipv6 ∷ []) None) R.Socket.listens R.Socket.received R.Socket.sent turns lines.now text
         × Appends (W.contents writer.old) (W.contents writer.new) text) }
-    ensures early { IfErr result (λ ended. spec.LinesStop (R.gave runtime.now) (R.opened runtime.now) R.Socket.listens R.Socket.received R.Socket.sent ended turns lines.now
+    ensures early { IfErr result (λ ended. spec.LinesStop (R.gave runtime.now) (R.opened runtime.now (spec.any_place ipv6 ∷ []) None) R.Socket.listens R.Socket.received R.Socket.sent ended turns lines.now
         (W.contents writer.old) (W.contents writer.new)) }
     ensures fault { IfErr result ends.IsFault }
 {
     let names = names_of(alloc, lines)?;
     let parts = parts_of(alloc, &names, lines)?;
-    let (ports, addresses) = bind_all(alloc, runtime, &parts)?;
+    let (ports, addresses) = bind_all(alloc, runtime, &parts, ipv6)?;
     let supply = supply_of(runtime)?;
     let mut means = Means { supply, ports };
     let mut nodes = LabNodes::new(alloc, parts);

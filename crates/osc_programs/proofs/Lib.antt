@@ -1,3 +1,5 @@
+mod Addresses
+mod Hearings
 pub mod WhyUnread
 pub mod Appended
 pub mod Talking
@@ -9,6 +11,7 @@ pub mod Printing
 pub mod PayloadFiles
 pub mod FirstTree
 pub mod Openings
+pub mod OpenedAt
 pub mod Holdings
 pub mod Scripts
 pub mod KeyFiles

@@ -11,7 +11,7 @@ use Rattle.osc_words.specs.declared.settings.server.ServerSettings.{ServerSettin
 use Rattle.osc_simulation.specs.{line}
 use Rattle.osc_log.specs.{shown_byte}
 
--- NAME A.B.C.D:PORT
+-- NAME and an address with its port
 abbrev pub address_line : List ℕ → Peer → List ℕ
 address_line name peer = line (name ++ codes " " ++ peer_text peer)
 
@@ -37,7 +37,7 @@ store_text (Some file) = shown_line (codes "store") file
 
 abbrev pub server_text : ServerSettings → List ℕ
 server_text settings =
-    address_line (codes "bind") settings.bind ++ shown_line (codes "audience") settings.audience ++ store_text settings.store
+    flat_map (address_line (codes "bind")) settings.bind.items ++ shown_line (codes "audience") settings.audience ++ store_text settings.store
     ++ flat_map (shown_line (codes "open")) settings.open.items ++ flat_map resource_line settings.resources.items
 
 -- ---- of a proxy
@@ -46,12 +46,12 @@ server_text settings =
 abbrev pub host_text : List ℕ → ℕ → List ℕ
 host_text host port = map shown_byte host ++ codes ":" ++ decimal port
 
--- target HOST:PORT to A.B.C.D:PORT
+-- target HOST:PORT to an address with its port
 abbrev pub target_line : TargetSetting → List ℕ
 target_line target = line (codes "target " ++ host_text target.host target.port ++ codes " to " ++ peer_text target.to)
 
 abbrev pub proxy_text : ProxySettings → List ℕ
-proxy_text settings = address_line (codes "bind") settings.bind ++ flat_map target_line settings.targets.items
+proxy_text settings = flat_map (address_line (codes "bind")) settings.bind.items ++ flat_map target_line settings.targets.items
 
 -- ---- of a client
 

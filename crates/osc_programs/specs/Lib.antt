@@ -6,6 +6,9 @@ pub mod TokenFiles
 pub mod Holding
 pub mod Unread
 pub mod Turning
+pub mod Heard
+pub mod Sockets
+pub mod UdpPorts
 pub mod Serving
 pub mod Revoking
 pub mod System
@@ -15,7 +18,7 @@ pub mod Conversation
 pub mod Checked
 pub mod KeyLine
 pub mod PayloadFile
-pub use Checked.{grant_line, resource_line, shown_line, target_line}
+pub use Checked.{address_line, grant_line, resource_line, shown_line, target_line}
 pub use Conversation.{GoesOn, GoesOnBy, Requests, Upshot, Waits, after_sending, at_once, still, told, turns}
 pub use Ended.{CannotAsk, CannotLab, CannotTalk, EndsClient, EndsKept, EndsLab, EndsNode, EndsServer, EndsServing, EndsSim, EndsStore, EndsTold, EndsTurns, EndsUnkept, IsFault, NoScript, NoSettings, NoStore, NotOpened}
 pub use Input.{IsBeyond, IsWithin, TakesAtMost, longest_key, longest_payload_file, longest_script, longest_settings, within}

@@ -1,11 +1,14 @@
 -- What `osc server` and `osc proxy` do: the node of the settings takes its turns.
-use Rattle.std.specs.Prelude.{◌≡◌, ℕ, Bool, List, [], fold, map}
+use Rattle.std.specs.Prelude.{◌≡◌, ◌||◌, ℕ, Bool, bytes_eq, List, [], Some, fold, map, replicate}
+use Rattle.std.specs.Option.{option_eq}
 use Rattle.std.specs.FinMap as map
 use Rattle.std.specs.FinSet as set
 use Rattle.osc_model.specs.{exactly, remembered_posts}
+use Rattle.osc_model.specs.Peer.{octets_of}
 use Rattle.osc_model.specs.Tree.{Tree}
 use Rattle.osc_model.specs.declared.code.Method.TheVariants.{Get}
 use Rattle.osc_model.specs.declared.node.Moment.{Moment}
+use Rattle.osc_model.specs.declared.node.Peer.{Peer}
 use Rattle.osc_log.specs.{Event}
 use Rattle.osc_message.specs.{fresh}
 use Rattle.osc_proxy.specs.{none_open, IsStep as IsStepOfProxy, acts as proxy_acts_at}
@@ -20,6 +23,12 @@ use Rattle.osc_words.specs.declared.settings.server.ServerSettings.{ServerSettin
 use Rattle.osc_simulation.specs.{is_sealing}
 use Rattle.osc_programs.specs.Holding.{proxy_held, server_held}
 use Rattle.osc_programs.specs.Turning.{Runs}
+
+-- ---- their addresses
+
+-- 0.0.0.0 or ::, each of which stands for each address of the machine (RFC 1122 section 3.2.1.3, RFC 3493 section 3.8)
+abbrev pub is_every_address : Peer → Bool
+is_every_address peer = bytes_eq peer.address (replicate 16 0) || option_eq bytes_eq (octets_of peer) (Some (replicate 4 0))
 
 -- ---- the nodes at first
 

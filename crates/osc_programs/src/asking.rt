@@ -1,5 +1,5 @@
 //! A client that runs on a socket: one exchange, and one protected request.
-ghost use Rattle.std.specs.Prelude.{◌≡◌, ◌⊎◌, ◌+◌, List, IfErr, IfOk, IfSome, None, Some, option_map, string_bytes};
+ghost use Rattle.std.specs.Prelude.{◌≡◌, ◌⊎◌, ◌+◌, ◌∷◌, [], List, IfErr, IfOk, IfSome, None, Some, option_map, string_bytes};
 ghost use Rattle.std.specs.Io.KnownBytes.{Appends};
 ghost use Rattle.osc_client.specs.{acts_at, IsStep, HostAndPort};
 ghost use Rattle.osc_client.specs.State.{State as AnyClient};
@@ -60,7 +60,7 @@ pub fn ask<R: Clock + Eprint + Seeds + Sockets, I: Read, L: Log, W: Write>(
     ensures told { (result ≡ Ended.Done) ⊎ (result ≡ Ended.NotDone) → (first last : AnyClient) × (outcome : AnyOutcome) × (settings : AnySettings)
         × IfSome (I.remaining reader.old) (λ text. StandsFor AreClientSettings text settings) × spec.IsClientOf settings first
         × (talks : spec.Talks words.now.turns words.now.request first outcome last)
-        × system.RunsOn (R.gave runtime.now) (R.opened runtime.now settings.bind (Some settings.peer)) R.Socket.sent talks.start talks.sent
+        × system.RunsOn (R.gave runtime.now) (R.opened runtime.now (settings.bind ∷ []) (Some settings.peer)) R.Socket.sent talks.start talks.sent
         × (result ≡ spec.ended_by_outcome outcome) × Appends (W.contents writer.old) (W.contents writer.new) (spec.printed_text words.now.raw outcome) }
     ensures bad { result ≡ Ended.BadSettings → TellsWhy (λ document. IsKeyFault (IsClientFault document)) (I.remaining reader.old) (L.told log.old) (L.told log.new) }
     ensures short { (result ≡ Ended.Done) ⊎ (result ≡ Ended.NotDone) → IsWithin longest_settings (I.remaining reader.old) }
@@ -155,7 +155,7 @@ fn outcome_of<R: Clock + Eprint + Seeds + Sockets, I: Read, L: Log>(
     ensures talks { IfOk result (λ outcome. (first last : AnyClient) × (settings : AnySettings)
         × IfSome (I.remaining reader.old) (λ text. StandsFor AreClientSettings text settings) × spec.IsClientOf settings first
         × (talks : spec.Talks words.now.turns words.now.request first outcome last)
-        × system.RunsOn (R.gave runtime.now) (R.opened runtime.now settings.bind (Some settings.peer)) R.Socket.sent talks.start talks.sent) }
+        × system.RunsOn (R.gave runtime.now) (R.opened runtime.now (settings.bind ∷ []) (Some settings.peer)) R.Socket.sent talks.start talks.sent) }
     ensures bad { IfErr result (λ ended. ended ≡ Ended.BadSettings → TellsWhy (λ document. IsKeyFault (IsClientFault document)) (I.remaining reader.old) (L.told log.old) (L.told log.new)) }
     ensures short { IfOk result (λ _. IsWithin longest_settings (I.remaining reader.old)) }
     ensures end { TakesAtMost (longest_settings + 1) (I.remaining reader.old) (I.remaining reader.new) }
@@ -230,10 +230,10 @@ fn run_at<R: Clock + Eprint + Seeds + Sockets>(
     words: &ClientWords,
 ) -> Result<AskEnd, Ended>
     ensures talks { IfOk result (λ outcome. (last : AnyClient) × (talks : spec.Talks words.now.turns words.now.request client outcome last)
-        × system.RunsOn (R.gave runtime.now) (R.opened runtime.now bind (Some peer)) R.Socket.sent talks.start talks.sent) }
+        × system.RunsOn (R.gave runtime.now) (R.opened runtime.now (bind ∷ []) (Some peer)) R.Socket.sent talks.start talks.sent) }
     ensures ends { IfErr result (ends.CannotTalk words.now.request) }
 {
-    let mut port = opened(alloc, runtime, bind, Some(peer))?;
+    let mut port = opened(alloc, runtime, &[bind], Some(peer))?;
     let supply = supply_of(runtime)?;
     let mut talking = Talking {
         client,

@@ -10,17 +10,16 @@ use osc_words::{
 };
 use std::alloc::{AllocError, Global};
 
-/// Of a server: `bind ADDRESS`, `audience TEXT`, `store FILE` where it has one, `open PATH` for each open path, and `resource PATH FORMAT N bytes`
+/// Of a server: `bind ADDRESS` for each address, `audience TEXT`, `store FILE` where it has one, `open PATH` for each open path, and `resource PATH FORMAT N bytes`
 /// for each resource.
 pub(crate) fn server_text(alloc: Global, settings: &ServerSettings) -> Result<Vec<u8>, AllocError>
     ensures { IfOk result (λ text. text.items ≡ spec.server_text settings.now) }
 {
-    let bind = address_line(alloc, "bind", settings.bind)?;
+    let mut text = bind_lines(alloc, &settings.bind)?;
     let audience = shown_line(alloc, "audience", settings.audience.as_str().as_bytes())?;
     let store = store_text(alloc, &settings.store)?;
     let open = open_lines(alloc, &settings.open)?;
     let resources = resource_lines(alloc, &settings.resources)?;
-    let mut text = Vec::from_slice(alloc, bind.as_bytes())?;
     text.extend_from_slice(&audience)?;
     text.extend_from_slice(&store)?;
     text.extend_from_slice(&open)?;
@@ -28,13 +27,12 @@ pub(crate) fn server_text(alloc: Global, settings: &ServerSettings) -> Result<Ve
     Ok(text)
 }
 
-/// Of a proxy: `bind ADDRESS`, and `target HOST:PORT to ADDRESS` for each target.
+/// Of a proxy: `bind ADDRESS` for each address, and `target HOST:PORT to ADDRESS` for each target.
 pub(crate) fn proxy_text(alloc: Global, settings: &ProxySettings) -> Result<Vec<u8>, AllocError>
     ensures { IfOk result (λ text. text.items ≡ spec.proxy_text settings.now) }
 {
-    let bind = address_line(alloc, "bind", settings.bind)?;
+    let mut text = bind_lines(alloc, &settings.bind)?;
     let targets = target_lines(alloc, &settings.targets)?;
-    let mut text = Vec::from_slice(alloc, bind.as_bytes())?;
     text.extend_from_slice(&targets)?;
     Ok(text)
 }
@@ -55,6 +53,16 @@ pub(crate) fn client_text(alloc: Global, settings: &ClientSettings) -> Result<Ve
 }
 
 // ---- lines
+
+fn bind_lines(alloc: Global, bind: &[Peer]) -> Result<Vec<u8>, AllocError>
+    ensures { IfOk result (λ text. text.items ≡ flat_map (spec.address_line (codes "bind")) bind.now) }
+{
+    let mut text = Vec::new(alloc);
+    for at in bind {
+        text.extend_from_slice(address_line(alloc, "bind", *at)?.as_bytes())?;
+    }
+    Ok(text)
+}
 
 fn address_line(alloc: Global, name: &str, peer: Peer) -> Result<String, AllocError>
     ensures { IfOk result (λ text. string_bytes text ≡ spec.address_line name.now peer) }

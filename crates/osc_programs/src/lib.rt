@@ -19,6 +19,7 @@ mod revoking;
 mod running;
 mod saving;
 mod simulate;
+mod socket;
 mod store;
 mod storing;
 mod supply;
@@ -26,6 +27,7 @@ mod token_files;
 mod turns;
 mod udp;
 mod unread;
+mod ways;
 
 pub use asking::ask;
 pub use checking::{check_client, check_proxy, check_server};

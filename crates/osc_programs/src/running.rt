@@ -63,7 +63,7 @@ pub fn serve<R: Clock + Eprint + Seeds + Sockets + Stores, I: Read, L: Log>(
 ) -> Ended
     ensures done { result ≡ Ended.Done → (settings : ServedBy) × (tree : AnyTree) × (text : List Event) × IfSome (I.remaining reader.old) (λ bytes. StandsFor AreServerSettings bytes settings)
         × BeginsWith (R.holds runtime.now) settings tree
-        × (serves : spec.Serves settings (with_revoked settings.revoked settings.revoked_ids.items tree) turns text) × system.RunsOn (R.gave runtime.now) (R.opened runtime.now settings.bind None) R.Socket.sent serves.runs.start serves.runs.sent
+        × (serves : spec.Serves settings (with_revoked settings.revoked settings.revoked_ids.items tree) turns text) × system.RunsOn (R.gave runtime.now) (R.opened runtime.now settings.bind.items None) R.Socket.sent serves.runs.start serves.runs.sent
         × IsKept R.Keeper.keeps settings.store serves.last
         × AreRevoked settings.revoked serves.first.tree settings.revoked_ids.items
         × Tells (L.told log.old) (L.told log.new) text }
@@ -87,7 +87,7 @@ pub fn forward<R: Clock + Eprint + Seeds + Sockets, I: Read, L: Log>(
     turns: u64,
 ) -> Ended
     ensures done { result ≡ Ended.Done → (settings : ForwardedBy) × (text : List Event) × IfSome (I.remaining reader.old) (λ bytes. StandsFor AreProxySettings bytes settings)
-        × (forwards : spec.Forwards settings turns text) × system.RunsOn (R.gave runtime.now) (R.opened runtime.now settings.bind None) R.Socket.sent forwards.runs.start forwards.runs.sent
+        × (forwards : spec.Forwards settings turns text) × system.RunsOn (R.gave runtime.now) (R.opened runtime.now settings.bind.items None) R.Socket.sent forwards.runs.start forwards.runs.sent
         × Tells (L.told log.old) (L.told log.new) text }
     ensures bad { result ≡ Ended.BadSettings → TellsWhy IsFaultOfProxy (I.remaining reader.old) (L.told log.old) (L.told log.new) }
     ensures short { result ≡ Ended.Done → IsWithin longest_settings (I.remaining reader.old) }
@@ -110,7 +110,7 @@ fn serve_by<R: Clock + Eprint + Seeds + Sockets + Stores, L: Log>(
     turns: u64,
 ) -> Ended
     ensures done { result ≡ Ended.Done → (tree : AnyTree) × (text : List Event) × BeginsWith (R.holds runtime.now) settings tree
-        × (serves : spec.Serves settings (with_revoked settings.revoked settings.revoked_ids.items tree) turns text) × system.RunsOn (R.gave runtime.now) (R.opened runtime.now settings.bind None) R.Socket.sent serves.runs.start serves.runs.sent
+        × (serves : spec.Serves settings (with_revoked settings.revoked settings.revoked_ids.items tree) turns text) × system.RunsOn (R.gave runtime.now) (R.opened runtime.now settings.bind.items None) R.Socket.sent serves.runs.start serves.runs.sent
         × IsKept R.Keeper.keeps settings.store serves.last
         × AreRevoked settings.revoked serves.first.tree settings.revoked_ids.items
         × Tells (L.told log.old) (L.told log.new) text }
@@ -143,7 +143,7 @@ fn serve_revoking<R: Clock + Eprint + Seeds + Sockets, K: KeepsServer + Drop, L:
     turns: u64,
 ) -> Ended
     ensures done { result ≡ Ended.Done → (text : List Event)
-        × (serves : spec.Serves settings (with_revoked settings.revoked settings.revoked_ids.items stored.1) turns text) × system.RunsOn (R.gave runtime.now) (R.opened runtime.now settings.bind None) R.Socket.sent serves.runs.start serves.runs.sent
+        × (serves : spec.Serves settings (with_revoked settings.revoked settings.revoked_ids.items stored.1) turns text) × system.RunsOn (R.gave runtime.now) (R.opened runtime.now settings.bind.items None) R.Socket.sent serves.runs.start serves.runs.sent
         × (KeepsTree K.keeps stored.0 stored.1 → SomeKeeps K.keeps serves.last)
         × AreRevoked settings.revoked serves.first.tree settings.revoked_ids.items
         × Tells (L.told log.old) (L.told log.new) text }
@@ -165,7 +165,7 @@ fn serve_from_settings<R: Clock + Eprint + Seeds + Sockets, L: Log>(
     turns: u64,
 ) -> Ended
     ensures done { result ≡ Ended.Done → (text : List Event)
-        × (serves : spec.Serves settings (with_revoked settings.revoked settings.revoked_ids.items (spec.tree_of settings.resources.items)) turns text) × system.RunsOn (R.gave runtime.now) (R.opened runtime.now settings.bind None) R.Socket.sent serves.runs.start serves.runs.sent
+        × (serves : spec.Serves settings (with_revoked settings.revoked settings.revoked_ids.items (spec.tree_of settings.resources.items)) turns text) × system.RunsOn (R.gave runtime.now) (R.opened runtime.now settings.bind.items None) R.Socket.sent serves.runs.start serves.runs.sent
         × AreRevoked settings.revoked serves.first.tree settings.revoked_ids.items
         × Tells (L.told log.old) (L.told log.new) text }
     ensures ends { ends.EndsKept result }
@@ -184,32 +184,33 @@ fn forward_by<R: Clock + Eprint + Seeds + Sockets, L: Log>(
     turns: u64,
 ) -> Ended
     ensures done { result ≡ Ended.Done → (text : List Event)
-        × (forwards : spec.Forwards settings turns text) × system.RunsOn (R.gave runtime.now) (R.opened runtime.now settings.bind None) R.Socket.sent forwards.runs.start forwards.runs.sent
+        × (forwards : spec.Forwards settings turns text) × system.RunsOn (R.gave runtime.now) (R.opened runtime.now settings.bind.items None) R.Socket.sent forwards.runs.start forwards.runs.sent
         × Tells (L.told log.old) (L.told log.new) text }
     ensures ends { ends.EndsTurns result }
 {
-    let bind = settings.bind;
     match proxy_of(alloc, settings) {
-        Ok(node) => {
+        Ok((node, bind)) => {
             let mut kept = KeptNode {
                 node,
                 keeper: Forgetful,
             };
-            run(alloc, runtime, bind, &mut kept, log, turns)
+            run(alloc, runtime, &bind, &mut kept, log, turns)
         }
         Err(_) => Ended::OutOfMemory,
     }
 }
 
-/// A server with these resources, and without contexts.
+/// A server with these resources, and without contexts, and its addresses.
 pub(crate) fn server_with(
     alloc: Global,
     settings: ServerSettings,
     tree: Tree,
-) -> Result<Server, AllocError>
-    ensures { IfOk result (λ server. spec.IsServerOf settings tree server) }
+) -> Result<(Server, Vec<Peer>), AllocError>
+    ensures server { IfOk result (λ made. spec.IsServerOf settings tree made.0) }
+    ensures bind { IfOk result (λ made. made.1 ≡ settings.bind) }
 {
     let ServerSettings {
+        bind,
         key,
         old_key,
         audience,
@@ -236,7 +237,7 @@ pub(crate) fn server_with(
         },
     );
     let open_scope = open_scope(alloc, &open)?;
-    Server::new(alloc, tree, desk, open_scope)
+    Ok((Server::new(alloc, tree, desk, open_scope)?, bind))
 }
 
 // What a server has at first.
@@ -293,12 +294,14 @@ fn open_scope(alloc: Global, paths: &[Path]) -> Result<Scope, AllocError>
     Ok(scope)
 }
 
-fn proxy_of(alloc: Global, settings: ProxySettings) -> Result<Proxy, AllocError>
-    ensures { IfOk result (λ proxy. spec.IsProxyOf settings proxy) }
+// A proxy without exchanges, and its addresses.
+fn proxy_of(alloc: Global, settings: ProxySettings) -> Result<(Proxy, Vec<Peer>), AllocError>
+    ensures proxy { IfOk result (λ made. spec.IsProxyOf settings made.0) }
+    ensures bind { IfOk result (λ made. made.1 ≡ settings.bind) }
 {
-    let targets = targets_of(alloc, &settings.targets)?;
-    drop(settings);
-    Proxy::new(alloc, targets)
+    let ProxySettings { bind, targets } = settings;
+    let targets = targets_of(alloc, &targets)?;
+    Ok((Proxy::new(alloc, targets)?, bind))
 }
 
 fn targets_of(alloc: Global, settings: &[TargetSetting]) -> Result<Targets, AllocError>
@@ -323,7 +326,7 @@ fn target_of(setting: &TargetSetting) -> Result<Target, AllocError>
 
 // ---- turns
 
-/// The node takes this number of turns at this address.
+/// The node takes this number of turns at these addresses.
 pub(crate) fn run<
     R: Clock + Eprint + Seeds + Sockets,
     N: Node<Suite> + Holding,
@@ -332,27 +335,30 @@ pub(crate) fn run<
 >(
     alloc: Global,
     runtime: &R,
-    bind: Peer,
+    bind: &[Peer],
     kept: &mut KeptNode<N, K>,
     log: &mut L,
     turns: u64,
 ) -> Ended
     ensures done { result ≡ Ended.Done → (text : List Event)
-        × (runs : turning.Runs N.acts N.is_step N.held turns text kept.old.node kept.new.node) × system.RunsOn (R.gave runtime.now) (R.opened runtime.now bind None) R.Socket.sent runs.start runs.sent
+        × (runs : turning.Runs N.acts N.is_step N.held turns text kept.old.node kept.new.node) × system.RunsOn (R.gave runtime.now) (R.opened runtime.now bind.now None) R.Socket.sent runs.start runs.sent
         × Tells (L.told log.old) (L.told log.new) text }
     ensures kept { K.keeps kept.old.keeper kept.old.node → StaysKept K.keeps K.may_hold result kept.new.node kept.new.keeper }
     ensures fails { (error : _) → result ≡ Ended.NotKept error → (keeper : K) × K.may_fail keeper }
     ensures ends { ends.EndsKept result }
 {
     match opened(alloc, runtime, bind, None) {
-        Ok(mut port) => started(alloc, runtime, &mut port, kept, log, turns),
+        Ok(mut port) => {
+            tell_addresses(alloc, runtime, &port, bind.len());
+            started(alloc, runtime, &mut port, kept, log, turns)
+        }
         Err(ended) => ended,
     }
 }
 
-/// A port at this address.
-pub fn bound<R: Sockets>(runtime: &R, bind: Peer) -> Result<R::Socket, Ended>
-    ensures opened { IfOk result (R.opened runtime.now bind None) }
+/// A port at these addresses.
+pub fn bound<R: Sockets>(runtime: &R, bind: &[Peer]) -> Result<R::Socket, Ended>
+    ensures opened { IfOk result (R.opened runtime.now bind.now None) }
     ensures fault { IfErr result ends.IsFault }
 {
     match runtime.open_port(bind, None) {
@@ -361,15 +367,15 @@ pub fn bound<R: Sockets>(runtime: &R, bind: Peer) -> Result<R::Socket, Ended>
     }
 }
 
-/// A port at this address, at which nothing comes in but from this peer, if one is named; where there is none, a line on the standard
+/// A port at these addresses, at which nothing comes in but from this peer, if one is named; where there is none, a line on the standard
 /// error tells why.
 pub(crate) fn opened<R: Eprint + Sockets>(
     alloc: Global,
     runtime: &R,
-    bind: Peer,
+    bind: &[Peer],
     peer: Option<Peer>,
 ) -> Result<R::Socket, Ended>
-    ensures opened { IfOk result (R.opened runtime.now bind peer) }
+    ensures opened { IfOk result (R.opened runtime.now bind.now peer) }
     ensures fault { IfErr result ends.IsFault }
 {
     match runtime.open_port(bind, peer) {
@@ -437,7 +443,6 @@ fn started<
     ensures fails { (error : _) → result ≡ Ended.NotKept error → (keeper : K) × K.may_fail keeper }
     ensures ends { ends.EndsKept result }
 {
-    tell_address(alloc, runtime, port);
     match supply_of(runtime) {
         Ok(mut supply) => {
             let ended = take_turns(alloc, &mut supply, port, kept, log, turns);
@@ -455,20 +460,36 @@ fn tell_end<R: Eprint, P: SocketPort>(alloc: Global, runtime: &R, port: &P, ende
     }
 }
 
-// What is told of 0.0.0.0, which stands for each address of the machine (RFC 1122 section 3.2.1.3).
+// What is told of 0.0.0.0 and of ::, which stand for each address of the machine (RFC 1122 section 3.2.1.3, RFC 3493 section 3.8).
 const EVERY_ADDRESS: &str =
-    "answers leave from the address that the system picks, and a client that asked another address of this machine doesn't know them: bind one address";
+    "answers leave from the address that the system picks, and a client that asked another address of this machine doesn't know them: bind each address";
 
-// `listening on A.B.C.D:PORT`, on the standard error, and at 0.0.0.0 a line more. A notice that can't be written is no failure.
-fn tell_address<R: Eprint, P: SocketPort>(alloc: Global, runtime: &R, port: &P) {
-    if let Some(peer) = port.address() {
-        if let Ok(line) = address_line(alloc, peer) {
-            let _told = runtime.eprintln(line.as_str());
-        }
-        if peer.octets() == Some([0, 0, 0, 0]) {
-            let _told = runtime.eprintln(EVERY_ADDRESS);
+// `listening on ADDRESS` for each socket, on the standard error, and where one is at 0.0.0.0 or :: a line more. A notice that can't be written is
+// no failure.
+fn tell_addresses<R: Eprint, P: SocketPort>(alloc: Global, runtime: &R, port: &P, count: usize) {
+    let mut any = false;
+    for number in 0..count {
+        if let Some(peer) = port.address(number) {
+            tell_address(alloc, runtime, peer);
+            any = any || is_every_address(peer);
         }
     }
+    if any {
+        let _told = runtime.eprintln(EVERY_ADDRESS);
+    }
+}
+
+fn tell_address<R: Eprint>(alloc: Global, runtime: &R, peer: Peer) {
+    if let Ok(line) = address_line(alloc, peer) {
+        let _told = runtime.eprintln(line.as_str());
+    }
+}
+
+// Whether this is 0.0.0.0 or ::.
+fn is_every_address(peer: Peer) -> bool
+    ensures { result ≡ spec.is_every_address peer }
+{
+    peer.address == [0; 16] || peer.octets() == Some([0; 4])
 }
 
 fn address_line(alloc: Global, peer: Peer) -> Result<String, AllocError> {

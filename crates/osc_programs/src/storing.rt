@@ -30,17 +30,16 @@ pub(crate) fn serve_stored<R: Clock + Eprint + Seeds + Sockets, K: KeepsServer +
     turns: u64,
 ) -> Ended
     ensures done { result ≡ Ended.Done → (text : List Event)
-        × (serves : Serves settings stored.1 turns text) × system.RunsOn (R.gave runtime.now) (R.opened runtime.now settings.bind None) R.Socket.sent serves.runs.start serves.runs.sent
+        × (serves : Serves settings stored.1 turns text) × system.RunsOn (R.gave runtime.now) (R.opened runtime.now settings.bind.items None) R.Socket.sent serves.runs.start serves.runs.sent
         × (((server : AnyServer) → server.tree ≡ stored.1 → K.keeps stored.0 server) → SomeKeeps K.keeps serves.last)
         × Tells (L.told log.old) (L.told log.new) text }
     ensures ends { ends.EndsKept result }
 {
-    let bind = settings.bind;
     let (keeper, tree) = stored;
     match server_with(alloc, settings, tree) {
-        Ok(node) => {
+        Ok((node, bind)) => {
             let mut kept = KeptNode { node, keeper };
-            let ended = run(alloc, runtime, bind, &mut kept, log, turns);
+            let ended = run(alloc, runtime, &bind, &mut kept, log, turns);
             kept_whole(&mut kept.keeper, ended)
         }
         Err(_) => Ended::OutOfMemory,

@@ -48,7 +48,7 @@ LeadsTo net first last = (reached : LiveLab _) × Leads net first reached × Hal
 
 -- ---- where the nodes are at first
 
-module _ {P : Type 0} (opened : Peer → Option Peer → P → Type 0) (listens : P → Peer → Type 0) where
+module _ {P : Type 0} (opened : P → Type 0) (listens : P → Peer → Type 0) where
   -- a node of this address in the script has a port, and its socket is known
   pub record IsBound (script : Peer) (before after : List Known) (port : PacedPort P) : Type 0 where
     pub known : Known

@@ -10,6 +10,7 @@ returns-clause-begins g c =
     let server = c.in_ok-server.ensures.bound in
     let proxies = c.in_ok-proxies.ensures.bound in
     let clients = c.in_ok-clients.ensures.bound in
+    let place = c.any_place-place.ensures in
     record {
       server = server.known;
       proxies = proxies.all;
@@ -18,7 +19,7 @@ returns-clause-begins g c =
       named_server = server.named ∙ c.address.ensures;
       named_proxies = proxies.named ∙ ap (map (λ (placed : Placed Proxy). placed.at)) c.proxies.ensures;
       named_clients = clients.named ∙ ap (map (λ (placed : Placed Client). placed.at)) c.clients.ensures;
-      server_at = server.is_at;
-      proxies_at = proxies.are_at;
-      clients_at = clients.are_at;
+      server_at = rw place at server.is_at;
+      proxies_at = rw place at proxies.are_at;
+      clients_at = rw place at clients.are_at;
     }
