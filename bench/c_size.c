@@ -6,7 +6,7 @@
 enum { DATAGRAM = 1152, HOLDERS = 64 };
 
 static const nzf_key KEY = {{1}};
-static const nzf_peer DEVICE_AT = {{127, 0, 0, 1}, 5683}, PROXY_AT = {{127, 0, 0, 1}, 5690};
+static const nzf_peer DEVICE_AT = NZF_IPV4(127, 0, 0, 1, 5683), PROXY_AT = NZF_IPV4(127, 0, 0, 1, 5690);
 static const uint64_t NOW = UINT64_C(1700000000000);
 
 static nzf_device device;
@@ -15,7 +15,7 @@ static nzf_proxy proxy;
 static uint8_t bytes[DATAGRAM], token[512];
 static size_t length, token_length;
 static uint8_t holder;
-static nzf_peer to, client_at = {{127, 0, 0, 1}, 5700};
+static nzf_peer to, client_at = NZF_IPV4(127, 0, 0, 1, 5700);
 
 static void must(int holds, const char *what) {
     if (holds) return;
@@ -77,7 +77,7 @@ static void device_heard(void) {
 static void device_answer(void) { must(nzf_device_next(&device, &to, bytes, sizeof bytes, &length) == NZF_DONE, "device_next"); }
 
 static void device_told(void) {
-    nzf_served it;
+    nzf_served it = NZF_SERVED;
     uint8_t all[NZF_PATH_MAX + DATAGRAM + NZF_CONTEXT_MAX];
     must(nzf_device_served(&device, &it, all, sizeof all) == NZF_DONE, "device_served");
 }

@@ -104,8 +104,9 @@ static size_t request_count;
 static uint8_t open_at[CLIENTS];
 
 static const nzf_key KEY = {{1, 2, 3, 4, 5, 6, 7, 8, 9, 10, 11, 12, 13, 14, 15, 16}};
-static const nzf_peer DEVICE = {{10, 0, 0, 1}, 5683}, PROXY = {{10, 0, 0, 2}, 5683}, STRANGER = {{10, 0, 0, 9}, 9};
-static const nzf_peer AT[CLIENTS] = {{{10, 0, 0, 3}, 1}, {{10, 0, 0, 4}, 1}};
+static const nzf_peer DEVICE = NZF_IPV4(10, 0, 0, 1, 5683), PROXY = NZF_IPV4(10, 0, 0, 2, 5683), STRANGER = NZF_IPV4(10, 0, 0, 9, 9);
+/* the second one is on the link of zone 2 */
+static const nzf_peer AT[CLIENTS] = {NZF_IPV4(10, 0, 0, 3, 1), {1, 2, {0xfe, 0x80, 0, 0, 0, 0, 0, 0, 0, 0, 0, 0, 0, 0, 0, 4}}};
 static const char *const PATHS[] = {"/e", "/log", "/a/b", "/a", "/r/0aff", "", "e", "/a//b", "/a/b/c/d/e/f/g/h", "/a/b/c/d/e/f/g/h/i"};
 
 #define TEXT(text) (text), strlen(text)
@@ -131,19 +132,26 @@ static void look(view *it) {
     unsigned kept = refuse_in;
     refuse_in = 0;
     memset(it, 0, sizeof *it);
+    it->served.size = sizeof it->served;
+    it->refused.size = sizeof it->refused;
     it->numbers[0] = nzf_device_next_deadline(&device, &it->deadline);
     it->numbers[1] = nzf_device_learnt(&device, &it->code);
     it->numbers[2] = nzf_device_served(&device, &it->served, bytes, sizeof bytes);
     it->numbers[3] = nzf_device_refused(&device, &it->refused);
-    for (size_t at = 0; at < 3; at++) it->numbers[4 + at] = nzf_device_get(&device, TEXT(PATHS[at]), it->bytes[at], sizeof it->bytes[at], &it->values[at]);
+    for (size_t at = 0; at < 3; at++) {
+        it->values[at].size = sizeof it->values[at];
+        it->numbers[4 + at] = nzf_device_get(&device, TEXT(PATHS[at]), it->bytes[at], sizeof it->bytes[at], &it->values[at]);
+    }
     refuse_in = kept;
 }
+
+static int is_etag(const nzf_etag *one, const nzf_etag *other) { return memcmp(one, other, sizeof *one) == 0; }
 
 static int is_same(const view *one, const view *other) {
     int same = memcmp(one->numbers, other->numbers, sizeof one->numbers) == 0 && one->deadline == other->deadline && one->code == other->code;
     for (size_t at = 0; at < 3; at++)
         same = same && one->values[at].format == other->values[at].format && one->values[at].length == other->values[at].length &&
-               memcmp(one->bytes[at], other->bytes[at], sizeof one->bytes[at]) == 0;
+               is_etag(&one->values[at].etag, &other->values[at].etag) && memcmp(one->bytes[at], other->bytes[at], sizeof one->bytes[at]) == 0;
     return same && one->served.number == other->served.number && one->served.method == other->served.method && one->refused.code == other->refused.code;
 }
 
@@ -196,14 +204,48 @@ static int32_t next_of_proxy(void *it, nzf_peer *to, uint8_t *bytes, size_t room
 
 /* ---- what the device tells of a step */
 
+/* The size of an answer's struct whose last members are left out: `end` is where they begin, and a size_t its alignment. */
+#define SHORT(type, end) ((offsetof(type, end) + sizeof(size_t) - 1) / sizeof(size_t) * sizeof(size_t))
+
+/* The same is told to a shorter struct, and what that leaves out is not written; one of another size gets nothing. */
+static void served_in_short(const nzf_served *told, uint8_t *bytes, size_t room) {
+    static const size_t SHORTER = SHORT(nzf_served, token);
+    nzf_served it, before, *alone = (nzf_served *)malloc(SHORTER);
+    memset(&it, 0xee, sizeof it);
+    it.size = SHORTER;
+    if (alone == NULL) abort();
+    memcpy(alone, &it, SHORTER);
+    SHOULD(nzf_device_served(&device, alone, bytes, room) == NZF_DONE);
+    memcpy(&it, alone, SHORTER);
+    free(alone);
+    SHOULD(it.number == told->number && it.code == told->code && it.path_length == told->path_length && it.context_length == told->context_length);
+    SHOULD(it.size == SHORTER);
+    it.size = 1 + below(2 * sizeof it);
+    if (it.size == sizeof it || it.size == SHORTER) it.size = 0;
+    before = it;
+    SHOULD(nzf_device_served(&device, &it, bytes, room) == NZF_BAD_ARGUMENT && memcmp(&it, &before, sizeof it) == 0);
+}
+
+/* The token's id is that of who asked, and what a GET is answered has the ETag that the resource has. */
+static void served_rightly(const asked *by, const nzf_served *told, const uint8_t *path) {
+    uint8_t payload[NZF_PAYLOAD_MAX];
+    nzf_value value = NZF_VALUE;
+    SHOULD(told->token.length == 1 && told->token.bytes[0] == 'a' + by->client && told->token.bytes[1] == 0);
+    SHOULD(told->etag.length == (told->code == 0x45 ? 8 : 0));
+    if (told->etag.length == 0) return;
+    SHOULD(nzf_device_get(&device, path, told->path_length, payload, sizeof payload, &value) == NZF_DONE && is_etag(&value.etag, &told->etag));
+}
+
 /* `bytes` are the path, the payload and the id context, one after the other. */
 static int is_of(const asked *it, const nzf_served *told, const uint8_t *bytes) {
+    const uint8_t *payload = bytes + it->path_length, *context = payload + it->payload_length;
     return !it->is_served && it->method == told->method && it->path_length == told->path_length && it->payload_length == told->payload_length &&
-           memcmp(it->path, bytes, it->path_length) == 0 && memcmp(it->payload, bytes + it->path_length, it->payload_length) == 0;
+           told->context_length == 1 && *context == 'a' + it->client && memcmp(it->path, bytes, it->path_length) == 0 &&
+           memcmp(it->payload, payload, it->payload_length) == 0;
 }
 
 static void act_on_served(void) {
-    nzf_served it;
+    nzf_served it = NZF_SERVED;
     uint8_t bytes[SERVED];
     unsigned kept = refuse_in;
     refuse_in = 0;
@@ -215,24 +257,30 @@ static void act_on_served(void) {
         while (at < request_count && !is_of(&requests[at], &it, bytes)) at++;
         SHOULD(at < request_count);
         requests[at].is_served = 1;
+        served_rightly(&requests[at], &it, bytes);
+        served_in_short(&it, bytes, sizeof bytes);
         /* a room that is too short: the lengths are told, and nothing is written beyond it */
         if (whole > 0) {
-            nzf_served again;
+            nzf_served again = NZF_SERVED;
             memset(bytes, 0xee, sizeof bytes);
             number = nzf_device_served(&device, &again, bytes, whole - 1);
-            SHOULD(number == NZF_TOO_SHORT && again.path_length == it.path_length && bytes[whole - 1] == 0xee);
+            SHOULD(number == NZF_TOO_SHORT && again.path_length == it.path_length && bytes[whole - 1] == 0xee && is_etag(&again.etag, &it.etag));
         }
     }
-    nzf_refused refused;
+    nzf_refused refused = NZF_REFUSAL;
     number = nzf_device_refused(&device, &refused);
     ANSWERS(number, OR(NZF_DONE) | OR(NZF_NOTHING));
-    if (number == NZF_DONE) SHOULD(refused.code >= 0x80 && refused.reason < 64);
+    if (number == NZF_DONE) {
+        SHOULD(refused.code >= 0x80 && refused.reason < 64 && refused.has_token <= 1);
+        if (refused.has_token) SHOULD(refused.token.length == 1 && refused.token.bytes[0] - 'a' < CLIENTS && refused.token.bytes[1] == 0);
+        else SHOULD(refused.token.length == 0 && refused.token.bytes[0] == 0);
+    }
     refuse_in = kept;
 }
 
 /* What a client learns: only what it has open can end. */
 static void act_on_client(size_t at) {
-    nzf_result it;
+    nzf_result it = NZF_RESULT;
     uint8_t payload[NZF_DATAGRAM_MAX];
     unsigned kept = refuse_in;
     refuse_in = 0;
@@ -279,7 +327,9 @@ static void to_client(size_t at, const datagram *it) {
     take_all(next_of_client, &clients[at], &AT[at]);
 }
 
-static int is_at(const nzf_peer *one, const nzf_peer *other) { return memcmp(one->address, other->address, 4) == 0 && one->port == other->port; }
+static int is_at(const nzf_peer *one, const nzf_peer *other) {
+    return one->port == other->port && one->scope == other->scope && memcmp(one->bytes, other->bytes, sizeof one->bytes) == 0;
+}
 
 static void deliver(const datagram *it) {
     has_refused = 0;
@@ -330,7 +380,7 @@ static void exchange(size_t at) {
     int32_t number = nzf_client_exchange(&clients[at], now, &random);
     ANSWERS(number, OR(NZF_DONE) | (has_refused ? OR(NZF_NO_MEMORY) : 0));
     if (number != NZF_DONE) return;
-    nzf_result it;
+    nzf_result it = NZF_RESULT;
     uint8_t payload[NZF_DATAGRAM_MAX];
     if (nzf_client_result(&clients[at], &it, payload, sizeof payload) == NZF_NOTHING) open_at[at] = 1;
     else SHOULD(it.what == NZF_RESULT_REFUSED);
@@ -365,7 +415,7 @@ static void ask(size_t at) {
     if (request.size != sizeof request) SHOULD(number == NZF_BAD_ARGUMENT);
     if (number != NZF_DONE) return;
     request_count++;
-    nzf_result told;
+    nzf_result told = NZF_RESULT;
     uint8_t payload[NZF_DATAGRAM_MAX];
     if (nzf_client_result(&clients[at], &told, payload, sizeof payload) == NZF_NOTHING) open_at[at] = 2;
     else SHOULD(told.what == NZF_RESULT_REFUSED);
@@ -452,7 +502,7 @@ static void bad_arguments(void) {
     view before, after;
     nzf_draw random = draw();
     nzf_draws draws = two_draws();
-    static const nzf_peer NOBODY = {{0, 0, 0, 0}, 0};
+    static const nzf_peer NOBODY = NZF_IPV4(0, 0, 0, 0, 0);
     uint8_t code = 0xee;
     look(&before);
     refuse_in = 0;

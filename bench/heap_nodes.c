@@ -72,7 +72,7 @@ static int failed(const char *what, long number) {
     return 1;
 }
 
-static const nzf_peer HOLDER = {{127, 0, 0, 1}, 5700}, DOOR = {{127, 0, 0, 1}, 5683};
+static const nzf_peer HOLDER = NZF_IPV4(127, 0, 0, 1, 5700), DOOR = NZF_IPV4(127, 0, 0, 1, 5683);
 
 /* ---- a device alone */
 
@@ -255,7 +255,7 @@ static int is_granted(void) {
  * learns: 1 of a context, else a code, or 0. */
 static int comes(void) {
     nzf_peer to;
-    nzf_result result = {0};
+    nzf_result result = NZF_RESULT;
     uint8_t bytes[NZF_DATAGRAM_MAX], payload[NZF_DATAGRAM_MAX];
     size_t length;
     for (int second = 0; second < 200; second++, now += SECOND) {

@@ -10,7 +10,7 @@
 enum { DATAGRAM = 1152, MOST = 4000, STEP = 16, TICK = 500, WAIT = 300000 };
 
 static const nzf_key KEY = {{1}};
-static const nzf_peer DEVICE_AT = {{127, 0, 0, 1}, 5683}, PROXY_AT = {{127, 0, 0, 1}, 5690};
+static const nzf_peer DEVICE_AT = NZF_IPV4(127, 0, 0, 1, 5683), PROXY_AT = NZF_IPV4(127, 0, 0, 1, 5690);
 static uint64_t now;
 static uint8_t bytes[DATAGRAM];
 static size_t length;
@@ -41,7 +41,7 @@ static nzf_draws two_draws(void) {
 }
 
 static nzf_peer peer(unsigned number) {
-    nzf_peer it = {{10, 0, 0, 1}, 0};
+    nzf_peer it = NZF_IPV4(10, 0, 0, 1, 0);
     it.port = (uint16_t)(6000 + number);
     return it;
 }
@@ -149,7 +149,7 @@ static void begin_ask(uint8_t method, const void *path, size_t path_length, cons
 /* What waits at the client goes to the device and its answer back. What the client learns is answered, or 0. */
 static nzf_result learnt_by(const nzf_peer *client_at) {
     static uint8_t payload[DATAGRAM];
-    nzf_result result = {0, 0, -1, 0};
+    nzf_result result = NZF_RESULT;
     nzf_draw it = draw();
     must(AT(client_heap, nzf_client_next(&client, &to, bytes, sizeof bytes, &length)) == NZF_DONE, "client_next");
     must(AT(device_heap, nzf_device_on_datagram(&device, now, client_at, bytes, length, &it)) == NZF_DONE, "device_on_datagram");
@@ -178,7 +178,7 @@ static int is_ticked(int32_t told) { return told == NZF_DONE || told == NZF_LOST
 /* How often it ended so, or -1 where a tick was refused. */
 static int client_waits(void) {
     int timed_out = 0;
-    nzf_result result;
+    nzf_result result = NZF_RESULT;
     for (uint64_t end = now + WAIT; now < end;) {
         now += TICK;
         if (!is_ticked(AT(client_heap, nzf_client_on_tick(&client, now)))) return -1;
@@ -288,7 +288,9 @@ static int proxy_ends(void) {
     return 1;
 }
 
-static int is_peer(const nzf_peer *one, const nzf_peer *other) { return memcmp(one->address, other->address, 4) == 0 && one->port == other->port; }
+static int is_peer(const nzf_peer *one, const nzf_peer *other) {
+    return one->port == other->port && one->scope == other->scope && memcmp(one->bytes, other->bytes, sizeof one->bytes) == 0;
+}
 
 /* The target answers what was forwarded to it. Whether that goes to the client. */
 static int target_answers(unsigned from, uint8_t kind) {
@@ -395,7 +397,7 @@ static int new_holder(uint8_t number) {
 
 /* Whether the client's post is sent, and makes a context. */
 static int holder_posts(unsigned number) {
-    nzf_result it;
+    nzf_result it = NZF_RESULT;
     nzf_peer at = peer(number);
     begin_exchange();
     if (AT(client_heap, nzf_client_result(&client, &it, bytes, sizeof bytes)) == NZF_DONE) return 0;
@@ -475,7 +477,7 @@ static void client_worst(void) {
         client_heap = (heap){0, 0};
         must(client_behind(PROXY_AT, nzf_bytes_of(host, sizeof host), its_secret, its_context) == NZF_DONE, "client_new");
         begin_exchange();
-        nzf_result it;
+        nzf_result it = NZF_RESULT;
         if (AT(client_heap, nzf_client_result(&client, &it, bytes, sizeof bytes)) != NZF_DONE) break;
     }
     most_row("a client with the longest token, host and secret, whose post is open", &client_heap);
@@ -515,7 +517,7 @@ static void client_worst(void) {
     asked.options.if_none_match = 1;
     asked.path = nzf_bytes_of(path, long_path(path, 1));
     for (;; most--) {
-        nzf_result result;
+        nzf_result result = NZF_RESULT;
         asked.payload = nzf_bytes_of(payload, most);
         must(AT(client_heap, nzf_client_ask(&client, now, &asked, &it)) == NZF_DONE, "client_ask");
         if (AT(client_heap, nzf_client_result(&client, &result, bytes, sizeof bytes)) != NZF_DONE) break;

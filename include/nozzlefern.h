@@ -11,8 +11,10 @@
  * something was begun. A call that is refused leaves the last step as it was: look at what was served, refused or learnt only after NZF_DONE, and
  * after a tick's NZF_LOST.
  *
- * Structs. One that a call reads has `size` as its first member, which is to be its sizeof: a later version of the library may know longer ones, and
- * takes the shorter ones of an earlier version for what they meant there. Another size is NZF_BAD_ARGUMENT. Begin with the initializer that is named after it (NZF_DEVICE_SETTINGS for nzf_device_settings), and set what differs.
+ * Structs. The larger ones begin with `size`, which the caller sets, to the sizeof, and no call changes. Begin with the initializer that is named after the
+ * struct (NZF_DEVICE_SETTINGS for nzf_device_settings; NZF_REFUSAL for nzf_refused), and set what differs. A struct that a call fills may also have the
+ * size that it would have without the members below "may be left out": these are then neither read nor written. Another size is NZF_BAD_ARGUMENT, of a
+ * struct that is filled also where a handle holds nothing. Plain values have no size: peers, keys, IVs, draws, bytes, ids, ETags, options and handles.
  *
  * Pointers. None may be null, also where a length is 0 (hand in "" then; the initializers do). What they point to is not kept after the call. What is
  * written to must not overlap with anything else that is handed in.
@@ -62,6 +64,11 @@ extern "C" {
 /* The version of the library that is linked. */
 uint32_t nzf_version(void);
 
+/* ---- the ABI, which the name of the shared library counts: libnozzlefern.so.1. Within one number a struct grows only at its end, and only where it has a
+ * size; calls and numbers keep what they mean. So a program that was built with an older header of this number runs with a newer library. */
+
+#define NZF_ABI 1
+
 /* ---- what calls answer */
 
 typedef enum nzf_outcome {
@@ -110,10 +117,48 @@ typedef enum nzf_algorithm { NZF_ALGORITHM_CCM_8 = 10, NZF_ALGORITHM_CCM_16 = 30
 
 /* ---- what goes in */
 
+/* Whom a datagram comes from or goes to. Make one by nzf_ipv4 or nzf_ipv6. Port and scope are in this machine's byte order. */
 typedef struct nzf_peer {
-    uint8_t address[4]; /* IPv4, as it is written: 127, 0, 0, 1 */
-    uint16_t port;      /* of this machine's byte order */
+    uint16_t port;
+    uint32_t scope;    /* of an address that counts on one link alone: the number of its zone, as sin6_scope_id; else 0 */
+    uint8_t bytes[16]; /* the address, as in6_addr has it; one of IPv4 is ::ffff:a.b.c.d */
 } nzf_peer;
+
+#define NZF_PEER {0, 0, {0}}
+
+/* a.b.c.d:port, as an initializer */
+#define NZF_IPV4(a, b, c, d, port) {(port), 0, {0, 0, 0, 0, 0, 0, 0, 0, 0, 0, 0xff, 0xff, (a), (b), (c), (d)}}
+
+/* and as a value */
+NZF_INLINE nzf_peer nzf_ipv4(uint8_t a, uint8_t b, uint8_t c, uint8_t d, uint16_t port) {
+    nzf_peer it;
+    memset(&it, 0, sizeof it);
+    it.port = port;
+    it.bytes[10] = it.bytes[11] = 0xff;
+    it.bytes[12] = a;
+    it.bytes[13] = b;
+    it.bytes[14] = c;
+    it.bytes[15] = d;
+    return it;
+}
+
+/* [bytes%scope]:port; these bytes may be an address of IPv4 as well */
+NZF_INLINE nzf_peer nzf_ipv6(const uint8_t bytes[16], uint32_t scope, uint16_t port) {
+    nzf_peer it;
+    memset(&it, 0, sizeof it);
+    it.port = port;
+    it.scope = scope;
+    memcpy(it.bytes, bytes, 16);
+    return it;
+}
+
+/* whether it is a peer of IPv4: 1 or 0 */
+NZF_INLINE int nzf_is_ipv4(const nzf_peer *peer) {
+    return peer->scope == 0 && memcmp(peer->bytes, "\0\0\0\0\0\0\0\0\0\0\xff\xff", 12) == 0;
+}
+
+/* the four bytes of a peer of IPv4 */
+NZF_INLINE void nzf_ipv4_of(const nzf_peer *peer, uint8_t four[4]) { memcpy(four, peer->bytes + 12, 4); }
 
 typedef struct nzf_key { uint8_t bytes[16]; } nzf_key;
 typedef struct nzf_iv { uint8_t bytes[13]; } nzf_iv;
@@ -121,6 +166,16 @@ typedef struct nzf_draw { uint8_t bytes[32]; } nzf_draw;
 
 /* two draws: the device's own, and its server's */
 typedef struct nzf_draws { nzf_draw own; nzf_draw server; } nzf_draws;
+
+/* the id of a token: its first `length` bytes; the others are 0 */
+typedef struct nzf_id { uint8_t length; uint8_t bytes[64]; } nzf_id;
+
+#define NZF_ID {0, {0}}
+
+/* an ETag of 8 bytes, or none, of length 0; then all are 0 */
+typedef struct nzf_etag { uint8_t length; uint8_t bytes[8]; } nzf_etag;
+
+#define NZF_ETAG {0, {0}}
 
 /* bytes, and how many they are */
 typedef struct nzf_bytes { const void *bytes; size_t length; } nzf_bytes;
@@ -149,7 +204,7 @@ typedef struct nzf_device_settings {
     nzf_bytes unprotected;    /* the scope of what anyone may GET without protection; no bytes for nothing */
     nzf_bytes own;            /* the scope of what the device itself may do */
     nzf_bytes revoked;        /* the revocation path, of at most 4 segments; no bytes for none */
-    uint8_t no_subtrees;      /* 1: a token whose scope has +SUB is refused; else 0. RFC 9237 has FETCH for that bit. Not in the first version */
+    uint8_t no_subtrees;      /* 1: a token whose scope has +SUB is refused; else 0. RFC 9237 has FETCH for that bit */
 } nzf_device_settings;
 
 #define NZF_DEVICE_SETTINGS {sizeof(nzf_device_settings), {{0}}, {{0}}, 0, 0, NZF_NO_BYTES, NZF_NO_BYTES, NZF_NO_BYTES, NZF_NO_BYTES, 0}
@@ -179,7 +234,7 @@ typedef struct nzf_client_settings {
 } nzf_client_settings;
 
 #define NZF_CLIENT_SETTINGS \
-    {sizeof(nzf_client_settings), {{0}, 0}, 0, 0, NZF_ALGORITHM_CCM_8, NZF_NO_BYTES, NZF_NO_BYTES, NZF_NO_BYTES, NZF_NO_BYTES, NZF_NO_BYTES}
+    {sizeof(nzf_client_settings), NZF_PEER, 0, 0, NZF_ALGORITHM_CCM_8, NZF_NO_BYTES, NZF_NO_BYTES, NZF_NO_BYTES, NZF_NO_BYTES, NZF_NO_BYTES}
 
 /* the options of a request, beside its path */
 typedef struct nzf_options {
@@ -197,12 +252,12 @@ typedef struct nzf_options {
 typedef struct nzf_request {
     size_t size;         /* of this struct */
     uint8_t method;      /* nzf_method */
-    nzf_options options;
     nzf_bytes path;
     nzf_bytes payload;
+    nzf_options options;
 } nzf_request;
 
-#define NZF_REQUEST {sizeof(nzf_request), NZF_METHOD_GET, NZF_OPTIONS, NZF_NO_BYTES, NZF_NO_BYTES}
+#define NZF_REQUEST {sizeof(nzf_request), NZF_METHOD_GET, NZF_NO_BYTES, NZF_NO_BYTES, NZF_OPTIONS}
 
 /* what a token claims, and under what it is sealed */
 typedef struct nzf_claims {
@@ -227,12 +282,18 @@ typedef struct nzf_claims {
 
 /* what is at a path */
 typedef struct nzf_value {
+    size_t size;    /* of this struct */
     int32_t format; /* the Content-Format, or NZF_NO_FORMAT */
     size_t length;  /* of the payload, 0 to NZF_PAYLOAD_MAX */
+    /* may be left out */
+    nzf_etag etag;  /* as a GET is answered with it */
 } nzf_value;
+
+#define NZF_VALUE {sizeof(nzf_value), NZF_NO_FORMAT, 0, NZF_ETAG}
 
 /* a protected request that was served */
 typedef struct nzf_served {
+    size_t size;         /* of this struct */
     uint8_t method;      /* nzf_method; 0 where what opened is no such request */
     uint8_t code;        /* what it was answered: class * 32 + detail, as 0x44 for 2.04 */
     uint8_t kid;         /* the client's sender ID, which the server gave it */
@@ -241,7 +302,12 @@ typedef struct nzf_served {
     size_t path_length;  /* 0 where it has no path */
     size_t payload_length;
     size_t context_length; /* of the id context of its token */
+    /* may be left out */
+    nzf_id token;        /* of the token that made its context, as `revoke` takes it */
+    nzf_etag etag;       /* of the answer */
 } nzf_served;
+
+#define NZF_SERVED {sizeof(nzf_served), 0, 0, 0, 0, 0, 0, 0, 0, NZF_ID, NZF_ETAG}
 
 /* Why a request was refused, or a client's post came to nothing. */
 typedef enum nzf_reason {
@@ -267,10 +333,16 @@ typedef enum nzf_reason {
 
 /* a request that was refused */
 typedef struct nzf_refused {
+    size_t size;       /* of this struct */
     nzf_peer from;
-    uint8_t code;   /* what it was answered */
-    uint8_t reason; /* nzf_reason */
+    uint8_t code;      /* what it was answered */
+    uint8_t reason;    /* nzf_reason */
+    /* may be left out */
+    uint8_t has_token; /* 1: it is a post whose token opened, and has an id; else 0 */
+    nzf_id token;      /* that id, as `revoke` takes it */
 } nzf_refused;
+
+#define NZF_REFUSAL {sizeof(nzf_refused), NZF_PEER, 0, 0, 0, NZF_ID}
 
 /* how something that a client began went on */
 typedef enum nzf_result_kind {
@@ -282,11 +354,16 @@ typedef enum nzf_result_kind {
 } nzf_result_kind;
 
 typedef struct nzf_result {
+    size_t size;    /* of this struct */
     uint8_t what;   /* nzf_result_kind */
     uint8_t code;
     int32_t format; /* of an answer: its Content-Format, or NZF_NO_FORMAT */
     size_t length;  /* of an answer's payload */
+    /* may be left out */
+    nzf_etag etag;  /* of an answer */
 } nzf_result;
+
+#define NZF_RESULT {sizeof(nzf_result), 0, 0, NZF_NO_FORMAT, 0, NZF_ETAG}
 
 typedef struct nzf_device { void *held; } nzf_device;
 typedef struct nzf_client { void *held; } nzf_client;
@@ -299,9 +376,10 @@ typedef struct nzf_proxy { void *held; } nzf_proxy;
  * from the draw. A context counts until its token ends, and for at most `context_seconds`, the device's own too: then it needs `open` again. Of the 64
  * ids that may have a context at once, one place is kept for the device's own. A resource below the revocation path revokes the tokens of one id, as
  * `revoke` says. Heap: some 50 KiB, for as long as it is held; with a revocation path 2 KiB more, which are kept in hand for `revoke`.
- * NZF_BAD_SCOPE where `own` is no scope, or has +SUB with `no_subtrees`, or `unprotected` is neither a scope nor empty. NZF_TOO_LONG where `own` and `audience` are so long that the post
- * of the device's token, which `open` sends, fits no datagram: together they may have some 900 bytes. NZF_BAD_ARGUMENT: the size, an audience that is
- * no UTF-8, a flag that is neither 0 nor 1, a revocation path that is none or has more than 4 segments. Also NZF_NO_MEMORY, whatever the scopes are. */
+ * NZF_BAD_SCOPE where `own` is no scope, or has +SUB with `no_subtrees`, or `unprotected` is neither a scope nor empty. NZF_TOO_LONG where `own` and
+ * `audience` are so long that the post of the device's token, which `open` sends, fits no datagram: together they may have some 900 bytes.
+ * NZF_BAD_ARGUMENT: the size, an audience that is no UTF-8, a flag that is neither 0 nor 1, a revocation path that is none or has more than 4 segments.
+ * Also NZF_NO_MEMORY, whatever the scopes are. */
 int32_t nzf_device_new(nzf_device *device, const nzf_device_settings *settings, const nzf_draw *draw) NZF_CALL;
 
 /* Gives the device a security context with its server, which `put`, `append`, `remove`, `revoke` and `allow` need; also after `restart`.
@@ -327,19 +405,19 @@ int32_t nzf_device_remove(nzf_device *device, uint64_t now, const void *path, si
 int32_t nzf_device_revoke(nzf_device *device, uint64_t now, const void *id, size_t id_length, const nzf_draws *draws, uint8_t *code) NZF_CALL;
 int32_t nzf_device_allow(nzf_device *device, uint64_t now, const void *id, size_t id_length, const nzf_draws *draws, uint8_t *code) NZF_CALL;
 
-/* What is at a path: NZF_NOTHING where nothing is, NZF_TOO_SHORT where `room` is less than value->length, NZF_BAD_ARGUMENT where the text is no path.
- * Also NZF_NO_MEMORY. Heap: the path, for the call. */
+/* What is at a path, with its ETag: NZF_NOTHING where nothing is, NZF_TOO_SHORT where `room` is less than value->length, NZF_BAD_ARGUMENT where the text
+ * is no path, and for the size. Also NZF_NO_MEMORY. Heap: the path, for the call. */
 int32_t nzf_device_get(const nzf_device *device, const void *path, size_t path_length, void *payload, size_t room, nzf_value *value) NZF_CALL;
 
 /* These bytes came from there as one datagram. Any bytes answer NZF_DONE, unless memory is out or the time is bad. What is to be sent is taken by
  * `next`, and what was served or refused is told by `served` and `refused`, until the next call of `on_datagram`, `on_tick`, `open`, `put`, `append`,
- * `remove`, `revoke`, `allow` or `restart`. NZF_BAD_ARGUMENT where `from` is 0.0.0.0, which no datagram comes from: the device's own place. Also
- * NZF_NO_MEMORY, where it would answer. Heap: for the step. */
+ * `remove`, `revoke`, `allow` or `restart`. NZF_BAD_ARGUMENT where `from` has the address 0.0.0.0 of IPv4, which no datagram comes from: the device's own
+ * place. Also NZF_NO_MEMORY, where it would answer. Heap: for the step. */
 int32_t nzf_device_on_datagram(nzf_device *device, uint64_t now, const nzf_peer *from, const void *bytes, size_t length, const nzf_draw *draw) NZF_CALL;
 
-/* What is due by then is done, whatever memory there is: at least each second, also while datagrams come. NZF_LOST: all of
- * it is done, but for some of what should have gone out there was no memory: that is lost, as on the way, and a later tick goes on. Also
- * NZF_BAD_ARGUMENT. Heap: for what is sent. */
+/* What is due by then is done, whatever memory there is. A tick is due at `next_deadline`, also while datagrams come. One more every few minutes frees what
+ * is kept for repeats, which is over after 247 seconds, and takes again what `revoke` gave back. NZF_LOST: all of it is done, but for some of what should
+ * have gone out there was no memory: that is lost, as on the way, and a later tick goes on. Also NZF_BAD_ARGUMENT. Heap: for what is sent. */
 int32_t nzf_device_on_tick(nzf_device *device, uint64_t now, const nzf_draw *draw) NZF_CALL;
 
 /* What the last step learnt, where it was a tick, of what `open`, `put`, `append`, `remove`, `revoke` or `allow` left open where it answered
@@ -357,10 +435,13 @@ int32_t nzf_device_next(nzf_device *device, nzf_peer *to, void *bytes, size_t ro
 
 /* The protected request that the last step served. Its path, its payload and its id context are written one after the other, without anything between
  * them, where there is room for all: NZF_PATH_MAX + NZF_DATAGRAM_MAX + NZF_CONTEXT_MAX bytes are always enough. NZF_NOTHING where it served none;
- * NZF_TOO_SHORT where `room` is less than the three lengths together, which are told then, too. Heap: none. */
+ * NZF_TOO_SHORT where `room` is less than the three lengths together, and all but these bytes is told then, too. NZF_BAD_ARGUMENT for the size. `token` is
+ * the id of the token that made the context of the request: `revoke` of served->token.bytes and served->token.length revokes who asked. `etag` is that of
+ * the answer. Heap: none. */
 int32_t nzf_device_served(const nzf_device *device, nzf_served *served, void *bytes, size_t room) NZF_CALL;
 
-/* The request that the last step refused; NZF_NOTHING where it refused none. */
+/* The request that the last step refused; NZF_NOTHING where it refused none; NZF_BAD_ARGUMENT for the size. Where it is the post of a token that opened,
+ * so that it is genuine, `token` is its id. Of a protected request none is told: nothing proves who sent it. Heap: none. */
 int32_t nzf_device_refused(const nzf_device *device, nzf_refused *refused) NZF_CALL;
 
 /* Starts again: resources stay, security contexts are gone, and holders post their tokens again. The device does so by `open`. */
@@ -389,13 +470,14 @@ int32_t nzf_client_on_datagram(nzf_client *client, uint64_t now, const nzf_peer 
 /* What is due by then is done, whatever memory there is; NZF_LOST as for a device. Also NZF_BAD_ARGUMENT. Heap: for what is sent. */
 int32_t nzf_client_on_tick(nzf_client *client, uint64_t now) NZF_CALL;
 
-/* The first time at which a tick does anything; NZF_NOTHING where none would. */
+/* The first time at which a tick sends or ends anything; NZF_NOTHING where none would. More ticks as for a device. */
 int32_t nzf_client_next_deadline(const nzf_client *client, uint64_t *moment) NZF_CALL;
 
 /* The next datagram of the last step, as of a device. */
 int32_t nzf_client_next(nzf_client *client, nzf_peer *to, void *bytes, size_t room, size_t *length) NZF_CALL;
 
-/* What the client learnt in its last step; NZF_NOTHING where it learnt nothing; NZF_TOO_SHORT where `room` is less than result->length. */
+/* What the client learnt in its last step; NZF_NOTHING where it learnt nothing; NZF_TOO_SHORT where `room` is less than result->length; NZF_BAD_ARGUMENT
+ * for the size. `etag` is the ETag of an answer that has one. */
 int32_t nzf_client_result(const nzf_client *client, nzf_result *result, void *payload, size_t room) NZF_CALL;
 
 /* The number (Partial IV) that its next request takes; NZF_NOTHING where it has no security context. */
@@ -423,7 +505,7 @@ int32_t nzf_proxy_on_datagram(nzf_proxy *proxy, uint64_t now, const nzf_peer *fr
  * as for a device. Also NZF_BAD_ARGUMENT. Heap: for what is sent. */
 int32_t nzf_proxy_on_tick(nzf_proxy *proxy, uint64_t now, const nzf_draw *draw) NZF_CALL;
 
-/* The first time at which a tick does anything; NZF_NOTHING where none would. */
+/* The first time at which a tick sends or ends anything; NZF_NOTHING where none would. More ticks as for a device. */
 int32_t nzf_proxy_next_deadline(const nzf_proxy *proxy, uint64_t *moment) NZF_CALL;
 
 /* The next datagram of the last step, as of a device. */

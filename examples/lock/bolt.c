@@ -1,5 +1,5 @@
-/* The lock where there is no memory left once a request is served: its bolt goes where it is wanted all the same. And its own context, which it opens
- * before that ends. It is linked with -Wl,--wrap=malloc; the status is 1 where something doesn't hold. */
+/* The lock where there is no memory left once a request is served, and where it isn't told what was: its bolt goes where it is wanted all the same. And its
+ * own context, which it opens before that ends. It is linked with -Wl,--wrap=malloc,--wrap=nzf_device_served; the status is 1 where something doesn't hold. */
 #define main lock_main
 #include "lock.c"
 #undef main
@@ -16,6 +16,16 @@ void *__wrap_malloc(size_t size) {
     return NULL;
 }
 
+int32_t __real_nzf_device_served(const nzf_device *of, nzf_served *served, void *bytes, size_t room);
+int32_t __wrap_nzf_device_served(const nzf_device *of, nzf_served *served, void *bytes, size_t room);
+
+/* Whether the lock is told nothing. */
+static int is_mute;
+
+int32_t __wrap_nzf_device_served(const nzf_device *of, nzf_served *served, void *bytes, size_t room) {
+    return is_mute ? NZF_TOO_SHORT : __real_nzf_device_served(of, served, bytes, room);
+}
+
 static int broken;
 
 static void claim_at(int holds, const char *what, int line_number) {
@@ -28,7 +38,7 @@ static void claim_at(int holds, const char *what, int line_number) {
 
 /* ---- a holder, who has the right to move the bolt */
 
-static const nzf_peer HERE = {{127, 0, 0, 1}, 9}, DOOR = {{127, 0, 0, 1}, 5683};
+static const nzf_peer HERE = NZF_IPV4(127, 0, 0, 1, 9), DOOR = NZF_IPV4(127, 0, 0, 1, 5683);
 
 static nzf_client holder;
 
@@ -101,6 +111,13 @@ int main(void) {
     CLAIM(wants("shut", SIZE_MAX) && !is_open);
     tick();
     CLAIM(!is_open && is_told);
+
+    is_mute = 1;
+    CLAIM(wants("open", 0) && is_open && is_told && !is_missed);
+    CLAIM(wants("shut", SIZE_MAX) && is_open && is_missed);
+    is_mute = 0;
+    tick();
+    CLAIM(!is_open && is_told && !is_missed);
 
     uint64_t before = opened;
     tick();

@@ -2,8 +2,9 @@
  *
  *   client ADDRESS:PORT|ADDRESS:PORT=HOST:PORT SCOPE GET|PUT PATH [TEXT]
  *
- * The request goes to the lock at ADDRESS and PORT, or to a proxy there, which knows the lock as HOST and PORT. As on a test bench, where the lock's key is
- * known, the client mints its own token, for this scope: lock_settings.h has the key. It prints the answer, as `2.05 open`. */
+ * The request goes to the lock at ADDRESS and PORT, or to a proxy there, which knows the lock as HOST and PORT. An address of IPv6 is in brackets. As on a
+ * test bench, where the lock's key is known, the client mints its own token, for this scope: lock_settings.h has the key. It prints the answer, as
+ * `2.05 open`. */
 #define _POSIX_C_SOURCE 200809L
 #include "lock_settings.h"
 #include "udp.h"
@@ -22,7 +23,7 @@ static void send_all(void) {
 
 /* Plays until the client learns how what it began went on. Nothing takes longer than 247 seconds. */
 static nzf_result result(uint8_t payload[NZF_DATAGRAM_MAX]) {
-    nzf_result it;
+    nzf_result it = NZF_RESULT;
     int32_t number;
     send_all();
     while ((number = nzf_client_result(&client, &it, payload, NZF_DATAGRAM_MAX)) == NZF_NOTHING) {
@@ -44,7 +45,7 @@ static void make(const char *hop, const char *scope) {
     static const char *const NAME = "client";
     const char *equals = strchr(hop, '=');
     uint8_t secret[16], token[NZF_DATAGRAM_MAX];
-    char next[32] = "";
+    char next[64] = "";
     size_t length = 0, host_length = 0, hop_length = equals == NULL ? strlen(hop) : (size_t)(equals - hop);
     nzf_claims claims = NZF_CLAIMS;
     nzf_client_settings settings = NZF_CLIENT_SETTINGS;

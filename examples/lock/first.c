@@ -7,9 +7,9 @@ int main(void) {
     nzf_resource hello = NZF_RESOURCE;
     nzf_draw draw = {{2}}, other = {{5}};
     nzf_draws to_open = {{{3}}, {{4}}}, to_put = {{{6}}, {{7}}};
-    nzf_peer from = {{127, 0, 0, 1}, 5700}, to;
+    nzf_peer from = nzf_ipv4(127, 0, 0, 1, 5700), to;
     const uint8_t get[] = {0x40, 0x01, 0x00, 0x01, 0xb1, 'e'}; /* a confirmable GET of /e */
-    uint8_t bytes[NZF_DATAGRAM_MAX], code;
+    uint8_t bytes[NZF_DATAGRAM_MAX], four[4], code;
     size_t length;
 
     settings.key.bytes[0] = 1;
@@ -27,7 +27,8 @@ int main(void) {
 
     if (nzf_device_on_datagram(&door, 2000, &from, get, sizeof get, &other) != NZF_DONE) return 1;
     while (nzf_device_next(&door, &to, bytes, sizeof bytes, &length) == NZF_DONE) {
-        printf("to %d.%d.%d.%d:%d:", to.address[0], to.address[1], to.address[2], to.address[3], to.port);
+        nzf_ipv4_of(&to, four);
+        printf("to %d.%d.%d.%d:%d:", four[0], four[1], four[2], four[3], to.port);
         for (size_t at = 0; at < length; at++) printf(" %02x", bytes[at]);
         printf("\n");
     }

@@ -99,6 +99,16 @@ static const int32_t NUMBERS[] = {NZF_DONE,      NZF_TOO_SHORT, NZF_NO_MEMORY, N
                                   NZF_BAD_SCOPE, NZF_NOTHING,   NZF_LOST,      NZF_BAD_ARGUMENT, NZF_NOT_NOW, NZF_UNVERIFIED,
                                   NZF_REFUSED};
 
+/* The size of a struct without its last members: `first` is the first of these, and a size_t is what the struct is aligned for. */
+#define SHORT(type, first) ((offsetof(type, first) + sizeof(size_t) - 1) / sizeof(size_t) * sizeof(size_t))
+
+enum {
+    SHORT_VALUE = SHORT(nzf_value, etag),
+    SHORT_SERVED = SHORT(nzf_served, token),
+    SHORT_REFUSED = SHORT(nzf_refused, has_token),
+    SHORT_RESULT = SHORT(nzf_result, etag)
+};
+
 static int is_a_number(int32_t number) {
     for (size_t at = 0; at < sizeof NUMBERS / sizeof NUMBERS[0]; at++)
         if (NUMBERS[at] == number) return 1;
@@ -129,6 +139,12 @@ static nzf_draws two_draws(void) {
     it.own = draw();
     it.server = draw();
     return it;
+}
+
+/* A struct's size, or a shorter one that it may have, or one that it may not. */
+static size_t some_size(size_t whole, size_t shorter) {
+    size_t which = below(8), other = below(2 * whole);
+    return which == 0 ? other : which < 3 ? shorter : whole;
 }
 
 /* ---- a world: a device, two clients, and a proxy behind which the second one is */
@@ -164,10 +180,28 @@ static const nzf_key OLD_KEY = {{16, 15, 14, 13, 12, 11, 10, 9, 8, 7, 6, 5, 4, 3
 static const uint8_t SECRETS[CLIENTS][16] = {{1}, {2}};
 static const char *const NAMES[CLIENTS] = {"owner", "guest"};
 
+/* An address of IPv6 that begins and ends so. */
+static nzf_peer v6(uint8_t first, uint8_t second, uint8_t last, uint32_t scope, uint16_t port) {
+    uint8_t bytes[16] = {0};
+    bytes[0] = first;
+    bytes[1] = second;
+    bytes[15] = last;
+    return nzf_ipv6(bytes, scope, port);
+}
+
+/* Who has this port: the device and the second client on one link, the proxy on another one, the first client by IPv4, and the stranger by a global address. */
 static nzf_peer peer(uint16_t port) {
-    nzf_peer it = {{127, 0, 0, 1}, 0};
-    it.port = port;
-    return it;
+    switch (port) {
+    case CLIENT_PORT: return nzf_ipv4(127, 0, 0, 1, port);
+    case DEVICE_PORT: return v6(0xfe, 0x80, 1, 2, port);
+    case PROXY_PORT: return v6(0xfe, 0x80, 1, 3, port);
+    case CLIENT_PORT + 1: return v6(0xfe, 0x80, 2, 2, port);
+    default: return v6(0x20, 0x01, 3, 0, port);
+    }
+}
+
+static int is_peer(const nzf_peer *one, const nzf_peer *other) {
+    return one->port == other->port && one->scope == other->scope && memcmp(one->bytes, other->bytes, sizeof one->bytes) == 0;
 }
 
 /* The settings of a device that anyone may ask for /e, and which may do this itself. */
@@ -211,6 +245,11 @@ static int32_t device_with(nzf_device *device, const rules *its, const char *rev
 static int32_t new_device_with(nzf_device *device) {
     rules its = {OLD_KEY, 1, 10};
     return device_with(device, &its, "/gone", "/e:GET+PUT,/gone:PUT+DELETE+SUB");
+}
+
+static int is_id(const nzf_id *it, const void *bytes, size_t length) {
+    static const uint8_t none[NZF_ID_MAX] = {0};
+    return it->length == length && memcmp(it->bytes, bytes, length) == 0 && memcmp(it->bytes + length, none, sizeof it->bytes - length) == 0;
 }
 
 /* What a device is to have at a path. */
@@ -288,6 +327,8 @@ static int make_world(world *w) {
 
 static void keep(world *w, uint16_t from, const datagram *it) {
     datagram sent = *it;
+    nzf_peer there = peer(it->to.port);
+    CLAIM(is_peer(&it->to, &there));
     sent.from = peer(from);
     w->past[w->sent++ % PAST] = sent;
     if (w->waiting < QUEUE) w->queue[w->waiting++] = sent;
@@ -297,7 +338,7 @@ static void keep(world *w, uint16_t from, const datagram *it) {
 static void act_on_device(world *w) {
     datagram it;
     while (nzf_device_next(&w->device, &it.to, it.bytes, sizeof it.bytes, &it.length) == NZF_DONE) keep(w, DEVICE_PORT, &it);
-    nzf_served served;
+    nzf_served served = NZF_SERVED;
     uint8_t bytes[NZF_PATH_MAX + ROOM + NZF_CONTEXT_MAX];
     if (nzf_device_served(&w->device, &served, bytes, sizeof bytes) == NZF_DONE) {
         w->served++;
@@ -306,6 +347,7 @@ static void act_on_device(world *w) {
         memcpy(w->payload, bytes + served.path_length, served.payload_length);
         memcpy(w->context, bytes + served.path_length + served.payload_length, served.context_length);
     }
+    w->why.size = sizeof w->why;
     if (nzf_device_refused(&w->device, &w->why) == NZF_DONE) w->refusals++;
 }
 
@@ -318,7 +360,7 @@ static void act_on_client(world *w, size_t at) {
     datagram it;
     nzf_client *client = &w->clients[at];
     while (nzf_client_next(client, &it.to, it.bytes, sizeof it.bytes, &it.length) == NZF_DONE) keep(w, (uint16_t)(CLIENT_PORT + at), &it);
-    nzf_result result;
+    nzf_result result = NZF_RESULT;
     if (nzf_client_result(client, &result, w->learnt[at], ROOM) == NZF_DONE) w->results[at] = result;
 }
 
@@ -444,7 +486,7 @@ static int is_shut_out(world *w, size_t at) { return is_refused_by(w, at, 0x81);
 
 static int reads(world *w, const char *path, const char *wanted) {
     uint8_t payload[ROOM];
-    nzf_value value;
+    nzf_value value = NZF_VALUE;
     NEEDS(nzf_device_get(&w->device, path, strlen(path), payload, sizeof payload, &value) == NZF_DONE);
     NEEDS(value.length == strlen(wanted) && memcmp(payload, wanted, value.length) == 0);
     return 1;
@@ -477,9 +519,9 @@ static void nothing_of_a_device(void) {
     nzf_draws draws = two_draws();
     nzf_resource resource = value_at("/e", NZF_NO_FORMAT, "");
     nzf_peer from = peer(STRANGER_PORT);
-    nzf_value value;
-    nzf_served served;
-    nzf_refused why;
+    nzf_value value = NZF_VALUE;
+    nzf_served served = NZF_SERVED;
+    nzf_refused why = NZF_REFUSAL;
     uint8_t bytes[ROOM], code;
     size_t length;
     uint64_t moment;
@@ -506,7 +548,7 @@ static void nothing_of_a_client(void) {
     nzf_draw it = draw();
     nzf_peer from = peer(STRANGER_PORT);
     nzf_request request = NZF_REQUEST;
-    nzf_result result;
+    nzf_result result = NZF_RESULT;
     uint8_t bytes[ROOM];
     size_t length;
     uint64_t moment;
@@ -609,6 +651,89 @@ static void bad_sizes(world *w) {
     ANSWERS(NZF_DONE, nzf_token_mint(&claim, token, sizeof token, &length));
 }
 
+/* A struct that a call fills, of each size up to twice its own: two are taken, and of the shorter one the members from `first` on stay as they were. With
+ * another size nothing is written. */
+#define FILLED(type, it, shorter, first, wanted, call)                                                               \
+    for (size_t size = 0; size <= 2 * sizeof(it); size++) {                                                          \
+        size_t from = size == (shorter) ? offsetof(type, first) : 0;                                                 \
+        type before;                                                                                                 \
+        memset(&(it), 0xee, sizeof(it));                                                                             \
+        (it).size = size;                                                                                            \
+        before = (it);                                                                                               \
+        if (size == (shorter) || size == sizeof(it)) ANSWERS(wanted, call);                                          \
+        else IS_BAD(call);                                                                                           \
+        if (size == sizeof(it)) CLAIM((it).size == size);                                                            \
+        else CLAIM((it).size == size && memcmp((char *)&(it) + from, (char *)&before + from, sizeof(it) - from) == 0); \
+    }
+
+static void filled_sizes(world *w) {
+    nzf_device none = {0};
+    nzf_client nobody = {0};
+    nzf_draw chosen = draw();
+    uint8_t bytes[ROOM], code;
+    nzf_value value;
+    nzf_served served;
+    nzf_refused why;
+    nzf_result result;
+    CLAIM(SHORT_VALUE == 24 && SHORT_SERVED == 48 && SHORT_REFUSED == 40 && SHORT_RESULT == 24);
+    FILLED(nzf_value, value, SHORT_VALUE, etag, NZF_NOTHING, nzf_device_get(&none, TEXT("/e"), bytes, sizeof bytes, &value))
+    FILLED(nzf_served, served, SHORT_SERVED, token, NZF_NOTHING, nzf_device_served(&none, &served, bytes, sizeof bytes))
+    FILLED(nzf_refused, why, SHORT_REFUSED, has_token, NZF_NOTHING, nzf_device_refused(&none, &why))
+    FILLED(nzf_result, result, SHORT_RESULT, etag, NZF_NOTHING, nzf_client_result(&nobody, &result, bytes, sizeof bytes))
+    CLAIM(opens(w) && writes(w, 3, "/e", "open", &code) == NZF_DONE && exchange(w, 0));
+    FILLED(nzf_value, value, SHORT_VALUE, etag, NZF_NOTHING, nzf_device_get(&w->device, TEXT("/none"), bytes, sizeof bytes, &value))
+    FILLED(nzf_value, value, SHORT_VALUE, etag, NZF_TOO_SHORT, nzf_device_get(&w->device, TEXT("/e"), bytes, 1, &value))
+    CLAIM(asks(w, 0, 1, "/e", "", 0x45));
+    ANSWERS(NZF_DONE, nzf_device_on_tick(&w->device, w->now, &chosen));
+    FILLED(nzf_served, served, SHORT_SERVED, token, NZF_NOTHING, nzf_device_served(&w->device, &served, bytes, sizeof bytes))
+    FILLED(nzf_refused, why, SHORT_REFUSED, has_token, NZF_NOTHING, nzf_device_refused(&w->device, &why))
+    FILLED(nzf_result, result, SHORT_RESULT, etag, NZF_TOO_SHORT, nzf_client_result(&w->clients[0], &result, bytes, 1))
+    ANSWERS(NZF_DONE, ask(w, 0, 3, "/e", "shut"));
+    datagram request = w->queue[0];
+    w->waiting = 0;
+    ANSWERS(NZF_DONE, nzf_device_on_datagram(&w->device, w->now, &request.from, request.bytes, request.length, &chosen));
+    FILLED(nzf_served, served, SHORT_SERVED, token, NZF_TOO_SHORT, nzf_device_served(&w->device, &served, bytes, 1))
+    FILLED(nzf_served, served, SHORT_SERVED, token, NZF_DONE, nzf_device_served(&w->device, &served, bytes, sizeof bytes))
+    request.bytes[2] ^= 0x55;
+    ANSWERS(NZF_DONE, nzf_device_on_datagram(&w->device, w->now, &request.from, request.bytes, request.length, &chosen));
+    FILLED(nzf_refused, why, SHORT_REFUSED, has_token, NZF_DONE, nzf_device_refused(&w->device, &why))
+}
+
+/* A shorter struct may be all that there is: nothing is read or written after its end, which valgrind sees. */
+static void at_the_end(world *w) {
+    uint8_t bytes[ROOM], code;
+    size_t size = SHORT_SERVED;
+    nzf_served *it = malloc(SHORT_SERVED);
+    CLAIM(it != NULL && opens(w) && writes(w, 3, "/e", "open", &code) == NZF_DONE && exchange(w, 0));
+    if (!it) return;
+    ANSWERS(NZF_DONE, ask(w, 0, 3, "/e", "shut"));
+    datagram request = w->queue[0];
+    nzf_draw chosen = draw();
+    w->waiting = 0;
+    memcpy(it, &size, sizeof size);
+    ANSWERS(NZF_DONE, nzf_device_on_datagram(&w->device, w->now, &request.from, request.bytes, request.length, &chosen));
+    ANSWERS(NZF_DONE, nzf_device_served(&w->device, it, bytes, sizeof bytes));
+    free(it);
+}
+
+/* What a shorter struct is told is what a whole one is, less its last members. */
+static void told_in_short(world *w) {
+    uint8_t bytes[ROOM];
+    nzf_value value = NZF_VALUE, less_of_value = NZF_VALUE;
+    nzf_result result = NZF_RESULT, less_of_result = NZF_RESULT;
+    uint8_t code;
+    less_of_value.size = SHORT_VALUE;
+    less_of_result.size = SHORT_RESULT;
+    CLAIM(opens(w) && writes(w, 3, "/e", "open", &code) == NZF_DONE && exchange(w, 0) && asks(w, 0, 1, "/e", "", 0x45));
+    ANSWERS(NZF_DONE, nzf_device_get(&w->device, TEXT("/e"), bytes, sizeof bytes, &value));
+    ANSWERS(NZF_DONE, nzf_device_get(&w->device, TEXT("/e"), bytes, sizeof bytes, &less_of_value));
+    CLAIM(less_of_value.format == value.format && less_of_value.length == 4 && less_of_value.etag.length == 0 && value.etag.length == 8);
+    ANSWERS(NZF_DONE, nzf_client_result(&w->clients[0], &result, bytes, sizeof bytes));
+    ANSWERS(NZF_DONE, nzf_client_result(&w->clients[0], &less_of_result, bytes, sizeof bytes));
+    CLAIM(less_of_result.what == result.what && less_of_result.code == 0x45 && less_of_result.format == result.format && less_of_result.length == 4);
+    CLAIM(less_of_result.etag.length == 0 && memcmp(&result.etag, &value.etag, sizeof value.etag) == 0);
+}
+
 /* Each outcome has a text of its own, and another number that of none. */
 static void words(void) {
     const char *none = nzf_outcome_text(-1);
@@ -640,7 +765,7 @@ static void bad_rules(void) {
     nzf_device_free(&it);
 }
 
-enum { MOST_ENTRIES = 4000, ENTRY = 20, FIRST_SETTINGS = 112 };
+enum { MOST_ENTRIES = 4000, ENTRY = 20 };
 
 /* A device whose own scope has so many entries. */
 static int32_t of_long_scope(nzf_device *it, size_t entries) {
@@ -668,7 +793,7 @@ static void a_long_scope(void) {
 static const char *const BAD_PATHS[] = {"", "/", "e", "//", "/e/", "/a/b/c/d/e/f/g/h/i", "/123456789012345678901234567890123", "/\xff"};
 
 static void bad_paths(world *w) {
-    nzf_value value;
+    nzf_value value = NZF_VALUE;
     uint8_t bytes[ROOM], code;
     for (size_t at = 0; at < sizeof BAD_PATHS / sizeof BAD_PATHS[0]; at++) {
         const char *path = BAD_PATHS[at];
@@ -684,7 +809,7 @@ static void bad_moments(world *w) {
     const uint64_t late = UINT64_C(1) << 63;
     nzf_draw it = draw();
     nzf_draws draws = two_draws();
-    nzf_peer from = peer(STRANGER_PORT), nowhere = {{0, 0, 0, 0}, 1};
+    nzf_peer from = peer(STRANGER_PORT), nowhere = NZF_IPV4(0, 0, 0, 0, 1);
     nzf_resource resource = value_at("/e", NZF_NO_FORMAT, "x");
     nzf_request request = NZF_REQUEST;
     uint8_t code;
@@ -894,18 +1019,6 @@ static void no_subtrees(world *w) {
     granted = SCOPE;
 }
 
-/* Settings of the first version, which are shorter: what came since is as if it weren't there. */
-static void first_version(world *w) {
-    nzf_device_settings its = settings_for("/e:PUT,/d:PUT+SUB");
-    nzf_device_settings *first = malloc(FIRST_SETTINGS);
-    if (!first) return;
-    its.size = FIRST_SETTINGS;
-    memcpy(first, &its, FIRST_SETTINGS);
-    ANSWERS(NZF_DONE, device_of(&w->device, first));
-    free(first);
-    CLAIM(opens(w) && written(w, 3, "/e", "open", 0x41) && exchange(w, 0) && asks(w, 0, 1, "/e", "", 0x45));
-}
-
 /* A token under the former key makes a context at a device that has it, and at no other. */
 static void former_key(world *w) {
     rules its = {OLD_KEY, 0, 0};
@@ -944,7 +1057,7 @@ static void ten_seconds(world *w) {
 
 static void reading(world *w) {
     uint8_t bytes[ROOM], code = 0;
-    nzf_value value = {7, 7};
+    nzf_value value = NZF_VALUE;
     if (!opens(w)) return;
     CLAIM(writes(w, 3, "/e", "four", &code) == NZF_DONE);
     ANSWERS(NZF_NOTHING, nzf_device_get(&w->device, TEXT("/none"), bytes, sizeof bytes, &value));
@@ -962,8 +1075,8 @@ static void unprotected(world *w) {
     nzf_peer from = peer(STRANGER_PORT), to;
     nzf_draw it = draw();
     size_t length = 0, told = 0;
-    nzf_served served;
-    nzf_refused why;
+    nzf_served served = NZF_SERVED;
+    nzf_refused why = NZF_REFUSAL;
     if (!opens(w) || writes(w, 3, "/e", "four", &code) != NZF_DONE) return;
     ANSWERS(NZF_DONE, nzf_device_on_datagram(&w->device, w->now, &from, open, sizeof open, &it));
     ANSWERS(NZF_TOO_SHORT, nzf_device_next(&w->device, &to, bytes, 0, &length));
@@ -971,16 +1084,176 @@ static void unprotected(world *w) {
     CLAIM(told == length);
     ANSWERS(NZF_DONE, nzf_device_next(&w->device, &to, bytes, length, &told));
     CLAIM(told == length && bytes[1] == 0x45 && memcmp(bytes + length - 4, "four", 4) == 0);
-    CLAIM(to.port == STRANGER_PORT && memcmp(to.address, from.address, 4) == 0);
+    CLAIM(to.port == STRANGER_PORT && is_peer(&to, &from));
     ANSWERS(NZF_NOTHING, nzf_device_next(&w->device, &to, bytes, sizeof bytes, &length));
     ANSWERS(NZF_NOTHING, nzf_device_served(&w->device, &served, bytes, 0));
     ANSWERS(NZF_NOTHING, nzf_device_refused(&w->device, &why));
     ANSWERS(NZF_DONE, nzf_device_on_datagram(&w->device, w->now, &from, closed, sizeof closed, &it));
     ANSWERS(NZF_DONE, nzf_device_refused(&w->device, &why));
-    CLAIM(why.code == 0x81 && why.reason == 0 && why.from.port == STRANGER_PORT);
+    CLAIM(why.code == 0x81 && why.reason == 0 && is_peer(&why.from, &from) && why.has_token == 0 && is_id(&why.token, "", 0));
     ANSWERS(NZF_DONE, nzf_device_on_tick(&w->device, w->now, &it));
     ANSWERS(NZF_NOTHING, nzf_device_refused(&w->device, &why));
     ANSWERS(NZF_NOTHING, nzf_device_next(&w->device, &to, bytes, sizeof bytes, &length));
+}
+
+/* ---- peers, ETags, ids of tokens */
+
+/* An unprotected GET of /e from there, under this message ID: the answer goes there, and its first byte of payload is told; 0 where none came. */
+static uint8_t got_from(world *w, const nzf_peer *from, uint8_t id) {
+    const uint8_t get[] = {0x40, 1, 0, id, 0xb1, 'e'};
+    uint8_t bytes[ROOM];
+    nzf_draw it = draw();
+    nzf_peer to;
+    size_t length;
+    if (nzf_device_on_datagram(&w->device, w->now, from, get, sizeof get, &it) != NZF_DONE) return 0;
+    if (nzf_device_next(&w->device, &to, bytes, sizeof bytes, &length) != NZF_DONE) return 0;
+    return is_peer(&to, from) && bytes[1] == 0x45 ? bytes[length - 4] : 0;
+}
+
+/* Of each kind of address an answer goes to just whom it came from; and the functions of the header. */
+static void peers(world *w) {
+    static const uint8_t four[] = {192, 0, 2, 1}, zero[16] = {0};
+    static const uint8_t most[16] = {255, 255, 255, 255, 255, 255, 255, 255, 255, 255, 255, 255, 255, 255, 255, 255};
+    static const nzf_peer constant = NZF_IPV4(192, 0, 2, 1, 5683), blank = NZF_PEER;
+    uint8_t back[4], code;
+    nzf_peer it = nzf_ipv4(192, 0, 2, 1, 5683), nowhere = nzf_ipv4(0, 0, 0, 0, 7);
+    nzf_draw chosen = draw();
+    CLAIM(sizeof(nzf_peer) == 24 && is_peer(&it, &constant) && nzf_is_ipv4(&it) && it.scope == 0);
+    nzf_ipv4_of(&it, back);
+    CLAIM(memcmp(back, four, 4) == 0);
+    nzf_peer same = nzf_ipv6(it.bytes, 0, 5683), zoned = nzf_ipv6(it.bytes, 1, 5683);
+    CLAIM(is_peer(&same, &it) && nzf_is_ipv4(&same) && !nzf_is_ipv4(&zoned) && !nzf_is_ipv4(&blank));
+    nzf_peer others[] = {it,
+                         zoned,
+                         nzf_ipv4(255, 255, 255, 255, 1),
+                         nzf_ipv4(0, 0, 0, 1, 1),
+                         v6(0, 0, 0, 0, 1),
+                         v6(0, 0, 1, 0, 0),
+                         v6(0xfe, 0x80, 1, 1, UINT16_MAX),
+                         v6(0xfe, 0x80, 1, UINT32_MAX, 5683),
+                         v6(0xff, 2, 1, 4, 5683),
+                         v6(0x20, 1, 255, 0, 5683),
+                         nzf_ipv6(zero, UINT32_MAX, 0),
+                         nzf_ipv6(most, UINT32_MAX, UINT16_MAX)};
+    CLAIM(opens(w) && writes(w, 3, "/e", "four", &code) == NZF_DONE);
+    for (size_t at = 0; at < sizeof others / sizeof others[0]; at++) CLAIM(got_from(w, &others[at], 1) == 'f');
+    for (uint32_t scope = 0; scope < 2; scope++) {
+        nowhere.scope = scope;
+        nowhere.port = (uint16_t)scope;
+        IS_BAD(nzf_device_on_datagram(&w->device, w->now, &nowhere, TEXT("x"), &chosen));
+    }
+}
+
+/* One address in two zones is two peers: the same message of the one is a repeat, and of the other it isn't. */
+static void zones(world *w) {
+    nzf_peer here = v6(0xfe, 0x80, 1, 1, 9), there = v6(0xfe, 0x80, 1, 2, 9);
+    uint8_t code;
+    CLAIM(opens(w) && writes(w, 3, "/e", "four", &code) == NZF_DONE && got_from(w, &here, 1) == 'f');
+    CLAIM(writes(w, 3, "/e", "nine", &code) == NZF_DONE && got_from(w, &here, 1) == 'f' && got_from(w, &there, 1) == 'n');
+}
+
+static int32_t puts_where(world *w, const nzf_etag *it, const char *payload) {
+    nzf_draw chosen = draw();
+    nzf_request asked = NZF_REQUEST;
+    asked.method = NZF_METHOD_PUT;
+    asked.path = nzf_text("/e");
+    asked.payload = nzf_text(payload);
+    asked.options.if_match = 1;
+    asked.options.if_match_length = it->length;
+    memcpy(asked.options.if_match_bytes, it->bytes, sizeof it->bytes);
+    w->results[0].what = 0;
+    int32_t number = nzf_client_ask(&w->clients[0], w->now, &asked, &chosen);
+    act_on_client(w, 0);
+    return number;
+}
+
+static nzf_etag etag_at(world *w, const char *path) {
+    nzf_value it = NZF_VALUE;
+    uint8_t bytes[ROOM];
+    if (nzf_device_get(&w->device, path, strlen(path), bytes, sizeof bytes, &it) != NZF_DONE) it.etag.length = 0;
+    return it.etag;
+}
+
+/* What `get` tells, what the holder is told, and what `served` tells of that: one ETag for a value, and another one for another value. A PUT on condition of
+ * it is done once. */
+static void etags(world *w) {
+    uint8_t code;
+    CLAIM(opens(w) && writes(w, 3, "/e", "open", &code) == NZF_DONE && exchange(w, 0) && asks(w, 0, 1, "/e", "", 0x45));
+    nzf_etag first = etag_at(w, "/e");
+    CLAIM(first.length == 8 && memcmp(&w->results[0].etag, &first, sizeof first) == 0 && memcmp(&w->last.etag, &first, sizeof first) == 0);
+    ANSWERS(NZF_DONE, puts_where(w, &first, "shut"));
+    CLAIM(quiet(w) && w->results[0].what == NZF_RESULT_ANSWER && w->results[0].code == 0x44 && w->results[0].etag.length == 0 && w->last.etag.length == 0);
+    nzf_etag second = etag_at(w, "/e");
+    CLAIM(second.length == 8 && memcmp(&second, &first, sizeof first) != 0);
+    ANSWERS(NZF_DONE, puts_where(w, &first, "open"));
+    CLAIM(quiet(w) && w->results[0].what == NZF_RESULT_ANSWER && w->results[0].code == 0x8c && w->results[0].etag.length == 0 && reads(w, "/e", "shut"));
+    CLAIM(asks(w, 0, 1, "/e", "", 0x45) && memcmp(&w->results[0].etag, &second, sizeof second) == 0);
+    CLAIM(asks(w, 0, 1, "/none", "", 0x83) && w->results[0].etag.length == 0 && w->last.etag.length == 0);
+}
+
+/* A client whose token has this id, and is for this audience. */
+static int32_t client_named(nzf_client *client, const void *id, size_t length, const char *audience) {
+    nzf_claims its = NZF_CLAIMS;
+    nzf_client_settings it = NZF_CLIENT_SETTINGS;
+    uint8_t token[512];
+    size_t size = 0;
+    its.key = KEY;
+    its.iv.bytes[0] = 9;
+    its.audience = nzf_text(audience);
+    its.id = nzf_bytes_of(id, length);
+    its.secret = it.secret = nzf_text("a secret");
+    its.scope = nzf_text(SCOPE);
+    int32_t number = nzf_token_mint(&its, token, sizeof token, &size);
+    if (number != NZF_DONE) return number;
+    it.next_hop = peer(DEVICE_PORT);
+    it.token = nzf_bytes_of(token, size);
+    return nzf_client_new(client, &it);
+}
+
+static const size_t ID_LENGTHS[] = {0, 1, 6, NZF_ID_MAX};
+
+static nzf_id some_id(size_t length) {
+    nzf_id it = NZF_ID;
+    it.length = (uint8_t)length;
+    for (size_t at = 0; at < length; at++) it.bytes[at] = (uint8_t)(0xff - at);
+    return it;
+}
+
+/* Who was served is told by the id that was minted, of each length, whatever the answer is. */
+static void ids(world *w) {
+    CLAIM(opens(w) && written(w, 3, "/e", "open", 0x41));
+    for (size_t at = 0; at < sizeof ID_LENGTHS / sizeof ID_LENGTHS[0]; at++) {
+        nzf_id id = some_id(ID_LENGTHS[at]);
+        ANSWERS(NZF_DONE, client_named(&w->clients[0], id.bytes, id.length, "door"));
+        CLAIM(exchange(w, 0) && asks(w, 0, 1, "/e", "", 0x45) && is_id(&w->last.token, id.bytes, id.length));
+        memset(&w->last.token, 0xee, sizeof w->last.token);
+        CLAIM(asks(w, 0, 1, "/d", "", 0x83) && is_id(&w->last.token, id.bytes, id.length));
+    }
+}
+
+/* A genuine token that is refused tells its id; a post of another one doesn't. */
+static void ids_of_refused(world *w) {
+    CLAIM(opens(w));
+    for (size_t at = 0; at < sizeof ID_LENGTHS / sizeof ID_LENGTHS[0]; at++) {
+        nzf_id id = some_id(ID_LENGTHS[at]);
+        ANSWERS(NZF_DONE, client_named(&w->clients[0], id.bytes, id.length, "gate"));
+        CLAIM(is_refused_by(w, 0, 0x83) && w->why.reason == NZF_REASON_AUDIENCE && w->why.has_token == 1 && is_id(&w->why.token, id.bytes, id.length));
+    }
+    ANSWERS(NZF_DONE, new_client_under(&OLD_KEY, &w->clients[0], 0));
+    CLAIM(is_shut_out(w, 0) && w->why.reason == NZF_REASON_TOKEN_NOT_GENUINE && w->why.has_token == 0 && is_id(&w->why.token, "", 0));
+}
+
+/* Who was served is revoked by the id that was told, and then the refusal of its post tells it, too. */
+static void revoked_by_id(world *w) {
+    uint8_t code = 0;
+    ANSWERS(NZF_DONE, new_device_with(&w->device));
+    CLAIM(opens(w) && written(w, 3, "/e", "open", 0x41) && exchange(w, 1) && asks(w, 1, 1, "/e", "", 0x45));
+    nzf_id id = w->last.token;
+    CLAIM(revokes(w, 1, id.bytes, id.length, &code) == NZF_DONE && code == 0x41);
+    ANSWERS(NZF_DONE, ask(w, 1, 1, "/e", ""));
+    CLAIM(quiet(w) && w->results[1].what == NZF_RESULT_ENDED && w->why.reason == NZF_REASON_NO_CONTEXT && w->why.has_token == 0);
+    CLAIM(is_shut_out(w, 1) && w->why.reason == NZF_REASON_REVOKED && w->why.has_token == 1 && memcmp(&w->why.token, &id, sizeof id) == 0);
+    CLAIM(revokes(w, 0, w->why.token.bytes, w->why.token.length, &code) == NZF_DONE && code == 0x42 && exchange(w, 1));
 }
 
 /* ---- a whole exchange */
@@ -988,14 +1261,16 @@ static void unprotected(world *w) {
 /* What the device tells of a request that it served, with room that is too short, and long enough. */
 static void served_in_parts(world *w) {
     uint8_t bytes[ROOM];
-    nzf_served it;
+    nzf_served it = NZF_SERVED;
     memset(bytes, 0xee, sizeof bytes);
     ANSWERS(NZF_TOO_SHORT, nzf_device_served(&w->device, &it, bytes, 0));
     ANSWERS(NZF_TOO_SHORT, nzf_device_served(&w->device, &it, bytes, 10));
     CLAIM(it.path_length == 2 && it.payload_length == 4 && it.context_length == 5 && bytes[0] == 0xee);
+    CLAIM(is_id(&it.token, "\x01", 1) && it.etag.length == 0 && it.etag.bytes[0] == 0);
+    memset(&it.token, 0xee, sizeof it.token);
     ANSWERS(NZF_DONE, nzf_device_served(&w->device, &it, bytes, 11));
     CLAIM(it.method == NZF_METHOD_PUT && it.code == 0x44 && it.number == 0 && it.has_context == 1);
-    CLAIM(memcmp(bytes, "/eshutowner", 11) == 0 && bytes[11] == 0xee);
+    CLAIM(memcmp(bytes, "/eshutowner", 11) == 0 && bytes[11] == 0xee && is_id(&it.token, "\x01", 1));
 }
 
 /* The same datagram again is answered by the same bytes and not served; under another message ID it is refused. */
@@ -1013,7 +1288,7 @@ static void repeated(world *w, datagram request) {
 
 static void results_in_parts(world *w) {
     uint8_t bytes[ROOM];
-    nzf_result it;
+    nzf_result it = NZF_RESULT;
     CLAIM(asks(w, 0, 1, "/e", "", 0x45));
     memset(bytes, 0xee, sizeof bytes);
     ANSWERS(NZF_TOO_SHORT, nzf_client_result(&w->clients[0], &it, bytes, 3));
@@ -1065,7 +1340,7 @@ static void not_begun(world *w) {
 /* A call that has no memory leaves the node as it was: also the datagram that is to be taken, and what the last step served. */
 static void as_before(world *w) {
     uint8_t bytes[ROOM], code;
-    nzf_served it;
+    nzf_served it = NZF_SERVED;
     nzf_peer to, from = peer(STRANGER_PORT);
     nzf_draw chosen = draw();
     datagram request, answer;
@@ -1090,8 +1365,8 @@ static void without_heap(world *w) {
     uint64_t moment;
     size_t length;
     nzf_peer to;
-    nzf_refused why;
-    nzf_result result;
+    nzf_refused why = NZF_REFUSAL;
+    nzf_result result = NZF_RESULT;
     CLAIM(opens(w) && writes(w, 3, "/e", "open", &code) == NZF_DONE && exchange(w, 0) && exchange(w, 1));
     plan(1, 1);
     ANSWERS(NZF_NOTHING, nzf_device_next(&w->device, &to, bytes, sizeof bytes, &length));
@@ -1228,6 +1503,15 @@ static void all_claims(void) {
     tokens();
     words();
     in_a_world(bad_sizes);
+    in_a_world(filled_sizes);
+    in_a_world(at_the_end);
+    in_a_world(told_in_short);
+    in_a_world(peers);
+    in_a_world(zones);
+    in_a_world(etags);
+    in_a_world(ids);
+    in_a_world(ids_of_refused);
+    in_a_world(revoked_by_id);
     in_a_world(open_and_bad_paths);
     in_a_world(bad_moments);
     in_a_world(bad_requests);
@@ -1236,7 +1520,6 @@ static void all_claims(void) {
     in_a_world(not_revoked);
     in_a_world(former_key);
     in_a_world(no_subtrees);
-    in_a_world(first_version);
     in_a_world(ten_seconds);
     in_a_world(reading);
     in_a_world(unprotected);
@@ -1333,7 +1616,8 @@ static void some_call_of_a_client(world *w, size_t at) {
     uint8_t method = (uint8_t)below(6);
     const char *path = some_path(), *payload = some_payload();
     size_t room = below(ROOM);
-    nzf_result result;
+    nzf_result result = NZF_RESULT;
+    result.size = some_size(sizeof result, SHORT_RESULT);
     uint8_t bytes[ROOM];
     uint64_t moment;
     switch (below(6)) {
@@ -1349,14 +1633,18 @@ static void some_call_of_a_client(world *w, size_t at) {
 static void some_call_of_a_device(world *w) {
     nzf_draw it = draw();
     nzf_draws draws = two_draws();
-    nzf_value value;
-    nzf_served served;
+    nzf_value value = NZF_VALUE;
+    nzf_served served = NZF_SERVED;
+    nzf_refused why = NZF_REFUSAL;
     nzf_peer to;
     size_t length;
     uint8_t bytes[ROOM], code = 0, method = (uint8_t)(2 + below(3));
     const char *path = some_path(), *payload = some_payload();
     size_t room = below(600), small = below(20);
-    switch (below(10)) {
+    value.size = some_size(sizeof value, SHORT_VALUE);
+    served.size = some_size(sizeof served, SHORT_SERVED);
+    why.size = some_size(sizeof why, SHORT_REFUSED);
+    switch (below(11)) {
     case 0: tell(nzf_device_open(&w->device, w->now, &draws, &code)); break;
     case 1: tell(nzf_device_on_tick(&w->device, w->now, &it)); break;
     case 2: tell(nzf_device_get(&w->device, path, strlen(path), bytes, room, &value)); break;
@@ -1365,6 +1653,7 @@ static void some_call_of_a_device(world *w) {
     case 5: tell(nzf_device_learnt(&w->device, &code)); break;
     case 6: tell(nzf_device_revoke(&w->device, w->now, path, small % 4, &draws, &code)); break;
     case 7: tell(nzf_device_allow(&w->device, w->now, path, small % 4, &draws, &code)); break;
+    case 8: tell(nzf_device_refused(&w->device, &why)); break;
     default: tell(writes(w, method, path, payload, &code)); break;
     }
     act_on_device(w);

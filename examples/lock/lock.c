@@ -26,8 +26,9 @@ static const char WANTED[] = "/lock/wanted", ACTUAL[] = "/lock/actual", LOG[] = 
 static nzf_device device;
 static int udp = -1;
 
-/* How the bolt stands, whether /lock/actual says so by now, and the newest line, where /log hasn't got it yet. */
-static int is_open, is_told;
+/* How the bolt stands, whether /lock/actual says so by now, and the newest line, where /log hasn't got it yet. And whether a request was served of which the
+ * lock wasn't told: then it looks at /lock/wanted. */
+static int is_open, is_told, is_missed;
 static char line[96];
 
 /* What the lock does at its own server. Where memory was wanting on the way it is left open: a tick goes on with it, and tells what came of it. */
@@ -80,13 +81,15 @@ static nzf_draws two_draws(void) {
 
 /* ---- the socket */
 
+/* On each address, of IPv6 and of IPv4: one of IPv4 is ::ffff:a.b.c.d there, as it is in an nzf_peer. */
 static void listen_on(uint16_t port) {
-    struct sockaddr_in here = {0};
-    here.sin_family = AF_INET;
-    here.sin_port = htons(port);
-    here.sin_addr.s_addr = htonl(INADDR_ANY);
-    udp = socket(AF_INET, SOCK_DGRAM, 0);
+    struct sockaddr_in6 here = {0};
+    int off = 0;
+    here.sin6_family = AF_INET6;
+    here.sin6_port = htons(port);
+    udp = socket(AF_INET6, SOCK_DGRAM, 0);
     if (udp < 0) fail("socket", strerror(errno));
+    if (setsockopt(udp, IPPROTO_IPV6, IPV6_V6ONLY, &off, sizeof off) != 0) fail("IPV6_V6ONLY", strerror(errno));
     if (bind(udp, (struct sockaddr *)&here, sizeof here) != 0) fail("bind", strerror(errno));
 }
 
@@ -97,10 +100,11 @@ static void send_all(void) {
     size_t length;
     int32_t number;
     while ((number = nzf_device_next(&device, &to, bytes, sizeof bytes, &length)) == NZF_DONE) {
-        struct sockaddr_in there = {0};
-        there.sin_family = AF_INET;
-        there.sin_port = htons(to.port);
-        memcpy(&there.sin_addr, to.address, sizeof to.address);
+        struct sockaddr_in6 there = {0};
+        there.sin6_family = AF_INET6;
+        there.sin6_port = htons(to.port);
+        there.sin6_scope_id = to.scope;
+        memcpy(&there.sin6_addr, to.bytes, sizeof to.bytes);
         if (sendto(udp, bytes, length, 0, (struct sockaddr *)&there, sizeof there) < 0) fprintf(stderr, "lock: sendto: %s\n", strerror(errno));
     }
     if (number != NZF_NOTHING) complain("next", number, 0);
@@ -213,12 +217,13 @@ static int is_text(const uint8_t *bytes, size_t length, const char *text) { retu
 
 /* A PUT of /lock/wanted that was done moves the bolt: the library has judged by then that its holder may, and that it is no repeat. */
 static void act_on_served(void) {
-    nzf_served it;
+    nzf_served it = NZF_SERVED;
     uint8_t bytes[NZF_PATH_MAX + NZF_DATAGRAM_MAX + NZF_CONTEXT_MAX];
     int32_t number = nzf_device_served(&device, &it, bytes, sizeof bytes);
     if (number == NZF_NOTHING) return;
     if (number != NZF_DONE) {
         complain("served", number, 0);
+        is_missed = 1;
         return;
     }
     const uint8_t *payload = bytes + it.path_length, *holder = payload + it.payload_length;
@@ -228,8 +233,20 @@ static void act_on_served(void) {
     if (is_text(payload, it.payload_length, "shut")) move(0, holder, it.context_length);
 }
 
+/* The bolt goes where /lock/wanted says. Where there is no memory to look, it is looked at after a later datagram or tick. */
+static void catch_up(void) {
+    nzf_value it = NZF_VALUE;
+    uint8_t bytes[NZF_PAYLOAD_MAX];
+    if (!is_missed) return;
+    int32_t number = nzf_device_get(&device, WANTED, strlen(WANTED), bytes, sizeof bytes, &it);
+    is_missed = number == NZF_NO_MEMORY;
+    if (number != NZF_DONE) return;
+    if (is_text(bytes, it.length, "open") && !is_open) move(1, bytes, 0);
+    if (is_text(bytes, it.length, "shut") && is_open) move(0, bytes, 0);
+}
+
 static void act_on_refused(void) {
-    nzf_refused it;
+    nzf_refused it = NZF_REFUSAL;
     int32_t number = nzf_device_refused(&device, &it);
     if (number == NZF_NOTHING) return;
     if (number != NZF_DONE) complain("refused", number, 0);
@@ -237,16 +254,17 @@ static void act_on_refused(void) {
     fflush(stdout);
 }
 
-/* After a call that was done, though some of what it sends may be lost: what its step left is taken before the lock writes for itself, which is a step
- * of its own. After any other number the last step is still there, and was acted on by then: to act on it again would move the bolt twice. */
+/* After a call that was done, though some of what it sends may be lost: what its step left is acted on, and sent, before the lock writes for itself, which
+ * is a step of its own. After any other number the last step is still there, and was acted on by then: to act on it again would move the bolt twice. */
 static void act_on(const char *what, int32_t number) {
     if (number == NZF_DONE || number == NZF_LOST) {
-        send_all();
         act_on_served();
         act_on_refused();
+        send_all();
         act_on_learnt();
     }
     if (number != NZF_DONE) complain(what, number, 0);
+    catch_up();
     tell();
 }
 
@@ -257,7 +275,7 @@ static void tick(void) {
 }
 
 static void receive(void) {
-    struct sockaddr_in there;
+    struct sockaddr_in6 there;
     socklen_t size = sizeof there;
     uint8_t bytes[NZF_DATAGRAM_MAX + 1]; /* one more, so that a longer datagram isn't taken for one that fits */
     ssize_t length = recvfrom(udp, bytes, sizeof bytes, MSG_DONTWAIT, (struct sockaddr *)&there, &size);
@@ -265,10 +283,8 @@ static void receive(void) {
         if (errno != EAGAIN && errno != EINTR) fprintf(stderr, "lock: recvfrom: %s\n", strerror(errno));
         return;
     }
-    nzf_peer from;
+    nzf_peer from = nzf_ipv6(there.sin6_addr.s6_addr, there.sin6_scope_id, ntohs(there.sin6_port));
     nzf_draw it = draw();
-    memcpy(from.address, &there.sin_addr, sizeof from.address);
-    from.port = ntohs(there.sin_port);
     act_on("datagram", nzf_device_on_datagram(&device, now(), &from, bytes, (size_t)length, &it));
 }
 

@@ -2,7 +2,7 @@
  *
  *   proxy PORT SECONDS HOST:PORT=ADDRESS:PORT ..
  *
- * Requests for each HOST and PORT go to that ADDRESS and PORT. */
+ * Requests for each HOST and PORT go to that ADDRESS and PORT. An address of IPv6 is in brackets. */
 #define _POSIX_C_SOURCE 200809L
 #include "udp.h"
 

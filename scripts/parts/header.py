@@ -1,23 +1,27 @@
 """Whether include/nozzlefern.h is what crates/osc_c exports and c/words.c defines.
 
 It compares each call with its arguments and what it returns, and that a call takes its handle as const where its clause is that it only looks; each
-structure with its fields, and the size that a first member is to have; the numbers that calls answer, those of reasons, of results and of
-methods; and the limits. No call may have more than six arguments.
+structure with its fields, the size that a first member is to have, and the one without the members that may be left out; the numbers that calls answer,
+those of reasons, of results and of methods; and the limits. No call may have more than six arguments. The version is that of the program, and each soname in
+the header and on a page has the number of the ABI.
 """
 
 import re
 
-from parts.shared import ROOT, Wrong, own, read
+from parts.shared import ROOT, Wrong, own, pages, read
 
 HEADER = ROOT / "include/nozzlefern.h"
 CRATE = ROOT / "crates/osc_c/src"
 WORDS = ROOT / "c/words.c"
 SIZES = ROOT / "crates/osc_c/specs/Given.antt"
+SHORT_SIZES = ROOT / "crates/osc_c/specs/Filled.antt"
+PROGRAM = ROOT / "crates/osc_words/src/command.rt"
 NUMBERS = ROOT / "crates/osc_model/src/refusals.rt"
 CODES = ROOT / "crates/osc_model/src/code.rt"
 NUMBERS_ONCE = ROOT / "crates/osc_model/src/limits.rt"
 
 MOST_ARGUMENTS = 6
+LEFT_OUT = "/* may be left out */"
 PLAIN = {"u8": "uint8_t", "u16": "uint16_t", "u32": "uint32_t", "u64": "uint64_t", "i32": "int32_t", "usize": "size_t"}
 WIDTHS = {"uint8_t": 1, "uint16_t": 2, "uint32_t": 4, "uint64_t": 8, "int32_t": 4, "size_t": 8, "const void *": 8}
 
@@ -115,7 +119,7 @@ def exported():
         text = without_comments(read(file))
         for found in re.finditer(r'#\[unsafe\(no_mangle\)\]\s*pub extern "C" fn (\w+)\(', text):
             args, end = between(text, found.end())
-            looks = re.match(r"\s*(?:-> \w+)?\s*ensures { Looks ", text[end:]) is not None
+            looks = re.match(r"\s*(?:-> \w+)?\s*ensures { Looks(?:Where)? ", text[end:]) is not None
             types = []
             for arg in split(args):
                 types += c_of(arg.split(":", 1)[1], looks)
@@ -177,6 +181,22 @@ def sizes_of(made):
     return {name: layout(name, made)[0] for name, fields in made.items() if fields[0][0] == "size"}
 
 
+def short_sizes_of(header):
+    """The sizes of the structures of the whole header without what may be left out."""
+    return sizes_of(structures_declared(without_comments(re.sub(re.escape(LEFT_OUT) + r".*?(?=\n\} nzf_\w+;)", "", header, flags=re.S))))
+
+
+def short_sizes(header):
+    """Those of them that leave out something."""
+    whole = sizes_of(structures_declared(without_comments(header)))
+    return {name: size for name, size in short_sizes_of(header).items() if size != whole[name]}
+
+
+def short_sizes_said():
+    found = re.findall(r"^Is(\w+)Size size = IsEither \w+ (\d+) size$", read(SHORT_SIZES), re.M)
+    return {"nzf_" + snake(name): int(size) for name, size in found}
+
+
 def sizes_said():
     return {"nzf_" + name: int(size) for name, size in re.findall(r"^(\w+)_size = (\d+)$", read(SIZES), re.M)}
 
@@ -199,7 +219,7 @@ def results():
     text = read(CRATE / "calls/results.rt")
     names = {"Made": "MADE", "Unverified": "ENDED", "TimedOut": "TIMED_OUT", "Refused": "REFUSED"}
     made = {names[name]: int(number) for name, number in re.findall(r"ClientResult::(\w+)[^=]*=> bare\((\d+),", text)}
-    made["ANSWER"] = int(re.search(r"ClientResult::Answer\(reply\) => PlainResult \{\s*what: (\d+)", text).group(1))
+    made["ANSWER"] = int(re.search(r"ClientResult::Answer\(reply\) => \w+ \{\s*what: (\d+)", text).group(1))
     return made
 
 
@@ -217,6 +237,19 @@ def wrong_limits(header):
     for name, limit in LIMITS.items():
         if int(numbers.get(limit, "-1").replace("_", "")) != int(said.get(name, -2)):
             yield f"{place(name)}: limit {name}: it isn't {limit} of {NUMBERS_ONCE.relative_to(ROOT)}"
+
+
+def wrong_versions(header):
+    version = re.search(r'\.version\("(\d+)\.(\d+)\.(\d+)"\)', read(PROGRAM))
+    major, minor, patch = map(int, version.groups()) if version else (0, 0, 0)
+    said, abi = (re.search(rf"^#define {name} (\d+)$", header, re.M) for name in ("NZF_VERSION", "NZF_ABI"))
+    if not said or int(said.group(1)) != 10000 * major + 100 * minor + patch:
+        yield f"{place('NZF_VERSION')}: NZF_VERSION: it isn't {major}.{minor}.{patch}, the version of {own(PROGRAM)}"
+    for file in (HEADER, *pages()):
+        for number, line in enumerate(read(file).split("\n"), 1):
+            for soname in re.findall(r"libnozzlefern\.so\.(\d+)\b(?!\.\d)", line):
+                if not abi or soname != abi.group(1):
+                    yield f"{own(file)}:{number}: libnozzlefern.so.{soname}: NZF_ABI is {abi.group(1) if abi else 'none'}"
 
 
 def place(name):
@@ -238,7 +271,8 @@ def differences(what, made, said, show, prefix=""):
 
 
 def faults(only, say):
-    header = without_comments(read(HEADER))
+    whole = read(HEADER)
+    header = without_comments(whole)
     calls, prototypes = exported(), declared(header)
     made, said = structures_made(), structures_declared(header)
     handles = {name for name, fields in said.items() if fields == [("held", "void *", 0)]}
@@ -250,6 +284,7 @@ def faults(only, say):
             yield f"{place(name)}: call {name}: it has {len(types)} arguments"
     yield from differences("structure", made, said, lambda f: "; ".join(f"{k} {n}{f'[{r}]' if r else ''}" for n, k, r in f))
     yield from differences("size of", sizes_said(), sizes_of(made), str)
+    yield from differences("short size of", short_sizes_said(), short_sizes(whole), str)
     yield from differences("number", outcomes(), enumerated(answers, "NZF_"), str, "NZF_")
     yield from differences("result", results(), enumerated(header, "NZF_RESULT_"), str, "NZF_RESULT_")
     yield from differences("method", methods(), enumerated(header, "NZF_METHOD_"), str, "NZF_METHOD_")
@@ -258,4 +293,5 @@ def faults(only, say):
         if number != known.get(name, 0 if name == "NONE" else -1):
             yield f"{place('NZF_REASON_' + name)}: reason {name}: it isn't that of the crates"
     yield from wrong_limits(header)
+    yield from wrong_versions(header)
     say(f"header: {len(calls)} calls, {len(made)} structures and {len(outcomes())} numbers are those of the crate")

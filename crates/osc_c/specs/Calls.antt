@@ -18,6 +18,10 @@ abbrev pub Looks : {A : Type 0} → Option A → ℤ → Option A → (A → Out
 Looks old number new Does =
     MatchOption old ((number ≡ pos 33) × (new ≡ None)) (λ held. (new ≡ Some held) × Answers number (λ outcome. Does held outcome))
 
+-- The same of a call that fills in a struct, where its size fits. Where it doesn't, it answers 34, whatever is held, and all stays.
+abbrev pub LooksWhere : {A : Type 0} → Type 0 → Type 0 → Option A → ℤ → Option A → (A → Outcome → Type 0) → Type 0
+LooksWhere Fits Stays old number new Does = (Fits × Looks old number new Does) ⊎ (¬ Fits × (number ≡ pos 34) × (new ≡ old) × Stays)
+
 -- What is made is held, in the place of what was held; or nothing is made, for such a reason, and what was held is held.
 abbrev pub Makes : {A : Type 0} → Option A → ℤ → Option A → (A → Type 0) → (Outcome → Type 0) → Type 0
 Makes {A} old number new Is IsWhyNot = ((node : A) × (number ≡ pos 0) × (new ≡ Some node) × Is node) ⊎ (Answers number IsWhyNot × (new ≡ old))

@@ -1,5 +1,5 @@
 -- What calls give, as numbers and bytes.
-use Rattle.std.specs.Prelude.{ℕ, ℤ, ◌==◌, if◌then◌else◌, List}
+use Rattle.std.specs.Prelude.{ℕ, ℤ, List}
 use Rattle.osc_model.specs.Arrival.{Arrival}
 use Rattle.osc_model.specs.declared.node.Draw.{Draw}
 use Rattle.osc_model.specs.declared.node.Moment.{Moment}
@@ -19,21 +19,31 @@ use Rattle.osc_c.specs.declared.calls.plain.PlainResource.{PlainResource}
 abbrev pub device_settings_size : ℕ
 device_settings_size = 120
 
--- the same of its first version, which ended before `no_subtrees`
-abbrev pub first_device_settings : ℕ
-first_device_settings = 112
-
 abbrev pub client_settings_size : ℕ
-client_settings_size = 104
+client_settings_size = 120
 
 abbrev pub request_size : ℕ
-request_size = 64
+request_size = 72
 
 abbrev pub resource_size : ℕ
 resource_size = 48
 
 abbrev pub claims_size : ℕ
 claims_size = 136
+
+-- ---- and one that is filled in for a caller
+
+abbrev pub value_size : ℕ
+value_size = 40
+
+abbrev pub served_size : ℕ
+served_size = 128
+
+abbrev pub refused_size : ℕ
+refused_size = 104
+
+abbrev pub result_size : ℕ
+result_size = 40
 
 -- ---- what the structs say
 
@@ -120,10 +130,6 @@ pub record GivenRules : Type 0 where
   pub revoked : List ℕ
   pub no_subtrees : ℕ
 
--- settings of the first version say no such number: it is 0
-abbrev pub said_since : ℕ → ℕ → ℕ
-said_since size number = if size == first_device_settings then 0 else number
-
 -- what a device is made of
 pub record GivenDevice : Type 0 where
   pub size : ℕ
@@ -139,7 +145,7 @@ rules_given settings = record {
   has_old_key = settings.has_old_key;
   context_seconds = settings.context_seconds;
   revoked = settings.revoked.bytes.now;
-  no_subtrees = said_since settings.size settings.no_subtrees;
+  no_subtrees = settings.no_subtrees;
 }
 
 abbrev pub device_given : PlainDeviceSettings → GivenDevice

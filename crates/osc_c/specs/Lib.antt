@@ -4,6 +4,7 @@ pub mod Plain
 pub mod Given
 pub mod Arguments
 pub mod Filling
+pub mod Filled
 pub mod Last
 pub mod Ends
 pub mod Granted

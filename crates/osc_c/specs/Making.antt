@@ -15,7 +15,7 @@ use Rattle.osc_device.specs.declared.own_token.OwnToken.{OwnToken}
 use Rattle.osc_device.specs.declared.own_token.ServerParts.{ServerParts}
 use Rattle.osc_authz.specs.declared.enrolling.EnrollError.TheVariants as enroll
 use Rattle.osc_c.specs.Arguments.{IsUnfit}
-use Rattle.osc_c.specs.Given.{GivenDevice, GivenRules, device_settings_size, first_device_settings}
+use Rattle.osc_c.specs.Given.{GivenDevice, GivenRules, device_settings_size}
 use Rattle.osc_c.specs.Last.{nothing}
 use Rattle.osc_c.specs.Tokens.{IsNoScopeText, IsScopeOf}
 use Rattle.osc_c.specs.declared.calls.device.DeviceNode.{DeviceNode}
@@ -97,13 +97,9 @@ unmade_as device.TooLong = TooLong
 unmade_as device.Subtrees = BadScope
 unmade_as other = BadArgument
 
--- the size is that of the struct, or of its first version
-abbrev pub IsDeviceSize : ℕ → Type 0
-IsDeviceSize size = (size ≡ device_settings_size) ⊎ (size ≡ first_device_settings)
-
--- these numbers and bytes make a device, whatever the texts of scopes say: the size is one of the struct's, the audience is UTF-8, and the rules are some
+-- these numbers and bytes make a device, whatever the texts of scopes say: the size is the struct's, the audience is UTF-8, and the rules are some
 abbrev pub FitsDevice : GivenDevice → Type 0
-FitsDevice given = IsDeviceSize given.size × IsUtf8 given.audience × AreRules given.rules
+FitsDevice given = (given.size ≡ device_settings_size) × IsUtf8 given.audience × AreRules given.rules
 
 -- a text of a scope says none
 abbrev pub HasNoScope : GivenDevice → Type 0

@@ -25,8 +25,8 @@ pub use making::Rules;
 pub use outcome::Outcome;
 pub use plain::{
     PlainBytes, PlainClaims, PlainClientSettings, PlainDeviceSettings, PlainDraw, PlainDraws,
-    PlainIv, PlainKey, PlainOptions, PlainPeer, PlainRefused, PlainRequest, PlainResource,
-    PlainResult, PlainServed, PlainValue,
+    PlainEtag, PlainId, PlainIv, PlainKey, PlainOptions, PlainPeer, PlainRefused, PlainRequest,
+    PlainResource, PlainResult, PlainServed, PlainValue,
 };
 pub use proxy::{Forwarding, ProxyNode};
 pub use round::Told;

@@ -4,13 +4,14 @@ ghost use Rattle.std.specs.declared.option.Option.TheVariants.{None};
 ghost use Rattle.osc_client.specs.{restarted};
 ghost use Rattle.osc_c.specs.Client.{AskedBy, BegunBy, HeardBy, IsNewClient, TellsContext, TellsDeadline, TickedBy};
 ghost use Rattle.osc_c.specs.Arguments.{IsUnfit};
+ghost use Rattle.osc_c.specs.Filled.{IsResultSize};
 ghost use Rattle.osc_c.specs.Given.{grant_given, request_given};
 ghost use Rattle.osc_c.specs.Granted.{FitsClient};
 ghost use Rattle.osc_c.specs.Last.{HandsOut, nothing};
 ghost use Rattle.osc_c.specs.Plain.{draw_of, peer_of};
 ghost use Rattle.osc_c.specs.Results.{TellsResult, learnt_in};
 ghost use Rattle.osc_c.specs.declared.calls.outcome.Outcome.TheVariants.{Done};
-ghost use Rattle.osc_c.specs.Calls.{Calls, Looks, Makes};
+ghost use Rattle.osc_c.specs.Calls.{Calls, Looks, LooksWhere, Makes};
 ghost use Rattle.osc_c.specs.Ciphers.{sealing, tags};
 
 use crate::calls::{
@@ -157,9 +158,10 @@ pub extern "C" fn nzf_client_next(
     with(alloc, client, &mut |node| node.next(to, bytes, length)).number()
 }
 
-/// What the client learnt in its last step.
+/// What the client learnt in its last step; of an answer with its ETag.
 ///
-/// Answers 0; or 33 where it learnt nothing, or nothing is held, and 2 where `payload` is too short. Heap: none.
+/// Answers 0; or 34 where `size` is neither that of the struct nor that without the ETag, 33 where it learnt nothing, or nothing is held, and 2 where
+/// `payload` is too short. Heap: none.
 #[unsafe(no_mangle)]
 pub extern "C" fn nzf_client_result(
     alloc: Global,
@@ -167,9 +169,13 @@ pub extern "C" fn nzf_client_result(
     learnt: &mut PlainResult,
     payload: &mut [u8],
 ) -> i32
-    ensures { Looks client.old.held result client.new.held (λ node outcome. TellsResult (learnt_in node.last) learnt.old payload.old outcome learnt.new payload.new) }
+    ensures { LooksWhere (IsResultSize learnt.old.size) ((learnt.new ≡ learnt.old) × (payload.new ≡ payload.old)) client.old.held result client.new.held
+        (λ node outcome. TellsResult (learnt_in node.last) learnt.old payload.old outcome learnt.new payload.new) }
 {
-    with(alloc, client, &mut |node| node.result(learnt, payload)).number()
+    match learnt.sized() {
+        Ok(()) => with(alloc, client, &mut |node| node.result(learnt, payload)).number(),
+        Err(outcome) => outcome.number(),
+    }
 }
 
 /// The number (Partial IV) that its next request takes.

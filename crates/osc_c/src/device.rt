@@ -21,7 +21,7 @@ use std::alloc::Global;
 /// for this number of seconds, and resources below the path of the text `revoked`, which is empty for none, revoke tokens.
 ///
 /// Answers 0; or 9 without memory, 14 where its token is too long to be posted in a datagram, 24 where a text is no scope, and 34 where `size` isn't
-/// that of the struct, the audience is no UTF-8, the flag isn't 0 or 1, or `revoked` is no path, or one of more than 4 segments. Then what was held is
+/// that of the struct, the audience is no UTF-8, a flag isn't 0 or 1, or `revoked` is no path, or one of more than 4 segments. Then what was held is
 /// held. Heap: some 50 KiB, for as long as it is held.
 #[unsafe(no_mangle)]
 pub extern "C" fn nzf_device_new(

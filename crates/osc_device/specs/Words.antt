@@ -1,5 +1,6 @@
 -- What a step of a server did, as a device tells it.
-use Rattle.std.specs.Prelude.{ℕ, List, [], ◌∷◌, Option, Some, None, Result, Ok, Err, option_map}
+use Rattle.std.specs.Prelude.{◌≡◌, ℕ, nat_lt, if◌then◌else◌, List, [], ◌∷◌, length, Option, Some, None, MatchOption, Result, Ok, Err, option_and_then, option_map}
+use Rattle.osc_cbor.specs.{DataItem, IsWhole, as_bytes, value}
 use Rattle.osc_model.specs.{method_of}
 use Rattle.osc_model.specs.StepNotes.{StepNotes}
 use Rattle.osc_model.specs.declared.code.Code.{Code}
@@ -9,6 +10,7 @@ use Rattle.osc_model.specs.declared.reply.Reply.{Reply}
 use Rattle.osc_model.specs.declared.request.Request.{Request}
 use Rattle.osc_model.specs.declared.step.Datagram.{Datagram}
 use Rattle.osc_model.specs.declared.step.Entry.{Entry}
+use Rattle.osc_model.specs.declared.step.Note.{Note}
 use Rattle.osc_model.specs.declared.step.RefusedRequest.{RefusedRequest}
 use Rattle.osc_model.specs.declared.step.Step.{Step}
 
@@ -19,8 +21,8 @@ pub record Holder : Type 0 where
   pub kid : List ℕ
   pub kid_context : Option (List ℕ)
 
--- who asked, by which number, for what by which method, with which payload, and what it was answered; of a text that is no request
--- neither method nor path
+-- who asked, by which number, for what by which method, with which payload, what it was answered, and the id of the token that made its
+-- context; of a text that is no request neither method nor path
 pub record ServedRequest : Type 0 where
   pub by : Holder
   pub number : ℕ
@@ -28,6 +30,7 @@ pub record ServedRequest : Type 0 where
   pub path : Option (List ℕ)
   pub payload : List ℕ
   pub reply : Reply
+  pub token : Option (List ℕ)
 
 abbrev pub holder_of : Entry → Holder
 holder_of entry = record { kid = entry.context.client_id; kid_context = entry.context.id_context }
@@ -44,20 +47,20 @@ abbrev pub payload_asked : Option Request → List ℕ
 payload_asked None = []
 payload_asked (Some request) = request.payload
 
-abbrev pub served_as : Holder → ℕ → Option Request → Reply → ServedRequest
-served_as by number request reply =
-    record { by = by; number = number; method = method_asked request; path = path_asked request; payload = payload_asked request; reply = reply }
+abbrev pub served_as : Holder → ℕ → Option Request → Reply → Option (List ℕ) → ServedRequest
+served_as by number request reply token =
+    record { by = by; number = number; method = method_asked request; path = path_asked request; payload = payload_asked request; reply = reply; token = token }
 
 -- the request that a text was read as, if it is one
 abbrev pub request_in : Result Request Code → Option Request
 request_in (Ok request) = Some request
 request_in (Err code) = None
 
-abbrev pub served_by : Entry → ServedRequest
-served_by entry = served_as (holder_of entry) entry.number (request_in entry.request) entry.reply
+abbrev pub served_by : Option (List ℕ) → Entry → ServedRequest
+served_by token entry = served_as (holder_of entry) entry.number (request_in entry.request) entry.reply token
 
 abbrev pub served_in : StepNotes → Option ServedRequest
-served_in notes = option_map served_by notes.served
+served_in notes = option_map (served_by notes.holder) notes.served
 
 -- ---- a request that was refused
 
@@ -68,3 +71,29 @@ refused_by why out = None
 
 abbrev pub refused_in : Step → Option (Peer × RefusedRequest)
 refused_in step = refused_by step.notes.refused step.out
+
+-- ---- whose token a refused post has
+
+-- at most 64 bytes
+abbrev pub within_64 : List ℕ → Option (List ℕ)
+within_64 id = if nat_lt 64 (length id) then None else Some id
+
+-- The id that claims give a token: that of the input material (id 0, RFC 9203 section 3.2.1) under the key osc 4 of the claim cnf 8 (RFC 8747
+-- section 3.1).
+abbrev pub id_in : DataItem → Option (List ℕ)
+id_in claims =
+    option_and_then within_64 (option_and_then as_bytes (option_and_then (value 0) (option_and_then (value 4) (value 8 claims))))
+
+-- the plaintext is claims that give this id
+pub record Names (plaintext id : List ℕ) : Type 0 where
+  pub claims : DataItem
+  pub whole : IsWhole plaintext claims
+  pub id_is : id_in claims ≡ Some id
+
+-- this is the id, or there is none
+abbrev pub IsNameIn : List ℕ → Option (List ℕ) → Type 0
+IsNameIn plaintext name = MatchOption name ((id : List ℕ) → ¬ Names plaintext id) (Names plaintext)
+
+-- the same of the token that a step opened; without one there is none
+abbrev pub IsTokenOf : Option Note → Option (List ℕ) → Type 0
+IsTokenOf opened token = MatchOption opened (token ≡ None) (λ note. IsNameIn note.plaintext token)

@@ -1,12 +1,23 @@
 //! What a step of a server did, in the words of whoever made the device.
-ghost use Rattle.std.specs.Prelude.{◌≡◌, option_map};
-ghost use Rattle.osc_device.specs.Words.{holder_of as holder_of_entry, refused_in, request_in, served_by as served_by_of, served_in};
+ghost use Rattle.std.specs.Prelude.{◌≡◌, IfSome, option_copied, option_map};
+ghost use Rattle.osc_device.specs.Words.{IsNameIn, IsTokenOf, holder_of as holder_of_entry, id_in, refused_in, request_in, served_by as served_by_of, served_in};
 
+use osc_cbor::ItemRef;
+use osc_model::limits::LONGEST_ID;
 use osc_model::{
-    Code, ContextName, Entry, Method, Path, Peer, RefusedRequest, Reply, Request, Step,
+    Code, ContextName, Entry, Method, Note, Path, Peer, RefusedRequest, Reply, Request, Step,
 };
 use std::fmt;
 use std::marker::Model;
+
+/// The claim cnf of a token (RFC 8747 section 3.1).
+const CNF: u64 = 8;
+
+/// Its method osc, the input material (RFC 9203 section 3.2.1).
+const OSC: u64 = 4;
+
+/// The parameter id of input material, by which a token is named.
+const OSC_ID: u64 = 0;
 
 /// Who asked: what a request tells of the context that it means (RFC 8613 section 6.1). Neither is a secret.
 #[derive(Clone, Copy, Debug, PartialEq, Eq)]
@@ -17,7 +28,7 @@ pub struct Holder<'a> {
     pub kid_context: Option<&'a [u8]>,
 }
 
-/// A protected request that was served. Contracts see a record of the six that its calls and fields tell.
+/// A protected request that was served. Contracts see a record of the seven that its calls and fields tell.
 #[derive(Drop)]
 pub struct Served<'a> {
     /// Who asked.
@@ -26,17 +37,22 @@ pub struct Served<'a> {
     pub number: u64,
     /// What it was answered.
     pub reply: &'a Reply,
+    /// The id of the token that made its context: 0 to 64 bytes, as [`crate::DeviceCalls::revoke`] takes it.
+    pub token: Option<&'a [u8]>,
     // What opened, where it is a request.
     request: Option<&'a Request>,
 }
 
 /// A request that was refused.
 #[derive(Clone, Copy, Debug, PartialEq, Eq)]
-pub struct Refused {
+pub struct Refused<'a> {
     /// Who asked.
     pub from: Peer,
     /// The code that it was answered, and the number of the reason, where the code alone doesn't tell it.
     pub why: RefusedRequest,
+    /// Of a post whose token opened, so that it is genuine: the token's id, where it says one of at most 64 bytes. Of other requests none, since nothing
+    /// proves who sent them.
+    pub token: Option<&'a [u8]>,
 }
 
 impl<'a> Model for Served<'a> {
@@ -45,7 +61,7 @@ impl<'a> Model for Served<'a> {
 
     ghost Value = { ServedRequest };
 
-    ghost view = { λ s. served_as (record { kid = s.by.kid.now; kid_context = option_map (λ bytes. bytes.now) s.by.kid_context }) s.number (option_map (λ request. request.now) s.request) s.reply.now };
+    ghost view = { λ s. served_as (record { kid = s.by.kid.now; kid_context = option_map (λ bytes. bytes.now) s.by.kid_context }) s.number (option_map (λ request. request.now) s.request) s.reply.now (option_map (λ id. id.now) s.token) };
 }
 
 // What was opened isn't printed.
@@ -61,7 +77,7 @@ impl<'a> Served<'a> {
         ensures { result ≡ served_in step.now.notes }
     {
         match step.notes.served() {
-            Some(entry) => Some(served_by(entry)),
+            Some(entry) => Some(served_by(entry, step.notes.holder())),
             None => None,
         }
     }
@@ -97,13 +113,14 @@ impl<'a> Served<'a> {
     }
 }
 
-fn served_by(entry: &Entry) -> Served<'_>
-    ensures { result ≡ served_by_of entry.now }
+fn served_by<'a>(entry: &'a Entry, token: Option<&'a [u8]>) -> Served<'a>
+    ensures { result ≡ served_by_of (option_copied token.entry) entry.now }
 {
     Served {
         by: holder_of(entry),
         number: entry.number,
         reply: &entry.reply,
+        token,
         request: request_of(&entry.request),
     }
 }
@@ -137,15 +154,48 @@ fn id_context(name: &ContextName) -> Option<&[u8]>
     }
 }
 
-impl Refused {
-    /// The request that this step of a server refused, if it refused one.
-    pub fn in_step(step: &Step) -> Option<Refused>
-        ensures { option_map (λ refused. (refused.from, refused.why)) result ≡ refused_in step.now }
+/// The id of the token that this item claims to be (RFC 9203 section 3.2.1), if it says one of at most 64 bytes.
+fn id_in<'a>(claims: &ItemRef<'a>) -> Option<&'a [u8]>
+    ensures { option_copied result ≡ id_in claims.now }
+{
+    let id = claims.value(CNF)?.value(OSC)?.value(OSC_ID)?.as_bytes()?;
+    if id.len() > LONGEST_ID {
+        return None;
+    }
+    Some(id)
+}
+
+/// The id of the token of this plaintext, if it says one. Takes no memory.
+fn name_in(plaintext: &[u8]) -> Option<&[u8]>
+    ensures { IsNameIn plaintext.now (option_copied result) }
+{
+    match ItemRef::whole(plaintext) {
+        Some(claims) => id_in(&claims),
+        None => None,
+    }
+}
+
+/// The id of the token that was opened, if one was and it says one.
+fn token_of(opened: Option<&Note>) -> Option<&[u8]>
+    ensures { IsTokenOf (option_copied opened.entry) (option_copied result) }
+{
+    match opened {
+        Some(note) => name_in(note.plaintext.as_slice()),
+        None => None,
+    }
+}
+
+impl<'a> Refused<'a> {
+    /// The request that this step of a server refused, if it refused one: lent as the server read it. Takes no memory.
+    pub fn in_step(step: &'a Step) -> Option<Refused<'a>>
+        ensures refused { option_map (λ refused. (refused.from, refused.why)) result ≡ refused_in step.now }
+        ensures token { IfSome result (λ refused. IsTokenOf step.now.notes.opens (option_copied refused.token)) }
     {
         match (step.notes.refused(), step.out.as_slice()) {
             (Some(why), [datagram]) => Some(Refused {
                 from: datagram.to,
                 why,
+                token: token_of(step.notes.opens()),
             }),
             _ => None,
         }

@@ -2,6 +2,7 @@
 ghost use Rattle.std.specs.Prelude.{◌≡◌, ◌↔◌, ◌==◌, ◌<◌, ◌≤◌, ◌^◌, if◌then◌else◌, IfOk, IfErr, IsTrue, OnOk, None, Some};
 ghost use Rattle.std.specs.Str.{IsUtf8};
 ghost use Rattle.osc_c.specs.Arguments.{IsFormat, IsFormatNumber, IsUnfit, Tells};
+ghost use Rattle.osc_c.specs.Filled.{IsEither};
 ghost use Rattle.osc_c.specs.declared.calls.outcome.Outcome.TheVariants.{BadArgument};
 ghost use Rattle.osc_model.specs.{IsPath};
 ghost use Rattle.osc_client.specs.{IsHost};
@@ -21,6 +22,17 @@ pub(crate) fn sized(size: usize, wanted: usize) -> Result<(), Outcome>
         return Err(Outcome::BadArgument);
     }
     Ok(())
+}
+
+/// Refuses a struct that is to be filled in, where its first member is neither its whole size nor that without its last members.
+pub(crate) fn sized_either(size: usize, whole: usize, short: usize) -> Result<(), Outcome>
+    ensures ok { OnOk result (IsEither whole short size) }
+    ensures err { IfErr result (λ outcome. (outcome ≡ BadArgument) × ¬ IsEither whole short size) }
+{
+    if size == short {
+        return Ok(());
+    }
+    sized(size, whole)
 }
 
 /// The moment of this number of milliseconds.

@@ -34,7 +34,7 @@ impl Drop for DeviceNode {
 fn is_nowhere(from: &PlainPeer) -> bool
     ensures { result ≡ is_nowhere (peer_of from.now) }
 {
-    from.address == [0, 0, 0, 0]
+    from.bytes == [0, 0, 0, 0, 0, 0, 0, 0, 0, 0, 0xff, 0xff, 0, 0, 0, 0]
 }
 
 impl DeviceNode {

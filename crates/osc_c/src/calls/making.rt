@@ -4,7 +4,7 @@ ghost use Rattle.std.specs.List.{count_by};
 ghost use Rattle.osc_c.specs.Arguments.{IsUnfit};
 ghost use Rattle.osc_c.specs.Given.{device_given, rules_given};
 ghost use Rattle.osc_c.specs.Inner.Reading.{IsUnread};
-ghost use Rattle.osc_c.specs.Making.{AreParts, AreRules, IsDeviceSize, IsNewDevice, IsNoNewDevice, IsNoOpenScope, IsOpenScope, IsOwnToken, IsRevocationText, limit_of, old_key_of, revoked_of, rules_of, subtrees_of, unmade_as};
+ghost use Rattle.osc_c.specs.Making.{AreParts, AreRules, IsNewDevice, IsNoNewDevice, IsNoOpenScope, IsOpenScope, IsOwnToken, IsRevocationText, limit_of, old_key_of, revoked_of, rules_of, subtrees_of, unmade_as};
 ghost use Rattle.osc_c.specs.Tokens.{IsNoScopeText};
 ghost use Rattle.osc_model.specs.{segments_of};
 ghost use Rattle.osc_c.specs.declared.calls.outcome.Outcome.TheVariants.{BadArgument};
@@ -31,9 +31,6 @@ const OWN_ID: &[u8] = b"device";
 
 /// How many bytes of a draw its secret has.
 const SECRET: usize = 16;
-
-/// The bytes of the settings' first version, which ended before `no_subtrees`.
-const FIRST_SIZE: usize = 112;
 
 /// What a device's server rules, beside its key and its audience.
 #[derive(Drop)]
@@ -78,27 +75,13 @@ fn old_key(settings: &PlainDeviceSettings<'_>) -> Result<Option<[u8; 16]>, Outco
     }
 }
 
-/// Whether a token's scope may reach below its paths. Settings of the first version don't say: the member isn't there.
+/// Whether a token's scope may reach below its paths.
 fn subtrees(settings: &PlainDeviceSettings<'_>) -> Result<bool, Outcome>
     ensures ok { IfOk result (λ may. (may ≡ subtrees_of (rules_given settings.now)) × ((rules_given settings.now).no_subtrees ≤ 1)) }
     ensures err { IfErr result (λ outcome. (outcome ≡ BadArgument) × ¬ ((rules_given settings.now).no_subtrees ≤ 1)) }
 {
-    if settings.size == FIRST_SIZE {
-        return Ok(true);
-    }
     let refused = flag(settings.no_subtrees)?;
     Ok(!refused)
-}
-
-/// Refuses settings whose first member is no size of theirs.
-fn sized_as_settings(size: usize) -> Result<(), Outcome>
-    ensures ok { OnOk result (IsDeviceSize size) }
-    ensures err { IfErr result (λ outcome. (outcome ≡ BadArgument) × ¬ IsDeviceSize size) }
-{
-    if size == FIRST_SIZE {
-        return Ok(());
-    }
-    sized(size, size_of::<PlainDeviceSettings<'_>>())
 }
 
 /// How many `/` these bytes have.
@@ -263,7 +246,7 @@ impl DeviceNode {
         ensures ok { IfOk result (λ node. IsNewDevice A.is_sealing (device_given settings.now) draw.now.bytes node) }
         ensures err { IfErr result (IsNoNewDevice (device_given settings.now) draw.now.bytes) }
     {
-        sized_as_settings(settings.size)?;
+        sized(settings.size, size_of::<PlainDeviceSettings<'_>>())?;
         let audience = text(settings.audience.bytes)?;
         let rules = Rules::of(alloc, settings)?;
         let audience = Audience::new(alloc, audience)?;

@@ -1,17 +1,36 @@
 //! What goes in and comes out, as include/nozzlefern.h has it.
-ghost use Rattle.std.specs.Prelude.{◌≡◌};
-ghost use Rattle.osc_c.specs.Plain.{draw_of, peer_of, plain_peer};
+ghost use Rattle.std.specs.Prelude.{◌≡◌, IfErr, OnOk};
+ghost use Rattle.osc_c.specs.Filled.{IsRefusedSize, IsResultSize, IsServedSize, IsValueSize};
+ghost use Rattle.osc_c.specs.Plain.{draw_of, peer_of, plain_etag, plain_id, plain_peer};
+ghost use Rattle.osc_c.specs.declared.calls.outcome.Outcome.TheVariants.{BadArgument};
 
+use crate::calls::arguments::sized_either;
+use crate::calls::filling::fill;
+use crate::calls::outcome::Outcome;
 use osc_model::{Draw, Peer};
 
-/// An IPv4 address and a port.
+/// How many bytes of [`PlainValue`] come before its ETag.
+const VALUE_WITHOUT_ETAG: usize = 24;
+
+/// How many bytes of [`PlainServed`] come before its token.
+const SERVED_WITHOUT_TOKEN: usize = 48;
+
+/// How many bytes of [`PlainRefused`] come before its token, with those that fill up to the alignment.
+const REFUSED_WITHOUT_TOKEN: usize = 40;
+
+/// How many bytes of [`PlainResult`] come before its ETag.
+const RESULT_WITHOUT_ETAG: usize = 24;
+
+/// An address and a port.
 #[repr(C)]
 #[derive(Clone, Copy)]
 pub struct PlainPeer {
-    /// The four bytes of the address, as they are written.
-    pub address: [u8; 4],
     /// The port.
     pub port: u16,
+    /// The number of the zone of an address that counts on one link alone; else 0.
+    pub scope: u32,
+    /// The address, in network order; one of IPv4 is ::ffff:a.b.c.d.
+    pub bytes: [u8; 16],
 }
 
 /// A key of 16 bytes.
@@ -48,6 +67,26 @@ pub struct PlainDraws {
     pub server: PlainDraw,
 }
 
+/// The id of a token.
+#[repr(C)]
+#[derive(Clone, Copy)]
+pub struct PlainId {
+    /// How many of the bytes it has: 0 to 64.
+    pub length: u8,
+    /// The bytes; those that it doesn't have are 0.
+    pub bytes: [u8; 64],
+}
+
+/// An ETag, or none.
+#[repr(C)]
+#[derive(Clone, Copy)]
+pub struct PlainEtag {
+    /// 8, or 0 for none.
+    pub length: u8,
+    /// The bytes; 0 where there is none.
+    pub bytes: [u8; 8],
+}
+
 /// Bytes, and how many they are.
 #[repr(C)]
 pub struct PlainBytes<'a> {
@@ -76,7 +115,7 @@ pub struct PlainDeviceSettings<'a> {
     pub own: PlainBytes<'a>,
     /// The text of the path below which a resource revokes a token; empty for none.
     pub revoked: PlainBytes<'a>,
-    /// 1: a token whose scope reaches below its paths is refused; 0: it isn't. Settings of the first version end before this.
+    /// 1: a token whose scope reaches below its paths is refused; 0: it isn't.
     pub no_subtrees: u8,
 }
 
@@ -112,12 +151,12 @@ pub struct PlainRequest<'a> {
     pub size: usize,
     /// 1 GET, 2 POST, 3 PUT, 4 DELETE.
     pub method: u8,
-    /// The options beside the path.
-    pub options: PlainOptions,
     /// The text of the path.
     pub path: PlainBytes<'a>,
     /// The payload.
     pub payload: PlainBytes<'a>,
+    /// The options beside the path.
+    pub options: PlainOptions,
 }
 
 /// A value for a path.
@@ -166,16 +205,22 @@ pub struct PlainClaims<'a> {
 #[repr(C)]
 #[derive(Clone, Copy)]
 pub struct PlainValue {
+    /// The bytes of this struct, or of it without its ETag.
+    pub size: usize,
     /// The Content-Format, or -1 for none.
     pub format: i32,
     /// The bytes of the payload.
     pub length: usize,
+    /// The ETag that answers a GET.
+    pub etag: PlainEtag,
 }
 
 /// A protected request that was served.
 #[repr(C)]
 #[derive(Clone, Copy)]
 pub struct PlainServed {
+    /// The bytes of this struct, or of it without token and ETag.
+    pub size: usize,
     /// 1 GET, 2 POST, 3 PUT, 4 DELETE; 0 where what opened is no such request.
     pub method: u8,
     /// What it was answered.
@@ -192,18 +237,28 @@ pub struct PlainServed {
     pub payload_length: usize,
     /// The bytes of the id context of its token.
     pub context_length: usize,
+    /// The id of the token that made its context.
+    pub token: PlainId,
+    /// The ETag of the answer.
+    pub etag: PlainEtag,
 }
 
 /// A request that was refused.
 #[repr(C)]
 #[derive(Clone, Copy)]
 pub struct PlainRefused {
+    /// The bytes of this struct, or of it without its token.
+    pub size: usize,
     /// Who asked.
     pub from: PlainPeer,
     /// What it was answered.
     pub code: u8,
     /// The number of the reason, or 0 where the code tells it.
     pub reason: u8,
+    /// 1: it is the post of a token that opened, and says an id; 0: it isn't.
+    pub has_token: u8,
+    /// That id.
+    pub token: PlainId,
 }
 
 /// The options of a request, beside its path.
@@ -228,6 +283,8 @@ pub struct PlainOptions {
 #[repr(C)]
 #[derive(Clone, Copy)]
 pub struct PlainResult {
+    /// The bytes of this struct, or of it without its ETag.
+    pub size: usize,
     /// 1 a context was made, 2 an answer, 3 it ended unprotected, 4 it timed out, 5 it was refused.
     pub what: u8,
     /// The code, or the reason's number.
@@ -236,25 +293,106 @@ pub struct PlainResult {
     pub format: i32,
     /// Of an answer: the bytes of its payload.
     pub length: usize,
+    /// Of an answer: its ETag.
+    pub etag: PlainEtag,
 }
 
 impl PlainPeer {
     /// The peer.
     pub fn peer(&self) -> Peer
-        ensures { result ≡ peer_of self.now }
+        ensures peer { result ≡ peer_of self.now }
+        // Nothing of it is lost.
+        ensures back { plain_peer result ≡ self.now }
     {
-        Peer::v4(self.address, self.port)
+        Peer {
+            address: self.bytes,
+            scope: self.scope,
+            port: self.port,
+        }
     }
 
     /// This peer.
     pub fn of(peer: Peer) -> PlainPeer
-        ensures { result ≡ plain_peer peer }
+        ensures plain { result ≡ plain_peer peer }
+        // Nothing of it is lost.
+        ensures back { peer_of result ≡ peer }
     {
-        let [_, _, _, _, _, _, _, _, _, _, _, _, a, b, c, d] = peer.address;
+        let bytes = peer.address;
         PlainPeer {
-            address: [a, b, c, d],
             port: peer.port,
+            scope: peer.scope,
+            bytes,
         }
+    }
+}
+
+impl PlainId {
+    /// This id. Of one of more than 64 bytes, which no token has, nothing is told.
+    pub fn of(id: &[u8]) -> PlainId
+        ensures { result ≡ plain_id id.now }
+    {
+        let mut bytes = [0; 64];
+        let length = if fill(&mut bytes, id) {
+            id.len() as u8
+        } else {
+            0
+        };
+        PlainId { length, bytes }
+    }
+}
+
+impl PlainEtag {
+    /// This ETag, or none.
+    pub fn of(etag: Option<[u8; 8]>) -> PlainEtag
+        ensures { result ≡ plain_etag etag }
+    {
+        match etag {
+            Some(bytes) => PlainEtag { length: 8, bytes },
+            None => PlainEtag {
+                length: 0,
+                bytes: [0; 8],
+            },
+        }
+    }
+}
+
+impl PlainValue {
+    /// Refuses a size that is neither the whole one nor that without the ETag.
+    pub fn sized(&self) -> Result<(), Outcome>
+        ensures ok { OnOk result (IsValueSize self.now.size) }
+        ensures err { IfErr result (λ outcome. (outcome ≡ BadArgument) × ¬ IsValueSize self.now.size) }
+    {
+        sized_either(self.size, size_of::<PlainValue>(), VALUE_WITHOUT_ETAG)
+    }
+}
+
+impl PlainServed {
+    /// Refuses a size that is neither the whole one nor that without token and ETag.
+    pub fn sized(&self) -> Result<(), Outcome>
+        ensures ok { OnOk result (IsServedSize self.now.size) }
+        ensures err { IfErr result (λ outcome. (outcome ≡ BadArgument) × ¬ IsServedSize self.now.size) }
+    {
+        sized_either(self.size, size_of::<PlainServed>(), SERVED_WITHOUT_TOKEN)
+    }
+}
+
+impl PlainRefused {
+    /// Refuses a size that is neither the whole one nor that without the token.
+    pub fn sized(&self) -> Result<(), Outcome>
+        ensures ok { OnOk result (IsRefusedSize self.now.size) }
+        ensures err { IfErr result (λ outcome. (outcome ≡ BadArgument) × ¬ IsRefusedSize self.now.size) }
+    {
+        sized_either(self.size, size_of::<PlainRefused>(), REFUSED_WITHOUT_TOKEN)
+    }
+}
+
+impl PlainResult {
+    /// Refuses a size that is neither the whole one nor that without the ETag.
+    pub fn sized(&self) -> Result<(), Outcome>
+        ensures ok { OnOk result (IsResultSize self.now.size) }
+        ensures err { IfErr result (λ outcome. (outcome ≡ BadArgument) × ¬ IsResultSize self.now.size) }
+    {
+        sized_either(self.size, size_of::<PlainResult>(), RESULT_WITHOUT_ETAG)
     }
 }
 

@@ -1,19 +1,19 @@
 //! What a device has, and what its server served and refused.
-ghost use Rattle.std.specs.Prelude.{◌≡◌};
+ghost use Rattle.std.specs.Prelude.{◌≡◌, Some, option_copied};
 ghost use Rattle.std.specs.FinMap as map;
-ghost use Rattle.osc_c.specs.Values.{HasValue, TellsValue, TellsValueAt};
-ghost use Rattle.osc_c.specs.Serving.{HasServed, TellsRefused, TellsServed, bytes_of, first_of, flag_of, method_number_of, plain_refused, plain_served, refused_by_last, served_by_last};
-ghost use Rattle.osc_device.specs.{refused_in, served_in};
+ghost use Rattle.osc_c.specs.Values.{HasValue, TellsValue, TellsValueAt, told_value};
+ghost use Rattle.osc_c.specs.Serving.{HasServed, TellsRefused, TellsServed, bytes_of, first_of, flag_of, method_number_of, reason_of, served_by_last, told_refused, told_served};
+ghost use Rattle.osc_device.specs.{served_in};
 
 use crate::calls::arguments;
 use crate::calls::arguments::format_number;
 use crate::calls::device::DeviceNode;
 use crate::calls::filling::{fill, fill_three};
 use crate::calls::outcome::Outcome;
-use crate::calls::plain::{PlainPeer, PlainRefused, PlainServed, PlainValue};
+use crate::calls::plain::{PlainEtag, PlainId, PlainPeer, PlainRefused, PlainServed, PlainValue};
 use osc_device::{Refused, Served};
 use osc_model::{Path, Resource, Step};
-use osc_tree::Tree;
+use osc_tree::{Tree, etag};
 use std::alloc::Global;
 
 /// What is at a path of these resources.
@@ -30,14 +30,22 @@ fn tell_value(tree: &Tree, path: &Path, payload: &mut [u8], value: &mut PlainVal
 fn tell_resource(resource: &Resource, payload: &mut [u8], value: &mut PlainValue) -> Outcome
     ensures { HasValue resource.now (record { payload = payload.old; value = value.old }) result (record { payload = payload.new; value = value.new }) }
 {
-    *value = PlainValue {
-        format: format_number(resource.format),
-        length: resource.payload.len(),
-    };
+    tell_numbers_of(resource, value);
     if fill(payload, resource.payload.as_slice()) {
         Outcome::Done
     } else {
         Outcome::TooShort
+    }
+}
+
+/// The numbers of a resource, and its ETag where the struct has room for it: member by member, since a struct without an ETag ends before it.
+fn tell_numbers_of(resource: &Resource, value: &mut PlainValue)
+    ensures { value.new ≡ told_value resource.now value.old }
+{
+    value.format = format_number(resource.format);
+    value.length = resource.payload.len();
+    if value.size == size_of::<PlainValue>() {
+        value.etag = PlainEtag::of(Some(etag(resource)));
     }
 }
 
@@ -110,27 +118,48 @@ fn code_of(served: &Served<'_>) -> u8
     served.reply.code.0
 }
 
-/// The numbers of what was served.
-fn numbers(served: &Served<'_>) -> PlainServed
-    ensures { result ≡ plain_served served.now }
+/// The ETag of the reply.
+#[tactic(auto, using(crate::proofs::ServedParts::reply_of))]
+fn etag_of(served: &Served<'_>) -> Option<[u8; 8]>
+    ensures { result ≡ served.now.reply.etag }
 {
-    PlainServed {
-        method: method_of(served),
-        code: code_of(served),
-        kid: kid_of(served),
-        has_context: has_context(served),
-        number: number_of(served),
-        path_length: path_of(served).len(),
-        payload_length: served.payload().len(),
-        context_length: context_of(served).len(),
+    served.reply.etag
+}
+
+/// The id of the token that made the context, or nothing.
+#[tactic(auto, using(crate::proofs::ServedParts::token_of))]
+fn token_of<'a>(served: &'a Served<'_>) -> &'a [u8]
+    ensures { result.now ≡ bytes_of served.now.token }
+{
+    match served.token {
+        Some(id) => id,
+        None => &[],
+    }
+}
+
+/// The numbers of what was served, and token and ETag where the struct has room for them: member by member, since one without them ends before.
+fn tell_numbers(from: &Served<'_>, served: &mut PlainServed)
+    ensures { served.new ≡ told_served from.now served.old }
+{
+    served.method = method_of(from);
+    served.code = code_of(from);
+    served.kid = kid_of(from);
+    served.has_context = has_context(from);
+    served.number = number_of(from);
+    served.path_length = path_of(from).len();
+    served.payload_length = from.payload().len();
+    served.context_length = context_of(from).len();
+    if served.size == size_of::<PlainServed>() {
+        served.token = PlainId::of(token_of(from));
+        served.etag = PlainEtag::of(etag_of(from));
     }
 }
 
 /// What was served: its numbers, and its bytes where they have room.
 fn tell_served(from: &Served<'_>, served: &mut PlainServed, room: &mut [u8]) -> Outcome
-    ensures { HasServed from.now room.old result served.new room.new }
+    ensures { HasServed from.now served.old room.old result served.new room.new }
 {
-    *served = numbers(from);
+    tell_numbers(from, served);
     if fill_three(room, path_of(from), from.payload(), context_of(from)) {
         Outcome::Done
     } else {
@@ -150,28 +179,57 @@ fn tell_step(step: &Step, served: &mut PlainServed, room: &mut [u8]) -> Outcome
 
 /// What a step refused.
 fn tell_refused(step: &Step, refused: &mut PlainRefused) -> Outcome
-    ensures { TellsRefused (refused_in step.now) refused.old result refused.new }
+    ensures { TellsRefused (Some step.now) refused.old result refused.new }
 {
     match Refused::in_step(step) {
         Some(from) => {
-            *refused = refused_numbers(from);
+            tell_refusal(from, refused);
             Outcome::Done
         }
         None => Outcome::Nothing,
     }
 }
 
-/// The numbers of what was refused.
-fn refused_numbers(refused: Refused) -> PlainRefused
-    ensures { result ≡ plain_refused (refused.from, refused.why) }
+/// The numbers of what was refused, and its token where the struct has room for it: member by member, since one without it ends before.
+fn tell_refusal(from: Refused<'_>, refused: &mut PlainRefused)
+    ensures { refused.new ≡ told_refused (from.entry.from, from.entry.why) (option_copied from.entry.token) refused.old }
 {
-    PlainRefused {
-        from: PlainPeer::of(refused.from),
-        code: refused.why.code.0,
-        reason: match refused.why.reason {
-            Some(reason) => reason,
-            None => 0,
-        },
+    refused.from = PlainPeer::of(from.from);
+    refused.code = from.why.code.0;
+    refused.reason = reason(from.why.reason);
+    if refused.size == size_of::<PlainRefused>() {
+        refused.has_token = flag(from.token);
+        refused.token = PlainId::of(bytes(from.token));
+    }
+}
+
+/// The number of a reason; 0 for none.
+fn reason(number: Option<u8>) -> u8
+    ensures { result ≡ reason_of number }
+{
+    match number {
+        Some(number) => number,
+        None => 0,
+    }
+}
+
+/// Whether there are bytes.
+fn flag(bytes: Option<&[u8]>) -> u8
+    ensures { result ≡ flag_of (option_copied bytes.entry) }
+{
+    match bytes {
+        Some(_) => 1,
+        None => 0,
+    }
+}
+
+/// The bytes, or nothing.
+fn bytes(bytes: Option<&[u8]>) -> &[u8]
+    ensures { result.now ≡ bytes_of (option_copied bytes.entry) }
+{
+    match bytes {
+        Some(bytes) => bytes,
+        None => &[],
     }
 }
 
@@ -208,7 +266,7 @@ impl DeviceNode {
 
     /// The request that the last step refused.
     pub fn refused(&self, refused: &mut PlainRefused) -> Outcome
-        ensures { TellsRefused (refused_by_last self.now.last) refused.old result refused.new }
+        ensures { TellsRefused self.now.last.step refused.old result refused.new }
     {
         match self.last.step() {
             Some(step) => tell_refused(step, refused),

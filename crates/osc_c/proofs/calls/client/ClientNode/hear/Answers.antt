@@ -15,7 +15,7 @@ returns-in-Ok g c = inl (
     c.in-Ok.step,
     (λ draw.
         subst (λ (from : Peer). IsStep g.A.Ciphers.is_sealing c.args.self.now.client (Came (record { at = c.args.now; from = from; draw = draw; what = c.args.bytes.now })) c.in-Ok.step
-        c.on_datagram.new.self) c.peer.ensures (record { makes = c.in-Ok.ensures.heard draw; kind = c.in-Ok.ensures.kind })),
+        c.on_datagram.new.self) c.peer.ensures.peer (record { makes = c.in-Ok.ensures.heard draw; kind = c.in-Ok.ensures.kind })),
     c.of.ensures,
   ),
 )
@@ -26,5 +26,5 @@ returns-in-Err g c = inr (
     refl,
     ap (λ (client : State). let node : ClientNode = record { client = client; last = c.args.self.now.last } in node) c.in-Err.ensures.err,
   ),
-  subst (λ (from : Peer). AnswersOrReads c.args.self.now c.args.now from c.args.bytes.now) c.peer.ensures c.in-Err.ensures.needs_memory,
+  subst (λ (from : Peer). AnswersOrReads c.args.self.now c.args.now from c.args.bytes.now) c.peer.ensures.peer c.in-Err.ensures.needs_memory,
 )

@@ -13,7 +13,7 @@ returns-in-Ok g c =
     let from_there =
     subst (λ (from : Peer). HasHeard g.A.Ciphers.is_sealing c.args.self.now.device
     (record { at = c.args.now; from = from; draw = c.draw-draw.result; what = c.args.bytes.now }) c.in-Ok.step c.on_datagram.new.self)
-    c.peer.ensures c.in-Ok.ensures.0 in
+    c.peer.ensures.peer c.in-Ok.ensures.0 in
     let heard =
     subst (λ (draw : Draw). HasHeard g.A.Ciphers.is_sealing c.args.self.now.device
     (record { at = c.args.now; from = peer_of c.args.from.now; draw = draw; what = c.args.bytes.now }) c.in-Ok.step c.on_datagram.new.self)
@@ -28,5 +28,5 @@ returns-in-Err g c = inr (
   ),
   subst (λ (from : Peer). ServerTakesMemory c.args.self.now.device.server
       (record { at = c.args.now; from = from; draw = draw_of c.args.draw.now; what = c.args.bytes.now }))
-      c.peer.ensures c.in-Err.ensures.1.1,
+      c.peer.ensures.peer c.in-Err.ensures.1.1,
 )

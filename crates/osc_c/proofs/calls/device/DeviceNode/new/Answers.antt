@@ -24,7 +24,7 @@ returns-in-Ok-clause-ok g c =
     record {
       parts = c.in_ok-parts.parts;
       token = c.in_ok-own.own;
-      fits = (c.in_ok-sized_as_settings.ensures.ok, c.in_ok-audience.ensures.ok.1, c.in_ok-rules.ensures.ok.1);
+      fits = (c.in_ok-sized.ensures.ok, c.in_ok-audience.ensures.ok.1, c.in_ok-rules.ensures.ok.1);
       are_parts = subst (λ (rules : Rules). AreParts (device_given c.args.settings.now) rules c.in_ok-parts.parts) c.in_ok-rules.ensures.ok.0 c.in_ok-parts.ensures.ok;
       is_token = c.in_ok-own.ensures.ok;
       begun = c.in-Ok.ensures.begun;
@@ -35,19 +35,19 @@ returns-in-Ok-clause-ok g c =
 pub returns-in-Err-clause-err : goal.returns-in-Err-clause-err
 returns-in-Err-clause-err g c =
     let are = subst (λ (rules : Rules). AreParts (device_given c.args.settings.now) rules c.in_ok-parts.parts) c.in_ok-rules.ensures.ok.0 c.in_ok-parts.ensures.ok in
-    let fits : FitsDevice (device_given c.args.settings.now) = (c.in_ok-sized_as_settings.ensures.ok, c.in_ok-audience.ensures.ok.1, c.in_ok-rules.ensures.ok.1) in
+    let fits : FitsDevice (device_given c.args.settings.now) = (c.in_ok-sized.ensures.ok, c.in_ok-audience.ensures.ok.1, c.in_ok-rules.ensures.ok.1) in
     inr (inr (c.in_ok-parts.parts, c.in_ok-own.own, c.in-Err.error, fits, are, c.in_ok-own.ensures.ok, c.in-Err.ensures.refused, c.refused.ensures))
 
 pub returns-in_err-parts-clause-err : goal.returns-in_err-parts-clause-err
 returns-in_err-parts-clause-err g c =
     let given = device_given c.args.settings.now in
-    let fits : FitsDevice given = (c.in_ok-sized_as_settings.ensures.ok, c.in_ok-audience.ensures.ok.1, c.in_ok-rules.ensures.ok.1) in
+    let fits : FitsDevice given = (c.in_ok-sized.ensures.ok, c.in_ok-audience.ensures.ok.1, c.in_ok-rules.ensures.ok.1) in
     refused given c.args.draw.now.bytes c.from_residual-in_err-parts.result c.in_err-parts.field-0.0 c.from_residual-in_err-parts.ensures.1
     (unread given c.args.draw.now.bytes _ _ fits (λ free. inl free) c.in_err-parts.ensures.err)
 
 pub returns-in_err-own-clause-err : goal.returns-in_err-own-clause-err
 returns-in_err-own-clause-err g c =
     let given = device_given c.args.settings.now in
-    let fits : FitsDevice given = (c.in_ok-sized_as_settings.ensures.ok, c.in_ok-audience.ensures.ok.1, c.in_ok-rules.ensures.ok.1) in
+    let fits : FitsDevice given = (c.in_ok-sized.ensures.ok, c.in_ok-audience.ensures.ok.1, c.in_ok-rules.ensures.ok.1) in
     refused given c.args.draw.now.bytes c.from_residual-in_err-own.result c.in_err-own.field-0.0 c.from_residual-in_err-own.ensures.1
     (unread given c.args.draw.now.bytes _ _ fits (λ own. inr own) c.in_err-own.ensures.err)

@@ -15,7 +15,7 @@ returns-in-Ok c = inl (
     c.in-Ok.step,
     subst (λ (from : Peer). Hears (proxy_of c.args.self.now.forwarding)
         (record { at = c.args.now; from = from; draw = draw_of c.args.draw.now; what = c.args.bytes.now }) c.in-Ok.step (proxy_of c.hear.new.self))
-        c.peer.ensures c.in-Ok.ensures.heard,
+        c.peer.ensures.peer c.in-Ok.ensures.heard,
     c.in-Ok.ensures.runs,
     c.of.ensures,
   ),
@@ -28,5 +28,5 @@ returns-in-Err c = inr (
     ap (λ (forwarding : Forwarding). let node : ProxyNode = record { forwarding = forwarding; last = c.args.self.now.last } in node) c.in-Err.ensures.err,
   ),
   subst (λ (from : Peer). HearsInMemory c.args.self.now.forwarding (record { at = c.args.now; from = from; draw = draw_of c.args.draw.now; what = c.args.bytes.now }))
-      c.peer.ensures c.in-Err.ensures.needs_memory,
+      c.peer.ensures.peer c.in-Err.ensures.needs_memory,
 )
