@@ -1,5 +1,6 @@
 //! One UDP socket, at an address of IPv4 or IPv6.
 ghost use Rattle.std.specs.Prelude.{◌≡◌, ◌≤◌, ◌↔◌, IfOk, IfSome, IsSome, true, option_map};
+ghost use Rattle.std.specs.Io.{WritesAtMost};
 ghost use Rattle.std.specs.Net.Addr.{ipv4_octets, ipv6_octets};
 ghost use Rattle.std.specs.Net.Socket.{v4_ip, v4_port, v6_flowinfo, v6_ip, v6_port, v6_scope_id};
 ghost use Rattle.osc_model.specs.Peer.{octets_of};
@@ -40,7 +41,9 @@ pub(crate) struct BoundSocket {
 
 impl BoundSocket {
     /// A socket at this address, of which a receive waits for at most 10 milliseconds.
-    pub fn bind<N: Net>(net: &N, at: Peer) -> io::Result<BoundSocket> {
+    pub fn bind<N: Net>(net: &N, at: Peer) -> io::Result<BoundSocket>
+        ensures { IfOk result (λ socket. socket.family ≡ spec.family_of at) }
+    {
         let family = family_of(at);
         let socket = UdpSocket::bind(net, socket_address(family, at)?)?;
         socket.set_read_timeout(Some(Duration::from_millis(u64::from(WAIT_MILLIS))))?;
@@ -79,7 +82,9 @@ impl BoundSocket {
     }
 
     /// Sends a datagram. To the peer that the socket is connected to no address is named.
-    pub fn send(&self, connected: Option<Peer>, to: Peer, bytes: &[u8]) -> io::Result<usize> {
+    pub fn send(&self, connected: Option<Peer>, to: Peer, bytes: &[u8]) -> io::Result<usize>
+        ensures { WritesAtMost result bytes.now }
+    {
         if connected == Some(to) {
             self.socket.send(bytes)
         } else {

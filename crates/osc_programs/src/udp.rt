@@ -1,7 +1,8 @@
 //! A port over UDP sockets.
-ghost use Rattle.std.specs.Prelude.{⊤, ◌≡◌, ◌<◌, ◌≤◌, ◌+◌, List, length, IfOk, IfSome, None, OnErr, OnOk, Option, Some, if◌then◌else◌, option_map};
+ghost use Rattle.std.specs.Prelude.{⊤, ◌≡◌, ◌<◌, ◌≤◌, ◌+◌, ◌↔◌, List, length, map, IfErr, IfOk, IfSome, IsSome, None, OnErr, OnOk, Option, Some, if◌then◌else◌, option_map};
+ghost use Rattle.std.specs.Io.{WritesAtMost};
 ghost use Rattle.osc_model.specs.declared.node.Peer.{Peer as AnyPeer};
-ghost use Rattle.osc_programs.specs.Heard.{with_heard};
+ghost use Rattle.osc_programs.specs.Heard.{none_heard, with_heard};
 ghost use Rattle.osc_programs.specs.Sockets as spec;
 ghost use Rattle.osc_programs.specs.UdpPorts as ports;
 ghost use Rattle.osc_programs.specs.declared.udp.Why.{Why as AnyWhy};
@@ -110,6 +111,7 @@ impl UdpPort {
     ) -> Result<UdpPort, Why>
         ensures failures { IfOk result (λ port. port.failures ≡ 0) }
         ensures peer { IfOk result (λ port. port.peer ≡ peer) }
+        ensures families { IfOk result (λ port. map (λ socket. socket.family) port.sockets.items ≡ map spec.family_of at.now) }
     {
         let sockets = bound(alloc, net, at, peer)?;
         let several = several_of(alloc, &sockets)?;
@@ -190,7 +192,9 @@ impl UdpPort {
         }
     }
 
-    fn send_to(&self, to: Peer, bytes: &[u8]) -> io::Result<usize> {
+    fn send_to(&self, to: Peer, bytes: &[u8]) -> io::Result<usize>
+        ensures { WritesAtMost result bytes.now }
+    {
         match self.socket_to(to) {
             Some(socket) => socket.send(self.peer, to, bytes),
             None => Err(io::Error::from(ErrorKind::AddrNotAvailable)),
@@ -215,7 +219,10 @@ impl UdpPort {
 
 impl Several {
     // Nothing is noted yet.
-    fn of(alloc: Global, sockets: &[BoundSocket]) -> Result<Several, AllocError> {
+    fn of(alloc: Global, sockets: &[BoundSocket]) -> Result<Several, AllocError>
+        ensures from { IfOk result (λ several. several.from ≡ 0) }
+        ensures ways { IfOk result (λ several. several.ways ≡ none_heard) }
+    {
         let mut asked = Vec::new(alloc);
         for socket in sockets {
             asked.push(pollfd {
@@ -342,7 +349,9 @@ fn bound<N: Net>(
     net: &N,
     at: &[Peer],
     peer: Option<Peer>,
-) -> Result<Vec<BoundSocket>, Why> {
+) -> Result<Vec<BoundSocket>, Why>
+    ensures { IfOk result (λ sockets. map (λ socket. socket.family) sockets.items ≡ map spec.family_of at.now) }
+{
     let mut sockets = Vec::new(alloc);
     for one in at {
         let socket = bind(net, *one)?;
@@ -356,7 +365,10 @@ fn bound<N: Net>(
     Ok(sockets)
 }
 
-fn bind<N: Net>(net: &N, at: Peer) -> Result<BoundSocket, Why> {
+fn bind<N: Net>(net: &N, at: Peer) -> Result<BoundSocket, Why>
+    ensures family { IfOk result (λ socket. socket.family ≡ spec.family_of at) }
+    ensures told { IfErr result (λ why. why.peer ≡ Some at) }
+{
     match BoundSocket::bind(net, at) {
         Ok(socket) => Ok(socket),
         Err(error) => Err(Why {
@@ -367,7 +379,9 @@ fn bind<N: Net>(net: &N, at: Peer) -> Result<BoundSocket, Why> {
     }
 }
 
-fn connect(socket: &BoundSocket, peer: Peer) -> Result<(), Why> {
+fn connect(socket: &BoundSocket, peer: Peer) -> Result<(), Why>
+    ensures { IfErr result (λ why. why.peer ≡ Some peer) }
+{
     match socket.connect(peer) {
         Ok(()) => Ok(()),
         Err(error) => Err(Why {
@@ -379,7 +393,10 @@ fn connect(socket: &BoundSocket, peer: Peer) -> Result<(), Why> {
 }
 
 // What is noted of these sockets, where they are several.
-fn several_of(alloc: Global, sockets: &[BoundSocket]) -> Result<Option<Several>, Why> {
+fn several_of(alloc: Global, sockets: &[BoundSocket]) -> Result<Option<Several>, Why>
+    ensures several { IfOk result (λ several. IsSome several ↔ (2 ≤ length sockets.now)) }
+    ensures none_heard { IfOk result (λ several. IfSome several (λ its. its.ways ≡ none_heard)) }
+{
     if sockets.len() < 2 {
         return Ok(None);
     }
