@@ -6,7 +6,7 @@ use Rattle.osc_model.specs.declared.node.Draw.{Draw}
 use Rattle.osc_model.specs.declared.node.Moment.{Moment}
 use Rattle.osc_model.specs.declared.node.Peer.{Peer}
 use Rattle.osc_model.specs.declared.step.Step.{Step}
-use Rattle.osc_message.specs.{after_tick, fresh}
+use Rattle.osc_message.specs.{after_tick, fresh_with}
 use Rattle.osc_ccm.specs.{Sealings}
 use Rattle.osc_client.specs.{acts_at, restarted, IsStep as IsOwnStep}
 use Rattle.osc_client.specs.State.{State as Own}
@@ -25,7 +25,7 @@ use Rattle.osc_c.specs.declared.calls.outcome.Outcome.TheVariants.{BadArgument, 
 -- the server starts again without contexts, and the device itself without its own
 abbrev pub restarted_device : State → State
 restarted_device old = record {
-  server = record old.server { desk = record old.server.desk { table = [] }; endpoint = fresh };
+  server = record old.server { desk = record old.server.desk { table = [] }; endpoint = fresh_with old.server.endpoint.pace.more };
   own = restarted old.own;
 }
 

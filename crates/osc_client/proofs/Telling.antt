@@ -85,32 +85,32 @@ module _ (old : State) (now : Moment) where
   begins_silently to m nonce plain = record { out = one_plain (datagram to m) (unprotected m refl plain); seals = refl; opens = refl; answers = λ reply e. cc }
 
   tick_out : (base earlier all : List Open) → ((m : Open) → Contains all m → Contains old.endpoint.sending m)
-      → All (λ it. NeedsNoSeal old now it) (filter_map datagram_of (dues now base earlier all))
+      → All (λ it. NeedsNoSeal old now it) (filter_map datagram_of (dues old.endpoint.pace now base earlier all))
   tick_out base earlier [] within = none_plain
   tick_out base earlier (m ∷ all) within =
-      by (due_of now base earlier m m.sent) (tick_out base (earlier ++ m ∷ []) all (λ x has. within x (Contains-append_right (m ∷ []) all x has)))
+      by (due_of old.endpoint.pace now base earlier m m.sent) (tick_out base (earlier ++ m ∷ []) all (λ x has. within x (Contains-append_right (m ∷ []) all x has)))
     where
       rest : List Datagram
-      rest = filter_map datagram_of (dues now base (earlier ++ m ∷ []) all)
+      rest = filter_map datagram_of (dues old.endpoint.pace now base (earlier ++ m ∷ []) all)
 
       by : (due : Due) → All (λ it. NeedsNoSeal old now it) rest
-          → All (λ it. NeedsNoSeal old now it) (filter_map datagram_of ((m, due) ∷ dues now base (earlier ++ m ∷ []) all))
+          → All (λ it. NeedsNoSeal old now it) (filter_map datagram_of ((m, due) ∷ dues old.endpoint.pace now base (earlier ++ m ∷ []) all))
       by Keep up = up
       by Send up = All-cons (λ it. NeedsNoSeal old now it) (record { to = m.to; bytes = m.bytes }) rest (open_before m (within m (All-head (Contains (m ∷ all)) m all (All-contains_itself (m ∷ all)))) refl) up
       by GiveUp up = up
 
-  all_out : All (λ it. NeedsNoSeal old now it) (tick_sends now old.endpoint.sending)
+  all_out : All (λ it. NeedsNoSeal old now it) (tick_sends old.endpoint.pace now old.endpoint.sending)
   all_out = tick_out old.endpoint.sending [] old.endpoint.sending (λ m has. has)
 
-  all_going : (lost : Bool) (out : List Datagram) → GoesOut lost (tick_sends now old.endpoint.sending) out → All (λ it. NeedsNoSeal old now it) out
+  all_going : (lost : Bool) (out : List Datagram) → GoesOut lost (tick_sends old.endpoint.pace now old.endpoint.sending) out → All (λ it. NeedsNoSeal old now it) out
   all_going false out is = subst (All (λ it. NeedsNoSeal old now it)) (sym is) all_out
   all_going true out is = subst (All (λ it. NeedsNoSeal old now it)) (sym is) none_plain
 
-  pub ticks_silently : (lost : Bool) (out : List Datagram) → GoesOut lost (tick_sends now old.endpoint.sending) out
+  pub ticks_silently : (lost : Bool) (out : List Datagram) → GoesOut lost (tick_sends old.endpoint.pace now old.endpoint.sending) out
       → SealsNothing old now (record { out = out; notes = quiet_or_lost lost })
   ticks_silently lost out goes = record { out = all_going lost out goes; seals = refl; opens = refl; answers = λ reply e. cc }
 
-  pub times_out_silently : (lost : Bool) (out : List Datagram) → GoesOut lost (tick_sends now old.endpoint.sending) out
+  pub times_out_silently : (lost : Bool) (out : List Datagram) → GoesOut lost (tick_sends old.endpoint.pace now old.endpoint.sending) out
       → SealsNothing old now (record { out = out; notes = record quiet { result = Some result.TimedOut; lost = lost } })
   times_out_silently lost out goes = silent_end out result.TimedOut lost tt (all_going lost out goes)
 

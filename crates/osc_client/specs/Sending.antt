@@ -14,7 +14,7 @@ use Rattle.osc_coap.specs.{bare, payload_of, Spells, spelling}
 use Rattle.osc_coap.specs.Message.{Message}
 use Rattle.osc_coap.specs.declared.kind.Kind.TheVariants.{Confirmable}
 use Rattle.osc_options.specs.{content_format, uri_path, with_request}
-use Rattle.osc_message.specs.{Open, with_open, EndpointState, own_id, id_taken, after_tick, fresh, acts, ticked, tick_sends, timeout_of, GoesOut, datagram}
+use Rattle.osc_message.specs.{with_open, EndpointState, own_id, id_taken, after_tick, fresh_with, acts, ticked, tick_sends, timeout_of, GoesOut, datagram}
 use Rattle.osc_context.specs.{greatest_number}
 use Rattle.osc_ccm.specs.{Sealings, Tags}
 use Rattle.osc_protect.specs.{IsProtectedRequest, longest_message, plain_bytes, request_length}
@@ -33,7 +33,9 @@ use Rattle.osc_client.specs.declared.waiting.Waiting.{Waiting}
 -- the message layer once this confirmable message was made and went out
 abbrev pub sent : EndpointState → Moment → Peer → Draw → Message → EndpointState
 sent endpoint now to draw message =
-    record (id_taken draw endpoint) { sending = with_open now to (own_id draw endpoint.next_id) (timeout_of draw) (spelling message) endpoint.sending }
+    record (id_taken draw endpoint) {
+      sending = with_open endpoint.pace now to (own_id draw endpoint.next_id) (timeout_of draw) (spelling message) endpoint.sending;
+    }
 
 abbrev pub waits : EndpointState → Moment → Draw → Awaited → Waiting
 waits endpoint now draw what = record { token = token_drawn draw; id = own_id draw endpoint.next_id; until = now.ms + exchange_lifetime; what = what }
@@ -102,30 +104,30 @@ abbrev pub is_over_by : Moment → Bool → Bool → Option Waiting → Bool
 is_over_by now acknowledged none_left None = false
 is_over_by now acknowledged none_left (Some waiting) = if acknowledged then nat_le waiting.until now.ms else none_left
 
-abbrev pub is_over : Moment → List Open → Option Waiting → Bool
-is_over now sending waiting = is_over_by now (length sending == 0) (length (ticked now sending) == 0) waiting
+abbrev pub is_over : Moment → EndpointState → Option Waiting → Bool
+is_over now endpoint waiting = is_over_by now (length endpoint.sending == 0) (length (ticked endpoint.pace now endpoint.sending) == 0) waiting
 
 -- What is due goes out, all of it, or, as the notes say then, is lost for lack of memory; what is over ends.
 abbrev pub TicksBy : Bool → State → Moment → Step → State → Type 0
 TicksBy false old now step new =
-    GoesOut step.notes.lost (tick_sends now old.endpoint.sending) step.out
+    GoesOut step.notes.lost (tick_sends old.endpoint.pace now old.endpoint.sending) step.out
     × (step.notes ≡ quiet_or_lost step.notes.lost)
     × (new ≡ record old { endpoint = after_tick now old.endpoint })
 TicksBy true old now step new =
-    GoesOut step.notes.lost (tick_sends now old.endpoint.sending) step.out
+    GoesOut step.notes.lost (tick_sends old.endpoint.pace now old.endpoint.sending) step.out
     × (step.notes ≡ record quiet { result = Some TimedOut; lost = step.notes.lost })
     × (new ≡ record old { waiting = None; endpoint = after_tick now old.endpoint })
 
 abbrev pub Ticks : State → Moment → Step → State → Type 0
-Ticks old now step new = TicksBy (is_over now old.endpoint.sending old.waiting) old now step new
+Ticks old now step new = TicksBy (is_over now old.endpoint old.waiting) old now step new
 
 -- whether a tick does anything but let notes go: something is due, or what waits is over
 abbrev pub acts_at : State → Moment → Bool
-acts_at old now = acts now old.endpoint.sending || is_over now old.endpoint.sending old.waiting
+acts_at old now = acts old.endpoint.pace now old.endpoint.sending || is_over now old.endpoint old.waiting
 
 -- it starts again: the grant and the way to the server stay alone
 abbrev pub restarted : State → State
-restarted old = record old { context = None; waiting = None; endpoint = fresh }
+restarted old = record old { context = None; waiting = None; endpoint = fresh_with old.endpoint.pace.more }
 
 -- ---- a protected request (RFC 8613 section 8.1)
 

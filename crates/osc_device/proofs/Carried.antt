@@ -43,7 +43,7 @@ ticked_by false old now step new it straight = subst IsStraight (sym it.2) strai
 ticked_by true old now step new it straight = subst IsStraight (sym it.2) straight
 
 pub ticked_straight : (old : Client) (now : Moment) (step : Step) (new : Client) → Ticks old now step new → IsStraight old → IsStraight new
-ticked_straight old now step new it straight = ticked_by (is_over now old.endpoint.sending old.waiting) old now step new it.ticks straight
+ticked_straight old now step new it straight = ticked_by (is_over now old.endpoint old.waiting) old now step new it.ticks straight
 
 pub begun_straight : (old : Client) (now : Moment) (draw : Draw) (step : Step) (new : Client) → Exchanges old now draw step new → IsStraight old → IsStraight new
 begun_straight old now draw step new (Exchanges.busy waits refused) straight = subst IsStraight (sym refused.kept) straight

@@ -4,6 +4,7 @@ use Rattle.std.specs.List.{filter_map}
 use Rattle.osc_model.specs.declared.node.Moment.{Moment}
 use Rattle.osc_message.specs.declared.due.Due.{Due}
 use Rattle.osc_message.specs.declared.due.Due.TheVariants.{Keep, Send, GiveUp}
+use Rattle.osc_message.specs.Pace.{Pace}
 use Rattle.osc_message.specs.{Open, GoesOut, due_of, dues, datagram_of, tick_sends}
 use Rattle.osc_model.specs.declared.step.Datagram.{Datagram}
 
@@ -14,15 +15,15 @@ one_more message Keep pairs n few = omega (arith, few)
 one_more message Send pairs n few = omega (arith, few)
 one_more message GiveUp pairs n few = omega (arith, few)
 
-few_of : (now : Moment) (all earlier later : List Open) → length (filter_map datagram_of (dues now all earlier later)) ≤ length later
-few_of now all earlier [] = omega arith
-few_of now all earlier (message ∷ later) =
-    one_more message (due_of now all earlier message message.sent) (dues now all (earlier ++ message ∷ []) later) (length later)
-    (few_of now all (earlier ++ message ∷ []) later)
+few_of : (pace : Pace) (now : Moment) (all earlier later : List Open) → length (filter_map datagram_of (dues pace now all earlier later)) ≤ length later
+few_of pace now all earlier [] = omega arith
+few_of pace now all earlier (message ∷ later) =
+    one_more message (due_of pace now all earlier message message.sent) (dues pace now all (earlier ++ message ∷ []) later) (length later)
+    (few_of pace now all (earlier ++ message ∷ []) later)
 
-pub few_are_sent : (now : Moment) (all : List Open) → length (tick_sends now all) ≤ length all
-few_are_sent now all = few_of now all [] all
+pub few_are_sent : (pace : Pace) (now : Moment) (all : List Open) → length (tick_sends pace now all) ≤ length all
+few_are_sent pace now all = few_of pace now all [] all
 
-pub going_few : (now : Moment) (all : List Open) (lost : Bool) (out : List Datagram) → GoesOut lost (tick_sends now all) out → length out ≤ length all
-going_few now all false out is = omega (arith, few_are_sent now all, ap length is)
-going_few now all true out is = omega (arith, ap length is)
+pub going_few : (pace : Pace) (now : Moment) (all : List Open) (lost : Bool) (out : List Datagram) → GoesOut lost (tick_sends pace now all) out → length out ≤ length all
+going_few pace now all false out is = omega (arith, few_are_sent pace now all, ap length is)
+going_few pace now all true out is = omega (arith, ap length is)

@@ -1,10 +1,11 @@
 -- A tick at which nothing is due does nothing.
-use Rattle.std.proofs.Common.{◌≡◌, false, not, List, [], ◌∷◌, ◌++◌, map, refl, ap, ◌∙◌, Option, None}
+use Rattle.std.proofs.Common.{◌≡◌, true, false, not, List, [], ◌∷◌, ◌++◌, map, refl, ap, ◌∙◌, Option, None}
 use Rattle.std.specs.List.{filter_map, cons_option, list_any}
 use Rattle.osc_model.specs.declared.node.Moment.{Moment}
 use Rattle.osc_message.specs.declared.due.Due.{Due}
 use Rattle.osc_message.specs.declared.due.Due.TheVariants.{Keep, Send, GiveUp}
-use Rattle.osc_message.specs.{Open, dues, dues_of, datagram_of, given_up_of, after, ticked, tick_sends, tick_gives_up, is_kept, acts}
+use Rattle.osc_message.specs.Pace.{Pace}
+use Rattle.osc_message.specs.{Open, dues, dues_of, datagram_of, given_up_of, after, ticked, tick_sends, tick_gives_up, tick_repeats, repeated_to, is_kept, acts}
 
 -- the outcome of messages that are kept, where nothing comes from one
 none_of : {X : Type 0} (f : Open × Due → Option X) → ((message : Open) → f (message, Keep) ≡ None) → (pairs : List (Open × Due))
@@ -21,15 +22,23 @@ all_stay now ((message, Keep) ∷ pairs) idle = ap (λ rest. message ∷ rest) (
 all_stay now ((message, Send) ∷ pairs) idle = absurd (cc)
 all_stay now ((message, GiveUp) ∷ pairs) idle = absurd (cc)
 
-messages : (now : Moment) (all earlier later : List Open) → map (λ pair. pair.0) (dues now all earlier later) ≡ later
-messages now all earlier [] = refl
-messages now all earlier (message ∷ later) = ap (λ rest. message ∷ rest) (messages now all (earlier ++ message ∷ []) later)
+messages : (pace : Pace) (now : Moment) (all earlier later : List Open) → map (λ pair. pair.0) (dues pace now all earlier later) ≡ later
+messages pace now all earlier [] = refl
+messages pace now all earlier (message ∷ later) = ap (λ rest. message ∷ rest) (messages pace now all (earlier ++ message ∷ []) later)
 
-pub idle_sends : (now : Moment) (all : List Open) → acts now all ≡ false → tick_sends now all ≡ []
-idle_sends now all idle = none_of datagram_of (λ message. refl) (dues_of now all) idle
+pub idle_sends : (pace : Pace) (now : Moment) (all : List Open) → acts pace now all ≡ false → tick_sends pace now all ≡ []
+idle_sends pace now all idle = none_of datagram_of (λ message. refl) (dues_of pace now all) idle
 
-pub idle_gives_up : (now : Moment) (all : List Open) → acts now all ≡ false → tick_gives_up now all ≡ []
-idle_gives_up now all idle = none_of given_up_of (λ message. refl) (dues_of now all) idle
+pub idle_gives_up : (pace : Pace) (now : Moment) (all : List Open) → acts pace now all ≡ false → tick_gives_up pace now all ≡ []
+idle_gives_up pace now all idle = none_of given_up_of (λ message. refl) (dues_of pace now all) idle
 
-pub idle_ticked : (now : Moment) (all : List Open) → acts now all ≡ false → ticked now all ≡ all
-idle_ticked now all idle = all_stay now (dues_of now all) idle ∙ messages now all [] all
+pub idle_ticked : (pace : Pace) (now : Moment) (all : List Open) → acts pace now all ≡ false → ticked pace now all ≡ all
+idle_ticked pace now all idle = all_stay now (dues_of pace now all) idle ∙ messages pace now all [] all
+
+pub idle_repeats : (pace : Pace) (now : Moment) (all : List Open) → acts pace now all ≡ false → tick_repeats pace now all ≡ []
+idle_repeats pace now all idle = none_of repeated_to (λ message. refl) (dues_of pace now all) idle
+
+pub not_kept : (due : Due) → (due ≡ Keep → ⊥) → not (is_kept due) ≡ true
+not_kept Keep some = absurd (some refl)
+not_kept Send some = refl
+not_kept GiveUp some = refl

@@ -1,11 +1,11 @@
 pub mod Came
 pub mod Few
-pub mod GivenUp
 pub mod Idle
 pub mod Limits
 pub mod Marks
 pub mod Notes
 pub mod Open
+pub mod Over
 pub mod Peers
 pub mod Places
 pub mod Schedule

@@ -1,6 +1,7 @@
--- The marks of the open messages.
-use Rattle.std.proofs.Common.{◌≡◌, ℕ, ◌+◌, ◌<◌, Bool, true, false, not, cond, ◌||◌, List, [], ◌∷◌, ◌++◌, length, filter, count_by, take, drop, get_or, set, zero, suc, refl, ap, ap₂, sym, ◌∙◌, subst, append_assoc, arith}
+-- The places of the open messages.
+use Rattle.std.proofs.Common.{◌≡◌, ℕ, ◌+◌, ◌<◌, nat_eq, Bool, true, false, not, cond, ◌&&◌, ◌||◌, is_some, List, [], ◌∷◌, ◌++◌, length, filter, count_by, take, drop, get_or, set, zero, suc, refl, ap, ap₂, sym, ◌∙◌, subst, append_assoc, arith}
 use Rattle.std.specs.List.{All, list_any, remove}
+use Rattle.std.proofs.lemmas.Bool.{ne_eqb}
 use Rattle.std.proofs.lemmas.List.Elements.{All-head, All-drop}
 use Rattle.std.proofs.lemmas.List.{append-nil, take_more, drop_more, take-map, drop-map, map-append}
 use Rattle.std.proofs.lemmas.List.Sums.{sum_by-cons}
@@ -8,8 +9,9 @@ use Rattle.osc_model.specs.declared.node.Moment.{Moment}
 use Rattle.osc_model.specs.declared.node.Peer.{Peer}
 use Rattle.osc_message.specs.declared.queued.Queued.{Queued}
 use Rattle.osc_model.specs.{same_peer}
-use Rattle.osc_message.specs.{Open, is_to, is_named, has_open, peers_of, IsBounded, due_of, dues, messages, IsMarkedFor, AreMarked, marked_one, marked}
-use Rattle.osc_message.proofs.Limits.{weight_is, open_push, open_same}
+use Rattle.osc_message.specs.Pace.{Pace}
+use Rattle.osc_message.specs.{Open, IsInOrder, is_to, is_named, is_outstanding, has_open, outstanding, waiting, peers_of, IsBounded, due_of, dues, messages, IsPlacedFor, ArePlaced, HasPlace, IsSoundQueue, place_after, placed_one, placed}
+use Rattle.osc_message.proofs.Limits.{both, count, count_is, count_push, goes_to, waits_for, weight_is, open_push, open_same}
 use Rattle.osc_message.proofs.Peers.{same_peer_equiv, length_peers, weight}
 
 -- ---- what is said of the messages, said of the queue
@@ -17,6 +19,10 @@ use Rattle.osc_message.proofs.Peers.{same_peer_equiv, length_peers, weight}
 pub any_messages : (t : Open → Bool) (xs : List Queued) → list_any t (messages xs) ≡ list_any (λ x. t x.message) xs
 any_messages t [] = refl
 any_messages t (x ∷ xs) = ap (λ b. t x.message || b) (any_messages t xs)
+
+pub count_messages : (t : Open → Bool) (xs : List Queued) → count_by (λ x. t x.message) xs ≡ count t (messages xs)
+count_messages t [] = refl
+count_messages t (x ∷ xs) = sum_by-cons (λ y. cond (t y.message) 1 0) x xs ∙ ap₂ (λ a b. a + b) (weight_is (t x.message)) (count_messages t xs)
 
 pub filter_messages : (t : Open → Bool) (xs : List Queued) → messages (filter (λ x. t x.message) xs) ≡ filter t (messages xs)
 filter_messages t [] = refl
@@ -43,40 +49,68 @@ or_nil : (a : Bool) → (a || false) ≡ a
 or_nil true = refl
 or_nil false = refl
 
--- ---- what the marks say
+-- ---- what the places say
 
-first_from : (xs : List Queued) (i : ℕ) (x : Queued) (later : List Queued) (seen : Bool) → IsMarkedFor x.message.to seen xs → drop i xs ≡ x ∷ later
-    → x.first ≡ not (seen || has_open x.message.to (messages (take i xs)))
-first_from [] zero x later seen marks split = absurd (cc)
-first_from [] (suc i) x later seen marks split = absurd (cc)
-first_from (y ∷ ys) zero x later seen marks split =
+after_is : (p : Peer) (n : ℕ) (m : Open) → place_after p n m ≡ n + weight (is_to p m)
+after_is p n m = by (is_to p m)
+  where
+    by : (b : Bool) → cond b (n + 1) n ≡ n + weight b
+    by true = refl
+    by false = omega arith
+
+place_from : (xs : List Queued) (i : ℕ) (x : Queued) (later : List Queued) (n : ℕ) → IsPlacedFor x.message.to n xs → drop i xs ≡ x ∷ later
+    → x.place ≡ n + count (is_to x.message.to) (messages (take i xs))
+place_from [] zero x later n places split = absurd (cc)
+place_from [] (suc i) x later n places split = absurd (cc)
+place_from (y ∷ ys) zero x later n places split =
     let same : y ≡ x = cc in
     let mine : is_to x.message.to y.message ≡ true = ap (λ z. is_to x.message.to z.message) same ∙ same_peer_equiv.refl x.message.to in
-    sym (ap (λ z. z.first) same) ∙ marks.0 mine ∙ ap not (sym (or_nil seen))
-first_from (y ∷ ys) (suc i) x later seen marks split =
-    first_from ys i x later (seen || is_to x.message.to y.message) marks.1 split
-    ∙ ap not (or_assoc seen (is_to x.message.to y.message) (has_open x.message.to (messages (take i ys))))
+    omega (arith, ap (λ z. z.place) same, places.0 mine)
+place_from (y ∷ ys) (suc i) x later n places split =
+    omega (arith, place_from ys i x later (place_after x.message.to n y.message) places.1 split, after_is x.message.to n y.message)
 
-pub first_at : (xs : List Queued) (i : ℕ) (x : Queued) (later : List Queued) → AreMarked xs → drop i xs ≡ x ∷ later
-    → x.first ≡ not (has_open x.message.to (messages (take i xs)))
-first_at xs i x later marks split = first_from xs i x later false (marks x.message.to) split
+pub place_at : (xs : List Queued) (i : ℕ) (x : Queued) (later : List Queued) → ArePlaced xs → drop i xs ≡ x ∷ later
+    → x.place ≡ count (is_to x.message.to) (messages (take i xs))
+place_at xs i x later places split = omega (arith, place_from xs i x later 0 (places x.message.to) split)
+
+-- behind one that waits none is outstanding
+order_at : (p : Peer) (xs : List Open) (i : ℕ) (x : Open) (later : List Open) → IsInOrder p xs → drop i xs ≡ x ∷ later → is_to p x ≡ true → is_outstanding x ≡ false
+    → count (goes_to p) xs ≡ count (goes_to p) (take i xs)
+order_at p [] zero x later is split to waits = absurd (cc)
+order_at p [] (suc i) x later is split to waits = absurd (cc)
+order_at p (y ∷ ys) zero x later is split to waits =
+    let same : y ≡ x = cc in
+    let mine : (is_to p y && not (is_outstanding y)) ≡ true = rw same (ap₂ (λ a b. a && not b) to waits) in
+    let quiet : (is_to p y && is_outstanding y) ≡ false = rw same (ap₂ (λ a b. a && b) to waits) in
+    omega (arith, ap weight quiet, count_is (goes_to p) ys, is.0 mine)
+order_at p (y ∷ ys) (suc i) x later is split to waits = omega (arith, order_at p ys i x later is.1 split to waits)
+
+pub has_place_at : (pace : Pace) (xs : List Queued) (i : ℕ) (x : Queued) → i < length xs → x ≡ get_or xs i x → IsSoundQueue pace xs → HasPlace (messages xs) (messages (take i xs)) x
+has_place_at pace xs i x inside is sound waits =
+    let p = x.message.to in
+    let rest = drop (i + 1) xs in
+    let split : drop i xs ≡ x ∷ rest = drop_more xs i x inside ∙ ap (λ y. y ∷ rest) (sym is) in
+    let here : drop i (messages xs) ≡ x.message ∷ messages rest = drop-map (λ y. y.message) i xs ∙ ap messages split in
+    let out = order_at p (messages xs) i x.message (messages rest) (sound.sound.limits.in_order p) here (same_peer_equiv.refl p) (ap is_some waits) in
+    let front : count (goes_to p) (take i (messages xs)) ≡ count (goes_to p) (messages (take i xs)) = ap (count (goes_to p)) (take-map (λ y. y.message) i xs) in
+    omega (arith, place_at xs i x rest sound.placed split, both p (messages (take i xs)), out, front, count_is (goes_to p) (messages xs), count_is (waits_for p) (messages (take i xs)))
 
 -- one place of the queue, among what is due
-pub due_at_place : (now : Moment) (xs : List Queued) (i : ℕ) (x : Queued) → i < length xs → x ≡ get_or xs i x
-    → dues now (messages xs) (messages (take i xs)) (messages (drop i xs))
-    ≡ (x.message, due_of now (messages xs) (messages (take i xs)) x.message x.message.sent) ∷ dues now (messages xs) (messages (take (i + 1) xs)) (messages (drop (i + 1) xs))
-due_at_place now xs i x inside is =
+pub due_at_place : (pace : Pace) (now : Moment) (xs : List Queued) (i : ℕ) (x : Queued) → i < length xs → x ≡ get_or xs i x
+    → dues pace now (messages xs) (messages (take i xs)) (messages (drop i xs))
+    ≡ (x.message, due_of pace now (messages xs) (messages (take i xs)) x.message x.message.sent) ∷ dues pace now (messages xs) (messages (take (i + 1) xs)) (messages (drop (i + 1) xs))
+due_at_place pace now xs i x inside is =
     let all = messages xs in
     let rest = drop (i + 1) xs in
     let split : drop i xs ≡ x ∷ rest = drop_more xs i x inside ∙ ap (λ y. y ∷ rest) (sym is) in
     let front : messages (take (i + 1) xs) ≡ messages (take i xs) ++ x.message ∷ [] =
     ap messages (take_more xs i x inside ∙ ap (λ y. take i xs ++ y ∷ []) (sym is)) ∙ map-append (λ y. y.message) (take i xs) (x ∷ [])
     in
-    ap (λ ys. dues now all (messages (take i xs)) (messages ys)) split
-    ∙ ap (λ zs. (x.message, due_of now all (messages (take i xs)) x.message x.message.sent) ∷ dues now all zs (messages rest)) (sym front)
+    ap (λ ys. dues pace now all (messages (take i xs)) (messages ys)) split
+    ∙ ap (λ zs. (x.message, due_of pace now all (messages (take i xs)) x.message x.message.sent) ∷ dues pace now all zs (messages rest)) (sym front)
 
-pub first_at_place : (xs : List Queued) (i : ℕ) (x : Queued) → i < length xs → x ≡ get_or xs i x → AreMarked xs → x.first ≡ not (has_open x.message.to (messages (take i xs)))
-first_at_place xs i x inside is marks = first_at xs i x (drop (i + 1) xs) marks (drop_more xs i x inside ∙ ap (λ y. y ∷ drop (i + 1) xs) (sym is))
+pub split_at_place : (xs : List Queued) (i : ℕ) (x : Queued) → i < length xs → x ≡ get_or xs i x → messages (drop i xs) ≡ x.message ∷ messages (drop (i + 1) xs)
+split_at_place xs i x inside is = ap messages (drop_more xs i x inside ∙ ap (λ y. y ∷ drop (i + 1) xs) (sym is))
 
 pub bounded_at_place : (xs : List Queued) (i : ℕ) (x : Queued) → i < length xs → x ≡ get_or xs i x → All IsBounded (messages xs) → IsBounded x.message
 bounded_at_place xs i x inside is all =
@@ -113,48 +147,66 @@ peers_more m (x ∷ xs) = by (same_peer m.to x.to) (has_open x.to xs) (has_open 
         let short : length (peers_of (x ∷ xs)) + weight a ≡ length (peers_of xs) + 1 = ap (λ c. length (peers_of (x ∷ xs)) + weight c) (sym f) ∙ length_peers x xs in
         sums s a b (λ same. sym f ∙ (sym (open_same m.to x.to xs (e ∙ same)) ∙ g)) _ _ _ _ behind long short
 
-firsts : (xs : List Queued) (earlier : List Open) → ((p : Peer) → IsMarkedFor p (has_open p earlier) xs)
-    → count_by (λ x. x.first) xs + length (peers_of earlier) ≡ length (peers_of (earlier ++ messages xs))
-firsts [] earlier marks = omega (arith, ap (λ ms. length (peers_of ms)) (append-nil earlier))
-firsts (x ∷ xs) earlier marks =
+none_before : (p : Peer) (xs : List Open) → nat_eq (count (is_to p) xs) 0 ≡ not (has_open p xs)
+none_before p [] = refl
+none_before p (x ∷ xs) = by (is_to p x) (none_before p xs)
+  where
+    by : (b : Bool) → nat_eq (count (is_to p) xs) 0 ≡ not (has_open p xs) → nat_eq (weight b + count (is_to p) xs) 0 ≡ not (b || has_open p xs)
+    by true up = ne_eqb (weight true + count (is_to p) xs) 0 (λ e. omega (arith, e))
+    by false up = let same : weight false + count (is_to p) xs ≡ count (is_to p) xs = omega arith in ap (λ n. nat_eq n 0) same ∙ up
+
+firsts : (xs : List Queued) (earlier : List Open) → ((p : Peer) → IsPlacedFor p (count (is_to p) earlier) xs)
+    → count_by (λ x. nat_eq x.place 0) xs + length (peers_of earlier) ≡ length (peers_of (earlier ++ messages xs))
+firsts [] earlier places = omega (arith, ap (λ ms. length (peers_of ms)) (append-nil earlier))
+firsts (x ∷ xs) earlier places =
     let m = x.message in
-    let one : x.first ≡ not (has_open m.to earlier) = (marks m.to).0 (same_peer_equiv.refl m.to) in
-    let counted : count_by (λ y. y.first) (x ∷ xs) ≡ weight (x.first) + count_by (λ y. y.first) xs =
-    sum_by-cons (λ y. cond y.first 1 0) x xs ∙ ap (λ n. n + count_by (λ y. y.first) xs) (weight_is x.first)
+    let one : nat_eq x.place 0 ≡ not (has_open m.to earlier) = ap (λ n. nat_eq n 0) ((places m.to).0 (same_peer_equiv.refl m.to)) ∙ none_before m.to earlier in
+    let counted : count_by (λ y. nat_eq y.place 0) (x ∷ xs) ≡ weight (nat_eq x.place 0) + count_by (λ y. nat_eq y.place 0) xs =
+    sum_by-cons (λ y. cond (nat_eq y.place 0) 1 0) x xs ∙ ap (λ n. n + count_by (λ y. nat_eq y.place 0) xs) (weight_is (nat_eq x.place 0))
     in
-    let later = firsts xs (earlier ++ m ∷ []) (λ p. subst (λ b. IsMarkedFor p b xs) (sym (open_push p earlier m (is_to p m) refl ∙ ap (λ b. has_open p earlier || b) (or_nil (is_to p m)))) (marks p).1) in
+    let later = firsts xs (earlier ++ m ∷ []) (λ p. subst (λ n. IsPlacedFor p n xs) (after_is p (count (is_to p) earlier) m ∙ sym (count_push (is_to p) earlier m)) (places p).1) in
     omega (arith, counted, ap weight one, later, peers_more m earlier, ap (λ ms. length (peers_of ms)) (append_assoc earlier (m ∷ []) (messages xs)))
 
-pub count_firsts : (xs : List Queued) → AreMarked xs → count_by (λ x. x.first) xs ≡ length (peers_of (messages xs))
-count_firsts xs marks = omega (arith, firsts xs [] marks)
+pub count_firsts : (xs : List Queued) → ArePlaced xs → count_by (λ x. nat_eq x.place 0) xs ≡ length (peers_of (messages xs))
+count_firsts xs places = omega (arith, firsts xs [] places)
 
 -- ---- one message more
 
-push_from : (p : Peer) (seen : Bool) (xs : List Queued) (y : Queued) → IsMarkedFor p seen xs → (is_to p y.message ≡ true → y.first ≡ not (seen || has_open p (messages xs)))
-    → IsMarkedFor p seen (xs ++ y ∷ [])
-push_from p seen [] y marks last = (λ to. last to ∙ ap not (or_nil seen), tt)
-push_from p seen (x ∷ xs) y marks last =
-    (marks.0, push_from p (seen || is_to p x.message) xs y marks.1 (λ to. last to ∙ ap not (sym (or_assoc seen (is_to p x.message) (has_open p (messages xs))))))
+open_counted : (p q : Peer) (xs : List Open) → same_peer p q ≡ true → count (is_to p) xs ≡ count (is_to q) xs
+open_counted p q [] same = refl
+open_counted p q (x ∷ xs) same = ap₂ (λ b n. weight b + n) (same_peer_equiv.congr p q x.to same) (open_counted p q xs same)
 
-pub marked_push : (xs : List Queued) (y : Queued) → AreMarked xs → y.first ≡ not (has_open y.message.to (messages xs)) → AreMarked (xs ++ y ∷ [])
-marked_push xs y marks last = λ p. push_from p false xs y (marks p) (λ to. last ∙ ap not (sym (open_same p y.message.to (messages xs) to)))
+push_from : (p : Peer) (n : ℕ) (xs : List Queued) (y : Queued) → IsPlacedFor p n xs → (is_to p y.message ≡ true → y.place ≡ n + count (is_to p) (messages xs))
+    → IsPlacedFor p n (xs ++ y ∷ [])
+push_from p n [] y places last = (λ to. omega (arith, last to), tt)
+push_from p n (x ∷ xs) y places last =
+    (places.0, push_from p (place_after p n x.message) xs y places.1 (λ to. omega (arith, last to, after_is p n x.message)))
+
+pub placed_push : (xs : List Queued) (y : Queued) → ArePlaced xs → y.place ≡ outstanding y.message.to (messages xs) + waiting y.message.to (messages xs) → ArePlaced (xs ++ y ∷ [])
+placed_push xs y places last =
+    let ms = messages xs in
+    let q = y.message.to in
+    λ p. push_from p 0 xs y (places p) (λ to. omega (arith, last, both q ms, count_is (goes_to q) ms, count_is (waits_for q) ms, open_counted p q ms to))
 
 -- ---- messages taken out
 
-filter_from : (t : Queued → Bool) (q : Peer) (seen : Bool) (xs : List Queued) → ((x : Queued) → is_to q x.message ≡ true → t x ≡ true) → IsMarkedFor q seen xs → IsMarkedFor q seen (filter t xs)
-filter_from t q seen [] stays marks = tt
-filter_from t q seen (x ∷ xs) stays marks = by (t x) (is_to q x.message) refl refl (filter_from t q (seen || is_to q x.message) xs stays marks.1)
-  where
-    by : (kept to : Bool) → t x ≡ kept → is_to q x.message ≡ to → IsMarkedFor q (seen || is_to q x.message) (filter t xs) → IsMarkedFor q seen (cond kept (x ∷ filter t xs) (filter t xs))
-    by true to e f up = (marks.0, up)
-    by false true e f up = absurd (cc (stays x f, e))
-    by false false e f up = subst (λ b. IsMarkedFor q b (filter t xs)) (ap (λ b. seen || b) f ∙ or_nil seen) up
+passes : (p : Peer) (n : ℕ) (m : Open) → is_to p m ≡ false → place_after p n m ≡ n
+passes p n m other = ap (λ b. cond b (n + 1) n) other
 
-remove_from : (q : Peer) (seen : Bool) (xs : List Queued) (i : ℕ) (d : Queued) → is_to q (get_or xs i d).message ≡ false → IsMarkedFor q seen xs → IsMarkedFor q seen (remove xs i)
-remove_from q seen [] zero d other marks = tt
-remove_from q seen [] (suc i) d other marks = tt
-remove_from q seen (y ∷ ys) zero d other marks = subst (λ b. IsMarkedFor q b ys) (ap (λ b. seen || b) other ∙ or_nil seen) marks.1
-remove_from q seen (y ∷ ys) (suc i) d other marks = (marks.0, remove_from q (seen || is_to q y.message) ys i d other marks.1)
+filter_from : (t : Queued → Bool) (q : Peer) (n : ℕ) (xs : List Queued) → ((x : Queued) → is_to q x.message ≡ true → t x ≡ true) → IsPlacedFor q n xs → IsPlacedFor q n (filter t xs)
+filter_from t q n [] stays places = tt
+filter_from t q n (x ∷ xs) stays places = by (t x) (is_to q x.message) refl refl (filter_from t q (place_after q n x.message) xs stays places.1)
+  where
+    by : (kept to : Bool) → t x ≡ kept → is_to q x.message ≡ to → IsPlacedFor q (place_after q n x.message) (filter t xs) → IsPlacedFor q n (cond kept (x ∷ filter t xs) (filter t xs))
+    by true to e f up = (places.0, up)
+    by false true e f up = absurd (cc (stays x f, e))
+    by false false e f up = subst (λ k. IsPlacedFor q k (filter t xs)) (passes q n x.message f) up
+
+remove_from : (q : Peer) (n : ℕ) (xs : List Queued) (i : ℕ) (d : Queued) → is_to q (get_or xs i d).message ≡ false → IsPlacedFor q n xs → IsPlacedFor q n (remove xs i)
+remove_from q n [] zero d other places = tt
+remove_from q n [] (suc i) d other places = tt
+remove_from q n (y ∷ ys) zero d other places = subst (λ k. IsPlacedFor q k ys) (passes q n y.message other) places.1
+remove_from q n (y ∷ ys) (suc i) d other places = (places.0, remove_from q (place_after q n y.message) ys i d other places.1)
 
 take_removed : (xs : List Queued) (i : ℕ) → take i (remove xs i) ≡ take i xs
 take_removed [] zero = refl
@@ -168,92 +220,93 @@ drop_removed [] (suc i) x later split = absurd (cc)
 drop_removed (y ∷ ys) zero x later split = let rest : ys ≡ later = cc in rest
 drop_removed (y ∷ ys) (suc i) x later split = drop_removed ys i x later split
 
--- one in the place of another of the same peer and mark
-set_from : (q : Peer) (seen : Bool) (xs : List Queued) (i : ℕ) (y d : Queued) → y.first ≡ (get_or xs i d).first → y.message.to ≡ (get_or xs i d).message.to
-    → IsMarkedFor q seen xs → IsMarkedFor q seen (set xs i y)
-set_from q seen [] zero y d first to marks = tt
-set_from q seen [] (suc i) y d first to marks = tt
-set_from q seen (z ∷ zs) zero y d first to marks =
+-- one in the place of another of the same peer and place
+set_from : (q : Peer) (n : ℕ) (xs : List Queued) (i : ℕ) (y d : Queued) → y.place ≡ (get_or xs i d).place → y.message.to ≡ (get_or xs i d).message.to
+    → IsPlacedFor q n xs → IsPlacedFor q n (set xs i y)
+set_from q n [] zero y d same to places = tt
+set_from q n [] (suc i) y d same to places = tt
+set_from q n (z ∷ zs) zero y d same to places =
     let at : is_to q y.message ≡ is_to q z.message = ap (same_peer q) to in
-    (λ mine. first ∙ marks.0 (sym at ∙ mine), subst (λ b. IsMarkedFor q (seen || b) zs) (sym at) marks.1)
-set_from q seen (z ∷ zs) (suc i) y d first to marks = (marks.0, set_from q (seen || is_to q z.message) zs i y d first to marks.1)
+    (λ mine. same ∙ places.0 (sym at ∙ mine), subst (λ b. IsPlacedFor q (cond b (n + 1) n) zs) (sym at) places.1)
+set_from q n (z ∷ zs) (suc i) y d same to places = (places.0, set_from q (place_after q n z.message) zs i y d same to places.1)
 
-pub marked_set : (xs : List Queued) (i : ℕ) (y d : Queued) → y.first ≡ (get_or xs i d).first → y.message.to ≡ (get_or xs i d).message.to → AreMarked xs → AreMarked (set xs i y)
-marked_set xs i y d first to marks = λ q. set_from q false xs i y d first to (marks q)
+pub placed_set : (xs : List Queued) (i : ℕ) (y d : Queued) → y.place ≡ (get_or xs i d).place → y.message.to ≡ (get_or xs i d).message.to → ArePlaced xs → ArePlaced (set xs i y)
+placed_set xs i y d same to places = λ q. set_from q 0 xs i y d same to (places q)
 
--- ---- marked again
+-- ---- placed again
 
-same_message : (p : Peer) (seen : Bool) (x : Queued) → (marked_one p seen x).message ≡ x.message
-same_message p seen x = by (is_to p x.message)
+same_message : (p : Peer) (n : ℕ) (x : Queued) → (placed_one p n x).message ≡ x.message
+same_message p n x = by (is_to p x.message)
   where
-    by : (b : Bool) → (cond b (record x { first = not seen }) x).message ≡ x.message
+    by : (b : Bool) → (cond b (record x { place = n }) x).message ≡ x.message
     by true = refl
     by false = refl
 
-pub messages_marked : (p : Peer) (seen : Bool) (xs : List Queued) → messages (marked p seen xs) ≡ messages xs
-messages_marked p seen [] = refl
-messages_marked p seen (x ∷ xs) = ap₂ (λ m ms. m ∷ ms) (same_message p seen x) (messages_marked p (seen || is_to p x.message) xs)
+pub messages_placed : (p : Peer) (n : ℕ) (xs : List Queued) → messages (placed p n xs) ≡ messages xs
+messages_placed p n [] = refl
+messages_placed p n (x ∷ xs) = ap₂ (λ m ms. m ∷ ms) (same_message p n x) (messages_placed p (place_after p n x.message) xs)
 
 -- it is to the peer
-marked_same : (p q : Peer) (seen : Bool) (xs : List Queued) → same_peer q p ≡ true → IsMarkedFor q seen (marked p seen xs)
-marked_same p q seen [] same = tt
-marked_same p q seen (x ∷ xs) same =
+placed_same : (p q : Peer) (n : ℕ) (xs : List Queued) → same_peer q p ≡ true → IsPlacedFor q n (placed p n xs)
+placed_same p q n [] same = tt
+placed_same p q n (x ∷ xs) same =
     let to : is_to q x.message ≡ is_to p x.message = same_peer_equiv.congr q p x.message.to same in
-    let at : is_to q (marked_one p seen x).message ≡ is_to p x.message = ap (is_to q) (same_message p seen x) ∙ to in (
+    let at : is_to q (placed_one p n x).message ≡ is_to p x.message = ap (is_to q) (same_message p n x) ∙ to in (
       λ mine. by (is_to p x.message) (sym at ∙ mine),
-      subst (λ b. IsMarkedFor q (seen || b) (marked p (seen || is_to p x.message) xs)) (sym at) (marked_same p q (seen || is_to p x.message) xs same),
+      subst (λ b. IsPlacedFor q (cond b (n + 1) n) (placed p (place_after p n x.message) xs)) (sym at) (placed_same p q (place_after p n x.message) xs same),
     )
   where
-    by : (b : Bool) → b ≡ true → (cond b (record x { first = not seen }) x).first ≡ not seen
+    by : (b : Bool) → b ≡ true → (cond b (record x { place = n }) x).place ≡ n
     by true e = refl
     by false e = absurd (cc)
 
 -- it is to another
-marked_other : (p q : Peer) (now seen : Bool) (xs : List Queued) → same_peer q p ≡ false → IsMarkedFor q seen xs → IsMarkedFor q seen (marked p now xs)
-marked_other p q now seen [] differ marks = tt
-marked_other p q now seen (x ∷ xs) differ marks =
-    let at : is_to q (marked_one p now x).message ≡ is_to q x.message = ap (is_to q) (same_message p now x) in (
+placed_other : (p q : Peer) (k n : ℕ) (xs : List Queued) → same_peer q p ≡ false → IsPlacedFor q n xs → IsPlacedFor q n (placed p k xs)
+placed_other p q k n [] differ places = tt
+placed_other p q k n (x ∷ xs) differ places =
+    let at : is_to q (placed_one p k x).message ≡ is_to q x.message = ap (is_to q) (same_message p k x) in (
       λ mine. by (is_to p x.message) refl (sym at ∙ mine),
-      subst (λ b. IsMarkedFor q (seen || b) (marked p (now || is_to p x.message) xs)) (sym at) (marked_other p q (now || is_to p x.message) (seen || is_to q x.message) xs differ marks.1),
+      subst (λ b. IsPlacedFor q (cond b (n + 1) n) (placed p (place_after p k x.message) xs)) (sym at)
+          (placed_other p q (place_after p k x.message) (place_after q n x.message) xs differ places.1),
     )
   where
-    by : (b : Bool) → is_to p x.message ≡ b → is_to q x.message ≡ true → (cond b (record x { first = not now }) x).first ≡ not seen
+    by : (b : Bool) → is_to p x.message ≡ b → is_to q x.message ≡ true → (cond b (record x { place = k }) x).place ≡ n
     by true e mine = let wrong : is_to q x.message ≡ false = apart p q x.message.to differ e in absurd (cc)
-    by false e mine = marks.0 mine
+    by false e mine = places.0 mine
 
--- where the marks are right for all others
-pub marked_anew : (p : Peer) (xs : List Queued) → ((q : Peer) → same_peer q p ≡ false → IsMarkedFor q false xs) → AreMarked (marked p false xs)
-marked_anew p xs others = λ q. by q (same_peer q p) refl
+-- where the places are right for all others
+pub placed_again : (p : Peer) (xs : List Queued) → ((q : Peer) → same_peer q p ≡ false → IsPlacedFor q 0 xs) → ArePlaced (placed p 0 xs)
+placed_again p xs others = λ q. by q (same_peer q p) refl
   where
-    by : (q : Peer) (b : Bool) → same_peer q p ≡ b → IsMarkedFor q false (marked p false xs)
-    by q true e = marked_same p q false xs e
-    by q false e = marked_other p q false false xs e (others q e)
+    by : (q : Peer) (b : Bool) → same_peer q p ≡ b → IsPlacedFor q 0 (placed p 0 xs)
+    by q true e = placed_same p q 0 xs e
+    by q false e = placed_other p q 0 0 xs e (others q e)
 
 -- where messages to one peer are taken out
-pub marked_filter : (p : Peer) (id : ℕ) (xs : List Queued) → AreMarked xs → AreMarked (marked p false (filter (λ x. not (is_named p id x.message)) xs))
-marked_filter p id xs marks = marked_anew p _ (λ q differ. filter_from (λ x. not (is_named p id x.message)) q false xs (λ x mine. stays q x differ mine) (marks q))
+pub placed_filter : (p : Peer) (id : ℕ) (xs : List Queued) → ArePlaced xs → ArePlaced (placed p 0 (filter (λ x. not (is_named p id x.message)) xs))
+placed_filter p id xs places = placed_again p _ (λ q differ. filter_from (λ x. not (is_named p id x.message)) q 0 xs (λ x mine. stays q x differ mine) (places q))
   where
     stays : (q : Peer) (x : Queued) → same_peer q p ≡ false → is_to q x.message ≡ true → not (is_named p id x.message) ≡ true
     stays q x differ mine =
         let other : is_to p x.message ≡ false = apart q p x.message.to (same_peer_equiv.symm p q ∙ differ) mine in
         rw other refl
 
-pub marked_remove : (xs : List Queued) (i : ℕ) (x : Queued) → x ≡ get_or xs i x → AreMarked xs → AreMarked (marked x.message.to false (remove xs i))
-marked_remove xs i x is marks =
-    marked_anew x.message.to _ (λ q differ. remove_from q false xs i x (ap (λ y. is_to q y.message) (sym is) ∙ differ) (marks q))
+pub placed_remove : (xs : List Queued) (i : ℕ) (x : Queued) → x ≡ get_or xs i x → ArePlaced xs → ArePlaced (placed x.message.to 0 (remove xs i))
+placed_remove xs i x is places =
+    placed_again x.message.to _ (λ q differ. remove_from q 0 xs i x (ap (λ y. is_to q y.message) (sym is) ∙ differ) (places q))
 
 -- what is before the one that is taken out, and after it
-pub front_removed : (p : Peer) (xs : List Queued) (i : ℕ) → messages (take i (marked p false (remove xs i))) ≡ messages (take i xs) ++ []
+pub front_removed : (p : Peer) (xs : List Queued) (i : ℕ) → messages (take i (placed p 0 (remove xs i))) ≡ messages (take i xs) ++ []
 front_removed p xs i =
-    sym (take-map (λ x. x.message) i (marked p false (remove xs i)))
-    ∙ ap (take i) (messages_marked p false (remove xs i))
+    sym (take-map (λ x. x.message) i (placed p 0 (remove xs i)))
+    ∙ ap (take i) (messages_placed p 0 (remove xs i))
     ∙ take-map (λ x. x.message) i (remove xs i)
     ∙ ap messages (take_removed xs i)
     ∙ sym (append-nil (messages (take i xs)))
 
-pub back_removed : (p : Peer) (xs : List Queued) (i : ℕ) (x : Queued) (later : List Queued) → drop i xs ≡ x ∷ later → messages (drop i (marked p false (remove xs i))) ≡ messages later
+pub back_removed : (p : Peer) (xs : List Queued) (i : ℕ) (x : Queued) (later : List Queued) → drop i xs ≡ x ∷ later → messages (drop i (placed p 0 (remove xs i))) ≡ messages later
 back_removed p xs i x later split =
-    sym (drop-map (λ y. y.message) i (marked p false (remove xs i)))
-    ∙ ap (drop i) (messages_marked p false (remove xs i))
+    sym (drop-map (λ y. y.message) i (placed p 0 (remove xs i)))
+    ∙ ap (drop i) (messages_placed p 0 (remove xs i))
     ∙ drop-map (λ y. y.message) i (remove xs i)
     ∙ ap messages (drop_removed xs i x later split)

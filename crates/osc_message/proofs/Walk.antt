@@ -1,5 +1,5 @@
 -- A walk over a list, one place after another.
-use Rattle.std.proofs.Common.{◌≡◌, ℕ, ◌+◌, ◌<◌, ◌≤◌, List, [], ◌∷◌, ◌++◌, length, take, drop, get_or, refl, ap, ap₂, sym, ◌∙◌, append_assoc, length-append, Option, Some, None, IfSome, arith}
+use Rattle.std.proofs.Common.{◌≡◌, ℕ, ◌+◌, ◌<◌, List, [], ◌∷◌, ◌++◌, length, take, drop, get_or, refl, ap, ap₂, sym, ◌∙◌, append_assoc, length-append, Option, Some, None, IfSome, arith}
 use Rattle.std.proofs.lemmas.List.{take_more, drop_more, length-drop}
 use Rattle.std.proofs.lemmas.List.Elements.{All-tail}
 use Rattle.std.specs.List.{All, filter_map, zip, cons_option}
@@ -73,11 +73,9 @@ added_or_lost f pair (Some ys) (Some more) total pairs rest split before (given,
     let same : ys ≡ given = cc in
     added f pair ys more total pairs rest split before (is ∙ ap (λ b. b ++ option_to_list (f pair)) (sym same))
 
--- with one more they are no more than all of them
-pub room_for_one : {Y : Type 0} (f : Open × Due → Option Y) (pair : Open × Due) (old total : List Y) (pairs rest : List (Open × Due)) → pairs ≡ pair ∷ rest
-    → old ++ filter_map f pairs ≡ total → length total ≤ 64 → length old + length (option_to_list (f pair)) ≤ 64
-room_for_one f pair old total pairs rest split whole few =
+-- one more is counted
+pub one_counted : {Y : Type 0} (f : Open × Due → Option Y) (pair : Open × Due) (old one total : ℕ) (pairs rest : List (Open × Due)) → pairs ≡ pair ∷ rest
+    → old + length (filter_map f pairs) ≡ total → one ≡ length (option_to_list (f pair)) → old + one + length (filter_map f rest) ≡ total
+one_counted f pair old one total pairs rest split whole is =
     let here : filter_map f pairs ≡ option_to_list (f pair) ++ filter_map f rest = ap (filter_map f) split ∙ cons_option_is (f pair) (filter_map f rest) in
-    let n = ap length whole in
-    let m = ap length here in
-    omega (arith, few, n, m, length-append old (filter_map f pairs), length-append (option_to_list (f pair)) (filter_map f rest))
+    omega (arith, whole, is, ap length here, length-append (option_to_list (f pair)) (filter_map f rest))

@@ -1,9 +1,7 @@
 -- Confirmable messages that are open, in the order in which they were made (RFC 7252 sections 4.2, 4.7 and 4.8).
-use Rattle.std.specs.Prelude.{ℕ, Bool, ◌&&◌, not, nat_eq, nat_lt, if◌then◌else◌, List, [], ◌∷◌, ◌++◌, length, filter, count_by, Option, Some, None, is_some}
+use Rattle.std.specs.Prelude.{ℕ, Bool, ◌&&◌, not, nat_eq, nat_lt, if◌then◌else◌, List, [], ◌∷◌, length, filter, count_by, is_some}
 use Rattle.std.specs.List.{list_any}
 use Rattle.osc_model.specs.{same_peer}
-use Rattle.osc_model.specs.declared.bytes.Bytes.{Bytes}
-use Rattle.osc_model.specs.declared.node.Moment.{Moment}
 use Rattle.osc_model.specs.declared.node.Peer.{Peer}
 use Rattle.osc_message.specs.declared.confirmable.Sent.{Sent as SentMessage}
 use Rattle.osc_message.specs.declared.confirmable.Open.{Open as OpenMessage}
@@ -30,7 +28,10 @@ has_open peer all = list_any (is_to peer) all
 abbrev pub has_outstanding : Peer → List Open → Bool
 has_outstanding peer all = list_any (λ message. is_to peer message && is_outstanding message) all
 
--- how many wait for the peer
+-- how many are outstanding to the peer, and how many wait for it
+abbrev pub outstanding : Peer → List Open → ℕ
+outstanding peer all = count_by (λ message. is_to peer message && is_outstanding message) all
+
 abbrev pub waiting : Peer → List Open → ℕ
 waiting peer all = count_by (λ message. is_to peer message && not (is_outstanding message)) all
 
@@ -48,13 +49,6 @@ takes peer all = if has_open peer all then nat_lt (waiting peer all) 16 else nat
 -- the same with `places` places for messages in all
 abbrev pub takes_in : ℕ → Peer → List Open → Bool
 takes_in places peer all = takes peer all && nat_lt (length all) places
-
--- it goes out at once where the peer has none open (at most one is outstanding to a peer, section 4.7)
-abbrev pub sent_at : Moment → Bool → Option Sent
-sent_at now waits = if waits then None else Some (record { at = now; repeats = 0 })
-
-abbrev pub with_open : Moment → Peer → ℕ → ℕ → Bytes → List Open → List Open
-with_open now to id timeout bytes all = all ++ (record { to = to; id = id; timeout = timeout; bytes = bytes; sent = sent_at now (has_open to all) }) ∷ []
 
 -- ---- acknowledged, by its peer and its message ID: its repeats end (section 4.2)
 

@@ -13,17 +13,22 @@ use Rattle.osc_message.specs.declared.heard.Heard.TheVariants.{Empty, Message}
 use Rattle.osc_message.specs.declared.handling.Handling.{Handling}
 use Rattle.osc_message.specs.declared.handling.Handling.TheVariants.{Dropped, Answered, Counted}
 use Rattle.osc_message.specs.Confirmables.{Open, acknowledged}
-use Rattle.osc_message.specs.Ticks.{ticked}
+use Rattle.osc_message.specs.Pace.{Pace, paced, quickened, slowed}
+use Rattle.osc_message.specs.Ticks.{tick_repeats, ticked}
 
--- what was heard lately, the open confirmable messages, and the message ID of the node's next message, once it has made one
+-- what was heard lately, the open confirmable messages, the message ID of the node's next message, once it has made one, and its pace
 pub record EndpointState : Type 0 where
   pub seen : List Entry
   pub sending : List Open
   pub next_id : Option ℕ
+  pub pace : Pace
 
--- nothing was heard, nothing is open, and no message was made
+-- nothing was heard, nothing is open, and no message was made; so many more than one confirmable message may be outstanding to a peer
+abbrev pub fresh_with : ℕ → EndpointState
+fresh_with more = record { seen = []; sending = []; next_id = None; pace = paced more }
+
 abbrev pub fresh : EndpointState
-fresh = record { seen = []; sending = []; next_id = None }
+fresh = fresh_with 0
 
 -- ---- the node's own message IDs: the first one is drawn, and each later one is the next (section 4.4)
 
@@ -64,11 +69,25 @@ abbrev pub handled_sending : Peer → Handling → List Open → List Open
 handled_sending from (Counted request reply) sending = acknowledged from request sending
 handled_sending from handling sending = sending
 
+-- the pace after the same
+abbrev pub quickened_by : Peer → Kind → ℕ → List Open → Pace → Pace
+quickened_by from Acknowledgement id sending pace = quickened from id sending pace
+quickened_by from ResetKind id sending pace = quickened from id sending pace
+quickened_by from kind id sending pace = pace
+
+abbrev pub handled_pace : Peer → Handling → List Open → Pace → Pace
+handled_pace from (Counted request reply) sending pace = quickened from request sending pace
+handled_pace from handling sending pace = pace
+
 abbrev pub settled : EndpointState → Moment → Peer → Heard → Handling → EndpointState
-settled state now from (Empty kind id) handling = record state { sending = acknowledged from id state.sending }
+settled state now from (Empty kind id) handling = record state {
+  sending = acknowledged from id state.sending;
+  pace = quickened from id state.sending state.pace;
+}
 settled state now from (Message message) handling = record state {
   seen = handled_seen now from message.kind message.id handling state.seen;
   sending = handled_sending from handling (acknowledged_by from message.kind message.id state.sending);
+  pace = handled_pace from handling (acknowledged_by from message.kind message.id state.sending) (quickened_by from message.kind message.id state.sending state.pace);
 }
 settled state now from heard handling = state
 
@@ -77,7 +96,11 @@ settled state now from heard handling = state
 abbrev pub withdrawn : Peer → ℕ → EndpointState → EndpointState
 withdrawn to id state = record state { sending = acknowledged to id state.sending }
 
--- ---- a tick: what is due is done, and the dead notes go
+-- ---- a tick: what is due is done, each peer to which a message is sent again becomes slow, and the dead notes go
 
 abbrev pub after_tick : Moment → EndpointState → EndpointState
-after_tick now state = record state { seen = alive now state.seen; sending = ticked now state.sending }
+after_tick now state = record state {
+  seen = alive now state.seen;
+  sending = ticked state.pace now state.sending;
+  pace = slowed (tick_repeats state.pace now state.sending) state.pace;
+}

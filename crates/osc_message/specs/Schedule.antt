@@ -4,6 +4,7 @@ use Rattle.osc_model.specs.declared.node.Moment.{Moment}
 use Rattle.osc_message.specs.declared.due.Due.{Due}
 use Rattle.osc_message.specs.declared.due.Due.TheVariants.{Keep, Send, GiveUp}
 use Rattle.osc_message.specs.Confirmables.{Sent, Open}
+use Rattle.osc_message.specs.Pace.{Pace}
 use Rattle.osc_message.specs.Ticks.{outstanding_due, dues_of, sent_again}
 
 -- what one tick does, before what the later ones do with the message as it is kept, or as it is once it was sent again
@@ -25,10 +26,11 @@ first_done now ((message, Keep) ∷ dues) later = later message
 first_done now ((message, Send) ∷ dues) later = (now, Send) ∷ later (record message { sent = Some (sent_again now message.sent) })
 first_done now ((message, GiveUp) ∷ dues) later = (now, GiveUp) ∷ []
 
--- the ticks that do something with an open message, where each tick comes with what is before and after the message then
-abbrev pub done_among : List (Moment × List Open × List Open) → Open → List (Moment × Due)
+-- the ticks that do something with an open message, where each tick comes with the pace, and with what is before and after the message then
+abbrev pub done_among : List (Moment × Pace × List Open × List Open) → Open → List (Moment × Due)
 done_among [] = λ message. []
-done_among ((now, before, behind) ∷ later) = λ message. first_done now (drop (length before) (dues_of now (before ++ message ∷ behind))) (done_among later)
+done_among ((now, pace, before, behind) ∷ later) =
+    λ message. first_done now (drop (length before) (dues_of pace now (before ++ message ∷ behind))) (done_among later)
 
 -- ---- what the standard wants
 

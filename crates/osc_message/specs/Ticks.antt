@@ -1,12 +1,16 @@
 -- What a tick does to the open confirmable messages (RFC 7252 sections 4.2 and 4.8), and when the next one has to come.
-use Rattle.std.specs.Prelude.{ℕ, ◌+◌, ◌-◌, ◌*◌, ◌^◌, Bool, true, false, ◌||◌, not, nat_lt, if◌then◌else◌, List, [], ◌∷◌, ◌++◌, Option, Some, None}
+use Rattle.std.specs.Prelude.{ℕ, ◌+◌, ◌-◌, ◌*◌, ◌^◌, Bool, true, false, ◌&&◌, not, nat_eq, nat_lt, if◌then◌else◌, List, [], ◌∷◌, ◌++◌, Option, Some, None}
 use Rattle.std.specs.List.{list_any, filter_map}
+use Rattle.std.specs.Option.{option_map}
+use Rattle.osc_model.specs.{same_peer}
 use Rattle.osc_model.specs.declared.node.Moment.{Moment}
 use Rattle.osc_model.specs.declared.step.Datagram.{Datagram}
 use Rattle.osc_message.specs.declared.due.Due.{Due}
 use Rattle.osc_message.specs.declared.due.Due.TheVariants.{Keep, Send, GiveUp}
 use Rattle.osc_message.specs.declared.name.MessageName.{MessageName}
-use Rattle.osc_message.specs.Confirmables.{Sent, Open, has_open, has_outstanding}
+use Rattle.osc_model.specs.declared.node.Peer.{Peer}
+use Rattle.osc_message.specs.Confirmables.{Sent, Open, outstanding, waiting}
+use Rattle.osc_message.specs.Pace.{Pace, allowed}
 
 -- MAX_RETRANSMIT (section 4.8)
 abbrev pub most_repeats : ℕ
@@ -22,21 +26,23 @@ abbrev pub outstanding_due : Moment → Open → Sent → Due
 outstanding_due now message sent =
     if nat_lt now.ms (due_at message sent) then Keep else if nat_lt sent.repeats most_repeats then Send else GiveUp
 
--- A waiting message goes out where no message is outstanding to its peer and none was made before it.
-abbrev pub waiting_due : List Open → List Open → Open → Due
-waiting_due all earlier message = if has_outstanding message.to all || has_open message.to earlier then Keep else Send
+-- A waiting message goes out where those that are outstanding to its peer, and those that wait for it and were made before, are fewer than
+-- are allowed.
+abbrev pub waiting_due : Pace → List Open → List Open → Open → Due
+waiting_due pace all earlier message =
+    if nat_lt (outstanding message.to all + waiting message.to earlier) (allowed pace message.to) then Send else Keep
 
-abbrev pub due_of : Moment → List Open → List Open → Open → Option Sent → Due
-due_of now all earlier message None = waiting_due all earlier message
-due_of now all earlier message (Some sent) = outstanding_due now message sent
+abbrev pub due_of : Pace → Moment → List Open → List Open → Open → Option Sent → Due
+due_of pace now all earlier message None = waiting_due pace all earlier message
+due_of pace now all earlier message (Some sent) = outstanding_due now message sent
 
 -- each message with what is due, where `earlier` were made before and `all` stood there when the tick came
-abbrev pub dues : Moment → List Open → List Open → List Open → List (Open × Due)
-dues now all earlier [] = []
-dues now all earlier (message ∷ later) = (message, due_of now all earlier message message.sent) ∷ dues now all (earlier ++ message ∷ []) later
+abbrev pub dues : Pace → Moment → List Open → List Open → List Open → List (Open × Due)
+dues pace now all earlier [] = []
+dues pace now all earlier (message ∷ later) = (message, due_of pace now all earlier message message.sent) ∷ dues pace now all (earlier ++ message ∷ []) later
 
-abbrev pub dues_of : Moment → List Open → List (Open × Due)
-dues_of now all = dues now all [] all
+abbrev pub dues_of : Pace → Moment → List Open → List (Open × Due)
+dues_of pace now all = dues pace now all [] all
 
 -- ---- what is sent, what goes out for the first time, what stays, what is given up
 
@@ -61,14 +67,22 @@ abbrev pub given_up_of : Open × Due → Option MessageName
 given_up_of (message, GiveUp) = Some (name_of message)
 given_up_of (message, due) = None
 
-abbrev pub ticked : Moment → List Open → List Open
-ticked now all = filter_map (after now) (dues_of now all)
+-- the peer to which one is sent again
+abbrev pub repeated_to : Open × Due → Option Peer
+repeated_to (message, Send) = option_map (λ sent. message.to) message.sent
+repeated_to (message, due) = None
 
-abbrev pub tick_sends : Moment → List Open → List Datagram
-tick_sends now all = filter_map datagram_of (dues_of now all)
+abbrev pub ticked : Pace → Moment → List Open → List Open
+ticked pace now all = filter_map (after now) (dues_of pace now all)
 
-abbrev pub tick_gives_up : Moment → List Open → List MessageName
-tick_gives_up now all = filter_map given_up_of (dues_of now all)
+abbrev pub tick_sends : Pace → Moment → List Open → List Datagram
+tick_sends pace now all = filter_map datagram_of (dues_of pace now all)
+
+abbrev pub tick_gives_up : Pace → Moment → List Open → List MessageName
+tick_gives_up pace now all = filter_map given_up_of (dues_of pace now all)
+
+abbrev pub tick_repeats : Pace → Moment → List Open → List Peer
+tick_repeats pace now all = filter_map repeated_to (dues_of pace now all)
 
 -- ---- whether a tick does anything
 
@@ -76,5 +90,21 @@ abbrev pub is_kept : Due → Bool
 is_kept Keep = true
 is_kept due = false
 
-abbrev pub acts : Moment → List Open → Bool
-acts now all = list_any (λ pair. not (is_kept pair.1)) (dues_of now all)
+abbrev pub acts : Pace → Moment → List Open → Bool
+acts pace now all = list_any (λ pair. not (is_kept pair.1)) (dues_of pace now all)
+
+-- one that was outstanding is given up
+abbrev pub is_over : Due → Bool
+is_over GiveUp = true
+is_over due = false
+
+abbrev pub gives_up_by : Moment → Open → Option Sent → Bool
+gives_up_by now message None = false
+gives_up_by now message (Some sent) = is_over (outstanding_due now message sent)
+
+abbrev pub gives_up : Moment → Open → Bool
+gives_up now message = gives_up_by now message message.sent
+
+-- a name that is this peer's and this message ID
+abbrev pub names : Peer → ℕ → MessageName → Bool
+names peer id name = same_peer peer name.peer && nat_eq id name.id

@@ -1,12 +1,13 @@
 //! What is due of a confirmable message at a tick (RFC 7252 sections 4.2 and 4.8).
-ghost use Rattle.std.specs.Prelude.{◌≡◌, ◌≤◌, ◌<◌, ◌+◌, ◌-◌, ◌^◌, true, not, List};
+ghost use Rattle.std.specs.Prelude.{◌≡◌, ◌≤◌, ◌<◌, ◌+◌, ◌-◌, ◌^◌, List};
 ghost use Rattle.osc_message.specs.Bounds.{IsBounded};
-ghost use Rattle.osc_message.specs.Confirmables.{Open as AnyOpen, has_open, has_outstanding as has_outstanding_of};
-ghost use Rattle.osc_message.specs.Queue.{messages};
-ghost use Rattle.osc_message.specs.Ticks.{due_at as due_at_of, outstanding_due, waiting_due, due_of as due_of_spec};
+ghost use Rattle.osc_message.specs.Confirmables.{Open as AnyOpen, outstanding, waiting};
+ghost use Rattle.osc_message.specs.Queue.{HasPlace};
+ghost use Rattle.osc_message.specs.Ticks.{due_at as due_at_of, gives_up, outstanding_due, waiting_due, due_of as due_of_spec};
 
 use crate::confirmable::{Open, Sent};
-use crate::queue::has_outstanding;
+use crate::pace::Pace;
+use crate::queue::allows;
 use crate::queued::Queued;
 use osc_model::Moment;
 
@@ -62,27 +63,38 @@ fn due_of_outstanding(now: Moment, message: &Open, sent: Sent) -> Due
     }
 }
 
-/// Whether a waiting message goes out, where `all` are there and it is marked beside those that were made before it.
-pub(crate) fn due_of_waiting(all: &[Queued], queued: &Queued) -> Due
-    ensures kept { result ≡ Due.Keep → queued.now.first ≡ true → has_outstanding_of queued.now.message.to (messages all.now) ≡ true }
-    ensures due { (earlier : List AnyOpen) → queued.now.first ≡ not (has_open queued.now.message.to earlier)
-        → result ≡ waiting_due (messages all.now) earlier queued.now.message }
+/// What is due of a message that waits, whatever else is open, where it has its place.
+pub(crate) fn due_of_waiting(pace: &Pace, queued: &Queued) -> Due
+    ensures kept { result ≡ Due.Keep → 0 < queued.now.place }
+    ensures due { (all earlier : List AnyOpen) → queued.now.place ≡ outstanding queued.now.message.to all + waiting queued.now.message.to earlier
+        → result ≡ waiting_due pace.now all earlier queued.now.message }
 {
-    if queued.first && !has_outstanding(all, queued.message.to) {
+    if allows(pace, queued.message.to, queued.place) {
         Due::Send
     } else {
         Due::Keep
     }
 }
 
-/// What is due of a message, where `all` are there and it is marked beside those that were made before it.
-pub(crate) fn due_of(now: Moment, all: &[Queued], queued: &Queued) -> Due
+/// What is due of a message, whatever else is open, where it has its place.
+pub(crate) fn due_of(pace: &Pace, now: Moment, queued: &Queued) -> Due
     requires { IsBounded queued.now.message }
-    ensures { (earlier : List AnyOpen) → queued.now.first ≡ not (has_open queued.now.message.to earlier)
-        → result ≡ due_of_spec now (messages all.now) earlier queued.now.message queued.now.message.sent }
+    ensures { (all earlier : List AnyOpen) → HasPlace all earlier queued.now
+        → result ≡ due_of_spec pace.now now all earlier queued.now.message queued.now.message.sent }
 {
     match queued.message.sent {
-        None => due_of_waiting(all, queued),
+        None => due_of_waiting(pace, queued),
         Some(sent) => due_of_outstanding(now, &queued.message, sent),
+    }
+}
+
+/// Whether a message is given up now.
+pub(crate) fn is_given_up(now: Moment, message: &Open) -> bool
+    requires { IsBounded message.now }
+    ensures { result ≡ gives_up now message.now }
+{
+    match message.sent {
+        None => false,
+        Some(sent) => matches!(due_of_outstanding(now, message, sent), Due::GiveUp),
     }
 }

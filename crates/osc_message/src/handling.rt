@@ -3,10 +3,11 @@ ghost use Rattle.std.specs.Prelude.{◌≡◌, ◌≤◌, vec_len, vec_capacity}
 ghost use Rattle.osc_model.specs.{exchange_lifetime};
 ghost use Rattle.osc_message.specs.Bounds.{AreShort};
 ghost use Rattle.osc_message.specs.Queue.{IsSoundQueue, messages};
-ghost use Rattle.osc_message.specs.Endpoint.{lifetime as lifetime_of, noted, acknowledged_by, handled_seen, handled_sending};
+ghost use Rattle.osc_message.specs.Endpoint.{lifetime as lifetime_of, noted, acknowledged_by, handled_pace, handled_seen, handled_sending, quickened_by};
 ghost use Rattle.osc_message.specs.Sending.{IsSendableHandling, IsSendableReply};
 
 use crate::confirmable::acknowledge;
+use crate::pace::Pace;
 use crate::queued::Queued;
 use osc_coap::{Kind, MessageRef};
 use osc_dedup::{Duplicates, Remembered};
@@ -56,22 +57,49 @@ fn note(seen: &mut Duplicates, now: Moment, from: Peer, kind: Kind, id: u16, rep
 }
 
 /// Ends the repeats of the message that an acknowledgement or a Reset names.
-pub(crate) fn acknowledge_by(sending: &mut Vec<Queued>, from: Peer, kind: Kind, id: u16)
+pub(crate) fn acknowledge_by(
+    pace: &mut Pace,
+    sending: &mut Vec<Queued>,
+    from: Peer,
+    kind: Kind,
+    id: u16,
+)
+    ensures pace { pace.new ≡ quickened_by from kind id (messages sending.old.items) pace.old }
     ensures items { messages sending.new.items ≡ acknowledged_by from kind id (messages sending.old.items) }
-    ensures sound { IsSoundQueue sending.old.items → IsSoundQueue sending.new.items }
+    ensures more { pace.new.more ≡ pace.old.more }
+    ensures sound { IsSoundQueue pace.old sending.old.items → IsSoundQueue pace.new sending.new.items }
     ensures len { vec_len sending.new ≤ vec_len sending.old }
     ensures capacity { vec_capacity sending.new ≡ vec_capacity sending.old }
 {
     match kind {
-        Kind::Acknowledgement | Kind::Reset => acknowledge(sending, from, id),
+        Kind::Acknowledgement | Kind::Reset => acknowledge(pace, sending, from, id),
         _ => {}
     }
 }
 
-/// Makes the changes of what the node made of a message.
-pub(crate) fn handle(
-    seen: &mut Duplicates,
+/// Ends the repeats of the request that a response answers, where it counts.
+pub(crate) fn handle_sending(
+    pace: &mut Pace,
     sending: &mut Vec<Queued>,
+    from: Peer,
+    handling: &Handling,
+)
+    ensures pace { pace.new ≡ handled_pace from handling.now (messages sending.old.items) pace.old }
+    ensures items { messages sending.new.items ≡ handled_sending from handling.now (messages sending.old.items) }
+    ensures more { pace.new.more ≡ pace.old.more }
+    ensures sound { IsSoundQueue pace.old sending.old.items → IsSoundQueue pace.new sending.new.items }
+    ensures len { vec_len sending.new ≤ vec_len sending.old }
+    ensures capacity { vec_capacity sending.new ≡ vec_capacity sending.old }
+{
+    match handling {
+        Handling::Counted(request, _) => acknowledge(pace, sending, from, *request),
+        _ => {}
+    }
+}
+
+/// Notes a message by what the node made of it.
+pub(crate) fn handle_seen(
+    seen: &mut Duplicates,
     now: Moment,
     from: Peer,
     message: &MessageRef<'_>,
@@ -79,17 +107,11 @@ pub(crate) fn handle(
 )
     ensures seen { seen.new ≡ handled_seen now from message.now.kind message.now.id handling seen.old }
     ensures short { IsSendableHandling handling → AreShort seen.old → AreShort seen.new }
-    ensures items { messages sending.new.items ≡ handled_sending from handling (messages sending.old.items) }
-    ensures sound { IsSoundQueue sending.old.items → IsSoundQueue sending.new.items }
-    ensures len { vec_len sending.new ≤ vec_len sending.old }
-    ensures capacity { vec_capacity sending.new ≡ vec_capacity sending.old }
 {
     match handling {
         Handling::Dropped => {}
-        Handling::Answered(reply) => note(seen, now, from, message.kind(), message.id(), reply),
-        Handling::Counted(request, reply) => {
-            acknowledge(sending, from, request);
-            note(seen, now, from, message.kind(), message.id(), reply);
+        Handling::Answered(reply) | Handling::Counted(_, reply) => {
+            note(seen, now, from, message.kind(), message.id(), reply)
         }
     }
 }

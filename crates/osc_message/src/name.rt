@@ -1,6 +1,5 @@
 //! Confirmable messages by their names.
 
-use arrayvec::ArrayVec;
 use osc_model::Peer;
 
 /// A confirmable message of the node's own, by what an acknowledgement names (RFC 7252 section 4.2).
@@ -12,7 +11,7 @@ pub struct MessageName {
     pub id: u16,
 }
 
-/// For the places of [`GivenUp`] that hold nothing.
+/// For the places of an array that hold nothing.
 impl Default for MessageName {
     fn default() -> MessageName {
         MessageName {
@@ -25,6 +24,3 @@ impl Default for MessageName {
         }
     }
 }
-
-/// Messages that a tick gave up, in the order in which they were made: at most one for each peer that has one open.
-pub type GivenUp = ArrayVec<MessageName, 64>;

@@ -1,11 +1,13 @@
-//! What a list of open messages holds for a peer, and whether it takes one more (RFC 7252 section 4.7).
-ghost use Rattle.std.specs.Prelude.{◌≡◌, ◌<◌, ◌+◌, ◌&&◌, true, not, length, vec_len, vec_capacity};
-ghost use Rattle.osc_message.specs.Queue.{IsSoundQueue, messages};
+//! What a list of open messages holds for a peer, whether it takes one more, and whether that goes out at once (RFC 7252 section 4.7).
+ghost use Rattle.std.specs.Prelude.{◌≡◌, ◌<◌, ◌+◌, ◌&&◌, true, false, not, length, nat_lt, vec_len, vec_capacity};
+ghost use Rattle.osc_message.specs.Queue.{ArePlaced, IsSoundQueue, messages};
 ghost use Rattle.osc_message.specs.Sending.{FitsDatagram};
 ghost use Rattle.osc_message.specs.Timeout.{timeout_of};
-ghost use Rattle.osc_message.specs.Confirmables.{is_to as is_to_of, is_outstanding, has_open as has_open_of, has_outstanding as has_outstanding_of, waiting, peers_of, takes as takes_of, sent_at, with_open};
+ghost use Rattle.osc_message.specs.Confirmables.{is_to as is_to_of, is_outstanding, has_open as has_open_of, is_named as is_named_of, outstanding, waiting, peers_of, takes as takes_of};
+ghost use Rattle.osc_message.specs.Pace.{Pace as AnyPace, allowed, goes_at_once as goes_at_once_of, has_sent_once as has_sent_once_of, sent_at, was_sent_once as was_sent_once_of, with_open};
 
-use crate::confirmable::{Open, Sent, initial_timeout};
+use crate::confirmable::{Open, Sent, initial_timeout, is_named};
+use crate::pace::Pace;
 use crate::queued::{Queued, is_to};
 use osc_model::{Datagram, Draw, Moment, Peer};
 
@@ -34,12 +36,22 @@ pub(crate) fn has_open(all: &[Queued], peer: Peer) -> bool
     all.iter().any(|queued| is_to(&queued.message, peer))
 }
 
-/// Whether one is outstanding to the peer.
-pub(crate) fn has_outstanding(all: &[Queued], peer: Peer) -> bool
-    ensures { result ≡ has_outstanding_of peer (messages all.now) }
+/// How many are open to the peer.
+fn count_open(all: &[Queued], peer: Peer) -> usize
+    ensures { result ≡ outstanding peer (messages all.now) + waiting peer (messages all.now) }
 {
     all.iter()
-        .any(|queued| is_outstanding_to(&queued.message, peer))
+        .filter(|queued| is_to(&queued.message, peer))
+        .count()
+}
+
+/// How many are outstanding to the peer.
+fn count_outstanding(all: &[Queued], peer: Peer) -> usize
+    ensures { result ≡ outstanding peer (messages all.now) }
+{
+    all.iter()
+        .filter(|queued| is_outstanding_to(&queued.message, peer))
+        .count()
 }
 
 /// How many wait for the peer.
@@ -53,15 +65,15 @@ fn count_waiting(all: &[Queued], peer: Peer) -> usize
 
 /// How many peers have one open: as many as messages that are the first to theirs.
 fn count_peers(all: &[Queued]) -> usize
-    requires { IsSoundQueue all.now }
+    requires { ArePlaced all.now }
     ensures { result ≡ length (peers_of (messages all.now)) }
 {
-    all.iter().filter(|queued| queued.first).count()
+    all.iter().filter(|queued| queued.place == 0).count()
 }
 
 /// Whether one more to the peer is taken.
 pub(crate) fn takes(all: &[Queued], peer: Peer) -> bool
-    requires { IsSoundQueue all.now }
+    requires { ArePlaced all.now }
     ensures { result ≡ takes_of peer (messages all.now) }
 {
     if has_open(all, peer) {
@@ -71,20 +83,59 @@ pub(crate) fn takes(all: &[Queued], peer: Peer) -> bool
     }
 }
 
-/// How many messages are open at most: to each of 64 peers one that is outstanding and 16 that wait.
+/// How many messages are open at most, where one at a time is outstanding to a peer: to each of 64 peers that one and 16 that wait.
 pub const MOST_OPEN: usize = MOST_PEERS * (1 + MOST_WAITING);
 
-/// How a message stands that waits, or goes out now.
-fn first_sent(now: Moment, waits: bool) -> Option<Sent>
-    ensures { result ≡ sent_at now waits }
+/// Whether a message was sent exactly once.
+fn was_sent_once(message: &Open) -> bool
+    ensures { result ≡ was_sent_once_of message.now.sent }
 {
-    if waits {
-        None
-    } else {
+    match message.sent {
+        None => false,
+        Some(sent) => sent.repeats == 0,
+    }
+}
+
+fn is_named_and_sent_once(message: &Open, peer: Peer, id: u16) -> bool
+    ensures { result ≡ (is_named_of peer id message.now && was_sent_once_of message.now.sent) }
+{
+    is_named(message, peer, id) && was_sent_once(message)
+}
+
+/// Whether a message of this name was sent exactly once.
+pub(crate) fn has_sent_once(all: &[Queued], peer: Peer, id: u16) -> bool
+    ensures { result ≡ has_sent_once_of peer id (messages all.now) }
+{
+    all.iter()
+        .any(|queued| is_named_and_sent_once(&queued.message, peer, id))
+}
+
+/// Whether one more is allowed to be outstanding to the peer, where so many are before it.
+pub(crate) fn allows(pace: &Pace, peer: Peer, before: usize) -> bool
+    ensures value { result ≡ nat_lt before (allowed pace.now peer) }
+    ensures first { result ≡ false → 0 < before }
+{
+    before == 0 || (before <= pace.more() && !pace.is_slow(peer))
+}
+
+/// Whether one more to the peer goes out at once.
+pub(crate) fn goes_at_once(pace: &Pace, all: &[Queued], peer: Peer) -> bool
+    ensures { result ≡ goes_at_once_of pace.now peer (messages all.now) }
+{
+    count_waiting(all, peer) == 0 && allows(pace, peer, count_outstanding(all, peer))
+}
+
+/// How a message stands that goes out now, or waits.
+fn first_sent(now: Moment, goes: bool) -> Option<Sent>
+    ensures { result ≡ sent_at now goes }
+{
+    if goes {
         Some(Sent {
             at: now,
             repeats: 0,
         })
+    } else {
+        None
     }
 }
 
@@ -95,27 +146,23 @@ pub(crate) fn push(
     id: u16,
     draw: &Draw,
     datagram: Datagram,
-    waits: bool,
+    goes: bool,
 )
-    requires sound { IsSoundQueue sending.old.items }
     requires room { vec_len sending.old < vec_capacity sending.old }
-    requires taken { takes_of datagram.to (messages sending.old.items) ≡ true }
-    requires short { FitsDatagram datagram.bytes }
-    requires waits { waits ≡ has_open_of datagram.to (messages sending.old.items) }
-    ensures items { messages sending.new.items ≡ with_open now datagram.to id (timeout_of draw.now) datagram.bytes (messages sending.old.items) }
-    ensures sound { IsSoundQueue sending.new.items }
+    ensures items { (pace : AnyPace) → goes ≡ goes_at_once_of pace datagram.to (messages sending.old.items)
+        → messages sending.new.items ≡ with_open pace now datagram.to id (timeout_of draw.now) datagram.bytes (messages sending.old.items) }
+    ensures sound { (pace : AnyPace) → goes ≡ goes_at_once_of pace datagram.to (messages sending.old.items) → takes_of datagram.to (messages sending.old.items) ≡ true
+        → FitsDatagram datagram.bytes → IsSoundQueue pace sending.old.items → IsSoundQueue pace sending.new.items }
     ensures len { vec_len sending.new ≡ vec_len sending.old + 1 }
     ensures capacity { vec_capacity sending.new ≡ vec_capacity sending.old }
 {
+    let place = count_open(sending, datagram.to);
     let message = Open {
         to: datagram.to,
         id,
         timeout: initial_timeout(draw),
         bytes: datagram.bytes,
-        sent: first_sent(now, waits),
+        sent: first_sent(now, goes),
     };
-    sending.push_reserved(Queued {
-        message,
-        first: !waits,
-    });
+    sending.push_reserved(Queued { message, place });
 }

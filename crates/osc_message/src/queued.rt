@@ -1,18 +1,18 @@
-//! Open messages in the order in which they were made, each with a mark whether it is the first that is open to its peer.
-ghost use Rattle.std.specs.Prelude.{◌≡◌, ◌||◌, false, vec_capacity, vec_len};
+//! Open messages in the order in which they were made, each with its place among those that are open to its peer.
+ghost use Rattle.std.specs.Prelude.{◌≡◌, ◌≤◌, ◌<◌, ◌+◌, ◌^◌, vec_capacity, vec_len};
 ghost use Rattle.osc_message.specs.Confirmables.{is_to as is_to_of};
-ghost use Rattle.osc_message.specs.Queue.{marked, marked_one};
+ghost use Rattle.osc_message.specs.Queue.{place_after, placed, placed_one};
 
 use crate::confirmable::Open;
 use osc_model::Peer;
 
-/// An open message, with its mark.
+/// An open message, with its place.
 #[derive(Drop)]
 pub(crate) struct Queued {
     /// The message.
     pub message: Open,
-    /// Whether none that was made before it is open to its peer.
-    pub first: bool,
+    /// How many that were made before it are open to its peer.
+    pub place: usize,
 }
 
 pub(crate) fn is_to(message: &Open, peer: Peer) -> bool
@@ -21,26 +21,30 @@ pub(crate) fn is_to(message: &Open, peer: Peer) -> bool
     peer == message.to
 }
 
-/// Marks a message, where it is to the peer, and answers whether one to the peer was seen now, where `seen` says it of those before.
-fn mark_one(queued: &mut Queued, peer: Peer, seen: bool) -> bool
-    ensures marked { queued.new ≡ marked_one peer seen queued.old }
-    ensures seen { result ≡ (seen || is_to_of peer queued.old.message) }
+/// Puts the place of a message, where it is to the peer, and answers how many are open to the peer now, where there were `before` of them
+/// before it.
+fn place_one(queued: &mut Queued, peer: Peer, before: usize) -> usize
+    requires { before < 2 ^ 63 }
+    ensures placed { queued.new ≡ placed_one peer before queued.old }
+    ensures after { result ≡ place_after peer before queued.old.message }
+    ensures bound { result ≤ before + 1 }
 {
-    let to_peer = is_to(&queued.message, peer);
-    if to_peer {
-        queued.first = !seen;
+    if is_to(&queued.message, peer) {
+        queued.place = before;
+        before + 1
+    } else {
+        before
     }
-    seen || to_peer
 }
 
-/// Marks the messages to the peer again, where some of them were taken out.
-pub(crate) fn mark(queue: &mut Vec<Queued>, peer: Peer)
-    ensures items { queue.new.items ≡ marked peer false queue.old.items }
+/// Puts the places of the messages to the peer, where some of them were taken out.
+pub(crate) fn place_again(queue: &mut Vec<Queued>, peer: Peer)
+    ensures items { queue.new.items ≡ placed peer 0 queue.old.items }
     ensures len { vec_len queue.new ≡ vec_len queue.old }
     ensures capacity { vec_capacity queue.new ≡ vec_capacity queue.old }
 {
-    let mut seen = false;
+    let mut before = 0;
     for index in 0..queue.len() {
-        seen = mark_one(&mut queue[index], peer, seen);
+        before = place_one(&mut queue[index], peer, before);
     }
 }

@@ -10,7 +10,7 @@ use Rattle.osc_model.specs.declared.code.Method.TheVariants.{Get}
 use Rattle.osc_model.specs.declared.node.Moment.{Moment}
 use Rattle.osc_model.specs.declared.node.Peer.{Peer}
 use Rattle.osc_log.specs.{Event}
-use Rattle.osc_message.specs.{fresh}
+use Rattle.osc_message.specs.{fresh, fresh_with}
 use Rattle.osc_proxy.specs.{none_open, IsStep as IsStepOfProxy, acts as proxy_acts_at}
 use Rattle.osc_proxy.specs.State.{State as Proxy}
 use Rattle.osc_proxy.specs.declared.targets.Target.{Target}
@@ -54,11 +54,11 @@ pub record IsServerOf (settings : ServerSettings) (resources : Tree) (server : S
 abbrev pub target_of : TargetSetting → Target
 target_of setting = record { host = setting.host; port = setting.port; peer = setting.to }
 
--- the proxy of these settings, which did nothing yet: it forwards to their targets
+-- the proxy of these settings, which did nothing yet: it forwards to their targets, and 16 confirmable messages may be outstanding to a peer
 pub record IsProxyOf (settings : ProxySettings) (proxy : Proxy) : Type 0 where
   pub targets : proxy.targets ≡ map target_of settings.targets.items
   pub exchanges : proxy.exchanges ≡ none_open
-  pub endpoint : proxy.endpoint ≡ fresh
+  pub endpoint : proxy.endpoint ≡ fresh_with 15
 
 -- ---- their turns
 

@@ -294,6 +294,9 @@ fn open_scope(alloc: Global, paths: &[Path]) -> Result<Scope, AllocError>
     Ok(scope)
 }
 
+// How many confirmable messages of a proxy may be outstanding to one peer, as long as none to it is lost.
+const MOST_OUTSTANDING: u8 = 16;
+
 // A proxy without exchanges, and its addresses.
 fn proxy_of(alloc: Global, settings: ProxySettings) -> Result<(Proxy, Vec<Peer>), AllocError>
     ensures proxy { IfOk result (λ made. spec.IsProxyOf settings made.0) }
@@ -301,7 +304,7 @@ fn proxy_of(alloc: Global, settings: ProxySettings) -> Result<(Proxy, Vec<Peer>)
 {
     let ProxySettings { bind, targets } = settings;
     let targets = targets_of(alloc, &targets)?;
-    Ok((Proxy::new(alloc, targets)?, bind))
+    Ok((Proxy::with_pace(alloc, targets, MOST_OUTSTANDING)?, bind))
 }
 
 fn targets_of(alloc: Global, settings: &[TargetSetting]) -> Result<Targets, AllocError>

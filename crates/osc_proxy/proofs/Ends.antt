@@ -14,6 +14,7 @@ use Rattle.osc_model.specs.declared.node.Moment.{Moment}
 use Rattle.osc_model.specs.declared.node.Peer.{Peer}
 use Rattle.osc_model.specs.declared.step.Datagram.{Datagram}
 use Rattle.osc_model.specs.declared.step.Step.{Step}
+use Rattle.osc_message.specs.Pace.{Pace}
 use Rattle.osc_message.specs.{Open, EndpointState, after_tick, GoesOut, datagram_of, due_of, dues, tick_gives_up, tick_sends}
 use Rattle.osc_message.specs.declared.due.Due.{Due}
 use Rattle.osc_message.specs.declared.due.Due.TheVariants.{Keep, Send, GiveUp}
@@ -44,7 +45,7 @@ begun now old = record old { endpoint = after_tick now (without_over_in now old)
 pub none_overdue : (old new : State) (now : Moment) (draw : Draw) (step : Step) → Ticks old now draw step new
     → (key : ℕ) (exchange : Exchange) → get new.exchanges key ≡ Some exchange → is_overdue now exchange ≡ false
 none_overdue old new now draw step ticks key exchange is =
-    let names = tick_gives_up now (without_over now old.exchanges old.endpoint.sending) in
+    let names = tick_gives_up old.endpoint.pace now (without_over now old.exchanges old.endpoint.sending) in
     (or_parts (is_given_up names exchange) (is_overdue now exchange)
     (none_left now draw names (begun now old) new ticks.answers ticks.ends key exchange is)).1
 
@@ -74,8 +75,8 @@ each_after old new now draw step ticks each =
     let left = without_over now old.exchanges old.endpoint.sending in
     let kept : EachHasItsExchange old.exchanges left =
     All-filter (λ message. not (is_of_over now (entries old.exchanges) message)) (Its old.exchanges) old.endpoint.sending each in
-    each_left now draw (tick_gives_up now left) (begun now old) new ticks.answers ticks.ends
-    (each_ticked now old.exchanges left kept)
+    each_left now draw (tick_gives_up old.endpoint.pace now left) (begun now old) new ticks.answers ticks.ends
+    (each_ticked old.endpoint.pace now old.exchanges left kept)
 
 -- ---- each request that goes out is that of an exchange
 
@@ -117,16 +118,16 @@ of_due old now message Keep pairs own rest = rest
 of_due old now message Send pairs own rest = All-cons (Of old now) (copy message) (filter_map datagram_of pairs) own rest
 of_due old now message GiveUp pairs own rest = rest
 
-of_among : (old : State) (now : Moment) (all earlier later : List Open) → All (λ message. Of old now (copy message)) later
-    → All (Of old now) (filter_map datagram_of (dues now all earlier later))
-of_among old now all earlier [] each = All-nil (Of old now)
-of_among old now all earlier (message ∷ later) each =
-    of_due old now message (due_of now all earlier message message.sent) (dues now all (earlier ++ message ∷ []) later)
+of_among : (old : State) (pace : Pace) (now : Moment) (all earlier later : List Open) → All (λ message. Of old now (copy message)) later
+    → All (Of old now) (filter_map datagram_of (dues pace now all earlier later))
+of_among old pace now all earlier [] each = All-nil (Of old now)
+of_among old pace now all earlier (message ∷ later) each =
+    of_due old now message (due_of pace now all earlier message message.sent) (dues pace now all (earlier ++ message ∷ []) later)
     (All-head (λ m. Of old now (copy m)) message later each)
-    (of_among old now all (earlier ++ message ∷ []) later (All-tail (λ m. Of old now (copy m)) message later each))
+    (of_among old pace now all (earlier ++ message ∷ []) later (All-tail (λ m. Of old now (copy m)) message later each))
 
 of_sent : (old : State) (now : Moment) → EachHasItsExchange old.exchanges old.endpoint.sending
-    → All (Of old now) (tick_sends now (without_over now old.exchanges old.endpoint.sending))
+    → All (Of old now) (tick_sends old.endpoint.pace now (without_over now old.exchanges old.endpoint.sending))
 of_sent old now each =
     let sending = old.endpoint.sending in
     let kept : Open → Bool = λ message. not (is_of_over now (entries old.exchanges) message) in
@@ -134,7 +135,7 @@ of_sent old now each =
     let its = All-filter kept (Its old.exchanges) sending each in
     let there = All-filter kept (Contains sending) sending (All-contains_itself sending) in
     let left = filter kept sending in
-    of_among old now left [] left
+    of_among old old.endpoint.pace now left [] left
     (All-weaker (λ m. (kept m ≡ true) × Its old.exchanges m × Contains sending m) (λ m. Of old now (copy m))
     (λ m all. of_open old now m all.0 all.1 all.2) left (λ k d within. (passes k d within, its k d within, there k d within)))
 
@@ -172,7 +173,7 @@ of_those old now true due out none each = All-same (Of old now) out [] none (All
 pub requests_are : (old new : State) (now : Moment) (draw : Draw) (step : Step) → Ticks old now draw step new
     → EachHasItsExchange old.exchanges old.endpoint.sending → AreOfExchanges old now step.out
 requests_are old new now draw step ticks each =
-    let names = tick_gives_up now (without_over now old.exchanges old.endpoint.sending) in
+    let names = tick_gives_up old.endpoint.pace now (without_over now old.exchanges old.endpoint.sending) in
     All-same (Of old now) step.out (ticks.repeats ++ ticks.told_answers) ticks.told
     (All-append (Of old now) ticks.repeats ticks.told_answers
     (of_those old now ticks.lost_repeats _ ticks.repeats ticks.repeated (of_sent old now each))
@@ -188,14 +189,14 @@ those_few true due out none = omega (arith, ap length none)
 fewer : {X : Type 0} (test : X → Bool) (xs : List X) → length (filter test xs) ≤ length xs
 fewer test xs = omega (arith, length-filter_both test (λ x. not (test x)) (λ x. refl) xs)
 
-pub few_sent : ((now : Moment) (all : List Open) → length (tick_sends now all) ≤ length all) → (old new : State) (now : Moment) (draw : Draw) (step : Step)
+pub few_sent : ((pace : Pace) (now : Moment) (all : List Open) → length (tick_sends pace now all) ≤ length all) → (old new : State) (now : Moment) (draw : Draw) (step : Step)
     → Ticks old now draw step new → length step.out ≤ length old.endpoint.sending + count old.exchanges
 few_sent few old new now draw step ticks =
     let left = without_over now old.exchanges old.endpoint.sending in
-    let repeats = those_few ticks.lost_repeats (tick_sends now left) ticks.repeats ticks.repeated in
-    let sent = few now left in
+    let repeats = those_few ticks.lost_repeats (tick_sends old.endpoint.pace now left) ticks.repeats ticks.repeated in
+    let sent = few old.endpoint.pace now left in
     let kept = fewer (λ message. not (is_of_over now (entries old.exchanges) message)) old.endpoint.sending in
     let answers = those_few ticks.lost_answers ticks.answers ticks.told_answers ticks.answered in
-    let ended = few_end now draw (tick_gives_up now left) (begun now old) new ticks.answers ticks.ends in
+    let ended = few_end now draw (tick_gives_up old.endpoint.pace now left) (begun now old) new ticks.answers ticks.ends in
     let whole = ap length ticks.told ∙ length-append ticks.repeats ticks.told_answers in
     omega (arith, repeats, sent, kept, answers, ended, whole)

@@ -12,7 +12,8 @@ use Rattle.osc_model.specs.declared.node.Draw.{Draw}
 use Rattle.osc_model.specs.declared.node.Moment.{Moment}
 use Rattle.osc_model.specs.declared.node.Peer.{Peer}
 use Rattle.osc_model.specs.{same_peer}
-use Rattle.osc_message.specs.{Open, acknowledged, has_open, is_named as names_message, sent_at, EndpointState, acknowledged_by, own_id, after, due_of, dues, ticked, timeout_of}
+use Rattle.osc_message.specs.{Open, acknowledged, goes_at_once, is_named as names_message, sent_at, EndpointState, acknowledged_by, own_id, after, due_of, dues, ticked, timeout_of}
+use Rattle.osc_message.specs.Pace.{Pace}
 use Rattle.osc_message.specs.declared.due.Due.{Due}
 use Rattle.osc_message.specs.declared.due.Due.TheVariants.{Keep, Send, GiveUp}
 use Rattle.osc_proxy.specs.Inner.Bounds.{names_one}
@@ -27,7 +28,7 @@ Its table message = is_request message.bytes ≡ true → has_exchange table mes
 
 -- ---- names
 
-one_peer : (a b : Peer) → same_peer a b ≡ true → a ≡ b
+pub one_peer : (a b : Peer) → same_peer a b ≡ true → a ≡ b
 one_peer a b same =
     let both = and_parts (bytes_eq a.address b.address) (nat_eq a.scope b.scope && nat_eq a.port b.port) same in
     let numbers = and_parts (nat_eq a.scope b.scope) (nat_eq a.port b.port) both.1 in
@@ -143,7 +144,7 @@ each_opened old new key exchange true endpoint now draw to bytes free changes co
       id = own_id draw endpoint.next_id;
       timeout = timeout_of draw;
       bytes = bytes;
-      sent = sent_at now (has_open to endpoint.sending);
+      sent = sent_at now (goes_at_once endpoint.pace to endpoint.sending);
     } in
     let its : is_its exchange message ≡ true =
     and_from exchange.confirmable (same_peer exchange.target to && nat_eq exchange.id (own_id draw endpoint.next_id)) confirmable
@@ -164,16 +165,16 @@ its_due now table message Keep pairs its rest = All-cons (Its table) message (fi
 its_due now table message Send pairs its rest = All-cons (Its table) _ (filter_map (after now) pairs) its rest
 its_due now table message GiveUp pairs its rest = rest
 
-its_among : (now : Moment) (table : Table) (all earlier later : List Open) → EachHasItsExchange table later
-    → EachHasItsExchange table (filter_map (after now) (dues now all earlier later))
-its_among now table all earlier [] each = All-nil (Its table)
-its_among now table all earlier (message ∷ later) each =
-    its_due now table message (due_of now all earlier message message.sent) (dues now all (earlier ++ message ∷ []) later)
+its_among : (pace : Pace) (now : Moment) (table : Table) (all earlier later : List Open) → EachHasItsExchange table later
+    → EachHasItsExchange table (filter_map (after now) (dues pace now all earlier later))
+its_among pace now table all earlier [] each = All-nil (Its table)
+its_among pace now table all earlier (message ∷ later) each =
+    its_due now table message (due_of pace now all earlier message message.sent) (dues pace now all (earlier ++ message ∷ []) later)
     (All-head (Its table) message later each)
-    (its_among now table all (earlier ++ message ∷ []) later (All-tail (Its table) message later each))
+    (its_among pace now table all (earlier ++ message ∷ []) later (All-tail (Its table) message later each))
 
-pub each_ticked : (now : Moment) (table : Table) (all : List Open) → EachHasItsExchange table all → EachHasItsExchange table (ticked now all)
-each_ticked now table all each = its_among now table all [] all each
+pub each_ticked : (pace : Pace) (now : Moment) (table : Table) (all : List Open) → EachHasItsExchange table all → EachHasItsExchange table (ticked pace now all)
+each_ticked pace now table all each = its_among pace now table all [] all each
 
 -- ---- the same of what these are
 

@@ -8,7 +8,8 @@ use Rattle.osc_model.specs.declared.bytes.Bytes.{Bytes}
 use Rattle.osc_model.specs.declared.node.Moment.{Moment}
 use Rattle.osc_model.specs.declared.node.Peer.{Peer}
 use Rattle.osc_model.specs.{same_peer}
-use Rattle.osc_message.specs.{Open, acknowledged, has_open, is_named, is_to, sent_at, with_open}
+use Rattle.osc_message.specs.{Open, acknowledged, goes_at_once, has_open, is_named, is_to, sent_at, with_open}
+use Rattle.osc_message.specs.Pace.{Pace}
 use Rattle.osc_proxy.specs.{Changes, HasOwnTokens, count, free_key, get}
 use Rattle.osc_proxy.specs.Exchanges.{Table}
 use Rattle.osc_proxy.specs.declared.exchanges.Exchange.{Exchange}
@@ -28,19 +29,19 @@ last_goes : (peer : Peer) (id : ℕ) (message : Open) → is_named peer id messa
 last_goes peer id message named = rw named refl
 
 -- one more to a peer to whom no message was open is acknowledged: those are left that were open before
-pub acknowledged_again : (now : Moment) (peer : Peer) (id timeout : ℕ) (bytes : Bytes) (all : List Open) → has_open peer all ≡ false
-    → acknowledged peer id (with_open now peer id timeout bytes all) ≡ all
-acknowledged_again now peer id timeout bytes all none =
-    let message : Open = record { to = peer; id = id; timeout = timeout; bytes = bytes; sent = sent_at now (has_open peer all) } in
+pub acknowledged_again : (pace : Pace) (now : Moment) (peer : Peer) (id timeout : ℕ) (bytes : Bytes) (all : List Open) → has_open peer all ≡ false
+    → acknowledged peer id (with_open pace now peer id timeout bytes all) ≡ all
+acknowledged_again pace now peer id timeout bytes all none =
+    let message : Open = record { to = peer; id = id; timeout = timeout; bytes = bytes; sent = sent_at now (goes_at_once pace peer all) } in
     let named : is_named peer id message ≡ true = and_from (same_peer peer peer) (nat_eq id id) (peer_same peer peer refl) (eq-eqb id id refl) in
     filter-append (λ m. not (is_named peer id m)) all (message ∷ [])
     ∙ ap₂ (λ (a b : List Open). a ++ b) (none_named peer id all none) (last_goes peer id message named)
     ∙ append-nil all
 
-pub acknowledged_twice : (now : Moment) (peer : Peer) (id timeout : ℕ) (bytes : Bytes) (all : List Open) → has_open peer all ≡ false
-    → acknowledged peer id (acknowledged peer id (with_open now peer id timeout bytes all)) ≡ all
-acknowledged_twice now peer id timeout bytes all none =
-    ap (acknowledged peer id) (acknowledged_again now peer id timeout bytes all none) ∙ none_named peer id all none
+pub acknowledged_twice : (pace : Pace) (now : Moment) (peer : Peer) (id timeout : ℕ) (bytes : Bytes) (all : List Open) → has_open peer all ≡ false
+    → acknowledged peer id (acknowledged peer id (with_open pace now peer id timeout bytes all)) ≡ all
+acknowledged_twice pace now peer id timeout bytes all none =
+    ap (acknowledged peer id) (acknowledged_again pace now peer id timeout bytes all none) ∙ none_named peer id all none
 
 -- ---- exchanges
 

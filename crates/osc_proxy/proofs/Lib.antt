@@ -8,6 +8,7 @@ mod Ending
 mod Codes
 mod Its
 mod Over
+mod GivenUp
 mod Ends
 mod Forwarded
 mod Fits

@@ -16,7 +16,8 @@ use Rattle.osc_coap.specs.{datagram_limit, HasSpelling, spelling}
 use Rattle.osc_coap.specs.Message.{Message}
 use Rattle.osc_coap.specs.declared.kind.Kind.TheVariants.{Confirmable, Acknowledgement}
 use Rattle.osc_options.specs.{uri_port, recognised, value}
-use Rattle.osc_message.specs.{acknowledged, has_open, takes, with_open, EndpointState, own_id, heard, AreSendable, FitsDatagram, acknowledgement, datagram, empty_acknowledgement, is_confirmable, sent_to, timeout_of}
+use Rattle.osc_message.specs.Pace.{Pace}
+use Rattle.osc_message.specs.{Open, acknowledged, goes_at_once, has_open, takes, with_open, EndpointState, own_id, heard, AreSendable, FitsDatagram, acknowledgement, datagram, empty_acknowledgement, is_confirmable, sent_to, timeout_of}
 use Rattle.osc_message.specs.declared.heard.Heard.TheVariants as heard_as
 use Rattle.osc_message.specs.declared.received.Received.TheVariants as received_as
 use Rattle.osc_proxy.specs.{case_of, HasOwnTokens, answers, count, first_key, free_key, get, answer, forwarded, forwarded_token, Hears, goes_now, sends_own, with_own, HostAndPort, Names, port_in, Answers, AnswersMessage, AnswersNew, Counts, FitsBy, ForwardsBy, IsForwarded, answer_for, back_kept, back_sends, counted, exchange_of, forwarded_by, kept_on, key_for, next_own, taken_up, CanSendTo, IsAnswerTo, IsAtRest, IsBroughtBack, IsCarried, IsLawfulProxy, IsPassedOn, TakesUp, acknowledged_at, answer_by, answer_id, answered_at, datagram_of, heard_with}
@@ -33,6 +34,7 @@ use Rattle.osc_proxy.proofs.Tokens.{found_by_own}
 pub record PassingLaws : Type 0 where
   pub one_reception : OneReception
   pub acknowledgement : (id : ℕ) → id < 2 ^ 16 → HasSpelling (empty_acknowledgement id)
+  pub idle : (pace : Pace) (peer : Peer) (all : List Open) → has_open peer all ≡ false → goes_at_once pace peer all ≡ true
   pub short : (id : ℕ) → length (spelling (empty_acknowledgement id)) ≤ datagram_limit
   pub no_longer : (id : ℕ) (token : List ℕ) (message : Message) → HasSpelling message → length token ≤ length message.token
       → length (spelling (forwarded id token message)) ≤ length (spelling message)
@@ -77,7 +79,7 @@ module _ (laws : PassingLaws) (proxy passed : State) (passage : Passage) (step :
       ∙ request_case proxy.targets proxy.exchanges came.from passage.to message takes_up.host port takes_up.request takes_up.safe takes_up.no_uri takes_up.scheme takes_up.target
 
   goes_is : goes_now (is_confirmable message.kind) passage.to (taken_up proxy came) ≡ true
-  goes_is = rw takes_up.kind (rw takes_up.there.idle refl)
+  goes_is = rw takes_up.kind (laws.idle proxy.endpoint.pace passage.to proxy.endpoint.sending takes_up.there.idle)
 
   acknowledges : acknowledgement message ≡ Some (empty_acknowledgement message.id)
   acknowledges = rw takes_up.kind refl
@@ -93,7 +95,7 @@ module _ (laws : PassingLaws) (proxy passed : State) (passage : Passage) (step :
   made_id = rw takes_up.kind refl
 
   made_sending : (kept_on proxy passage).sending
-      ≡ with_open came.at passage.to (next_own proxy came.draw) (timeout_of came.draw) (spelling there) proxy.endpoint.sending
+      ≡ with_open proxy.endpoint.pace came.at passage.to (next_own proxy came.draw) (timeout_of came.draw) (spelling there) proxy.endpoint.sending
   made_sending = rw takes_up.kind refl
 
   made_seen : (kept_on proxy passage).seen ≡ heard_with proxy came
@@ -132,7 +134,7 @@ module _ (laws : PassingLaws) (proxy passed : State) (passage : Passage) (step :
 
 -- what goes back where a confirmable message to the client goes out at once
 sent_back : (endpoint : EndpointState) (exchange : Exchange) (message : Message) → exchange.confirmable ≡ true
-    → takes exchange.client endpoint.sending ≡ true → has_open exchange.client endpoint.sending ≡ false
+    → takes exchange.client endpoint.sending ≡ true → goes_at_once endpoint.pace exchange.client endpoint.sending ≡ true
     → back_sends endpoint exchange message ≡ datagram exchange.client message ∷ []
 sent_back endpoint exchange message confirmable room idle = rw (confirmable, room, idle) refl
 
@@ -204,13 +206,13 @@ module _ (laws : PassingLaws) (proxy passed brought : State) (passage : Passage)
       once
       ∙ ap (λ id. acknowledged passage.to there_id (acknowledged passage.to id passed.endpoint.sending)) answers_it.id
       ∙ ap (λ all. acknowledged passage.to there_id (acknowledged passage.to there_id all)) is.sending
-      ∙ acknowledged_twice passage.came.at passage.to there_id (timeout_of passage.came.draw) (spelling (forwarded_by proxy passage)) proxy.endpoint.sending takes_up.there.idle
+      ∙ acknowledged_twice proxy.endpoint.pace passage.came.at passage.to there_id (timeout_of passage.came.draw) (spelling (forwarded_by proxy passage)) proxy.endpoint.sending takes_up.there.idle
 
   has_way : takes client settled_so.sending ≡ true
   has_way = ap (takes client) settled_sending ∙ back.room
 
-  none_there : has_open client settled_so.sending ≡ false
-  none_there = ap (has_open client) settled_sending ∙ back.idle
+  goes_there : goes_at_once settled_so.pace client settled_so.sending ≡ true
+  goes_there = laws.idle settled_so.pace client settled_so.sending (ap (has_open client) settled_sending ∙ back.idle)
 
   no_acknowledgement : acknowledgement response ≡ None
   no_acknowledgement = rw answers_it.kind refl
@@ -220,7 +222,7 @@ module _ (laws : PassingLaws) (proxy passed brought : State) (passage : Passage)
   told_back =
       ap (λ m. sends (sent_to passage.to m ++ back_sends settled_so its (answer_for passed it its))) no_acknowledgement
       ∙ ap (λ m. sends (back_sends settled_so its m)) answer_is
-      ∙ ap sends (sent_back settled_so its goes_back its_confirmable has_way none_there)
+      ∙ ap sends (sent_back settled_so its goes_back its_confirmable has_way goes_there)
 
   abbrev kept : EndpointState
   kept = with_own true settled_so later later_draw client (spelling goes_back)
@@ -240,9 +242,9 @@ module _ (laws : PassingLaws) (proxy passed brought : State) (passage : Passage)
 
   kept_sending : acknowledged client back_id kept.sending ≡ proxy.endpoint.sending
   kept_sending =
-      ap (λ id. acknowledged client back_id (with_open later client id (timeout_of later_draw) (spelling goes_back) settled_so.sending)) kept_id
-      ∙ ap (λ all. acknowledged client back_id (with_open later client back_id (timeout_of later_draw) (spelling goes_back) all)) settled_sending
-      ∙ acknowledged_again later client back_id (timeout_of later_draw) (spelling goes_back) proxy.endpoint.sending back.idle
+      ap (λ id. acknowledged client back_id (with_open settled_so.pace later client id (timeout_of later_draw) (spelling goes_back) settled_so.sending)) kept_id
+      ∙ ap (λ all. acknowledged client back_id (with_open settled_so.pace later client back_id (timeout_of later_draw) (spelling goes_back) all)) settled_sending
+      ∙ acknowledged_again settled_so.pace later client back_id (timeout_of later_draw) (spelling goes_back) proxy.endpoint.sending back.idle
 
   brought_so : Counts passage.key passed it step brought → AreSendable step.out → IsBroughtBack proxy passage response step brought
   brought_so counts fits =

@@ -3,3 +3,4 @@ pub mod Reading
 pub mod Rewriting
 pub mod Bounds
 pub mod Going
+pub mod Over

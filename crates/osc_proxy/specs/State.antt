@@ -1,6 +1,6 @@
 -- What a proxy keeps.
 use Rattle.std.specs.Prelude.{List}
-use Rattle.osc_message.specs.{EndpointState, fresh}
+use Rattle.osc_message.specs.{EndpointState, fresh_with}
 use Rattle.osc_proxy.specs.Exchanges.{Table, none_open}
 use Rattle.osc_proxy.specs.declared.targets.Target.{Target}
 
@@ -10,6 +10,6 @@ pub record State : Type 0 where
   pub exchanges : Table
   pub endpoint : EndpointState
 
--- it starts again: the targets stay alone
+-- it starts again: the targets stay alone, and how many confirmable messages may be outstanding to a peer
 abbrev pub restarted : State → State
-restarted old = record old { exchanges = none_open; endpoint = fresh }
+restarted old = record old { exchanges = none_open; endpoint = fresh_with old.endpoint.pace.more }

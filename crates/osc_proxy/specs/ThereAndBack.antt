@@ -84,7 +84,7 @@ pub record IsPassedOn (proxy : State) (passage : Passage) (step : Step) (passed 
   pub next_id : passed.endpoint.next_id ≡ Some (answer_id proxy passage.came.draw)
   pub seen : passed.endpoint.seen ≡ heard_with proxy passage.came
   pub sending : passed.endpoint.sending
-      ≡ with_open passage.came.at passage.to (next_own proxy passage.came.draw) (timeout_of passage.came.draw) (spelling (forwarded_by proxy passage))
+      ≡ with_open proxy.endpoint.pace passage.came.at passage.to (next_own proxy passage.came.draw) (timeout_of passage.came.draw) (spelling (forwarded_by proxy passage))
       proxy.endpoint.sending
 
 -- ---- the way back

@@ -65,9 +65,9 @@ without_over_in now state = record state.endpoint { sending = without_over now s
 pub record Ticks (old : State) (now : Moment) (draw : Draw) (step : Step) (new : State) : Type 0 where
   pub lost_repeats : Bool
   pub repeats : List Datagram
-  pub repeated : GoesOut lost_repeats (tick_sends now (without_over now old.exchanges old.endpoint.sending)) repeats
+  pub repeated : GoesOut lost_repeats (tick_sends old.endpoint.pace now (without_over now old.exchanges old.endpoint.sending)) repeats
   pub answers : List Datagram
-  pub ends : AllEnd now draw (tick_gives_up now (without_over now old.exchanges old.endpoint.sending))
+  pub ends : AllEnd now draw (tick_gives_up old.endpoint.pace now (without_over now old.exchanges old.endpoint.sending))
       (record old { endpoint = after_tick now (without_over_in now old) }) answers new
   pub lost_answers : Bool
   pub told_answers : List Datagram
@@ -101,4 +101,4 @@ abbrev pub any_overdue : Moment → Table → Bool
 any_overdue now table = list_any (λ entry. is_overdue now entry.1) (entries table)
 
 abbrev pub acts : Moment → State → Bool
-acts now state = messages_act now state.endpoint.sending || any_overdue now state.exchanges
+acts now state = messages_act state.endpoint.pace now state.endpoint.sending || any_overdue now state.exchanges

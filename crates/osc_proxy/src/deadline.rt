@@ -20,7 +20,7 @@ pub(crate) fn first_of(a: Option<u64>, b: Option<u64>) -> Option<u64>
 
 /// The first moment at which the message layer sends or gives up anything, in ms, or none.
 pub(crate) fn messages_deadline(endpoint: &Endpoint) -> Option<u64>
-    ensures reached { (now : AnyMoment) → is_reached now result ≡ messages_act now endpoint.now.sending }
+    ensures reached { (now : AnyMoment) → is_reached now result ≡ messages_act endpoint.now.pace now endpoint.now.sending }
     ensures open { endpoint.now.sending ≢ [] → IsSome result }
 {
     endpoint.next_deadline()

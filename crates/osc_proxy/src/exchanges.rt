@@ -1,14 +1,18 @@
 //! The exchanges that a proxy has open (RFC 7252 section 5.7.2).
-ghost use Rattle.std.specs.Prelude.{◌≡◌, ◌+◌, ◌≤◌, ◌<◌, ◌∷◌, ℕ, List, length, None, Some, IfOk, OnSome, IfNone, IsSome, option_copied, nat_le};
+ghost use Rattle.std.specs.Prelude.{◌≡◌, ◌+◌, ◌≤◌, ◌<◌, ◌∷◌, ◌++◌, ℕ, List, length, None, Some, IfOk, OnSome, IfNone, IsSome, option_copied, nat_le};
 ghost use Rattle.osc_model.specs.declared.node.Moment.{Moment as AnyMoment};
-ghost use Rattle.osc_message.specs.{is_reached};
+ghost use Rattle.std.specs.Option.{option_to_list};
+ghost use Rattle.osc_message.specs.{is_reached, tick_gives_up};
 ghost use Rattle.osc_proxy.specs.Ends.{without_over};
+ghost use Rattle.osc_proxy.specs.Inner.Over.{own_given_up};
+ghost use Rattle.osc_proxy.specs.declared.exchanges.Exchange.{Exchange as AnyExchange};
 ghost use Rattle.osc_proxy.specs.Exchanges as spec;
 ghost use Rattle.osc_proxy.specs.Ticks.{any_overdue, is_given_up as is_given_up_of, is_over as is_over_by, without_its};
 
 use crate::Endpoint;
 use crate::deadline::first_of;
 use crate::token::Token;
+use arrayvec::ArrayVec;
 use osc_coap::MessageRef;
 use osc_message::{MessageName, MessageRoom, is_acknowledgement};
 use osc_model::limits::EXCHANGE_LIFETIME;
@@ -20,6 +24,9 @@ use std::marker::Model;
 
 /// How many exchanges are open at most.
 const MOST_EXCHANGES: usize = 64;
+
+/// Forwarded messages that were given up: at most one for each exchange.
+pub(crate) type GivenUp = ArrayVec<MessageName, MOST_EXCHANGES>;
 
 /// How long a message without options and payload is at most, in bytes: a header and a token.
 const LONGEST_FAILURE: usize = 12;
@@ -105,13 +112,14 @@ impl Drop for Exchanges {
 
 impl Model for Exchanges {
     ghost use Rattle.std.specs.Prelude.{◌≤◌};
-    ghost use Rattle.osc_proxy.specs.Exchanges.{HasOwnTokens, Table};
+    ghost use Rattle.osc_proxy.specs.Exchanges.{HasOwnTokens, Table, count};
 
     ghost Value = { Table };
 
     ghost view = { λ e. record { slots = e.open.slots; next = e.open.vacant_key } };
 
-    ghost invariant = { λ e. (64 ≤ e.open.capacity) × HasOwnTokens (record { slots = e.open.slots; next = e.open.vacant_key }) };
+    ghost invariant = { λ e. (64 ≤ e.open.capacity) × HasOwnTokens (record { slots = e.open.slots; next = e.open.vacant_key })
+        × (count (record { slots = e.open.slots; next = e.open.vacant_key }) ≤ 64) };
 }
 
 /// Whether the response, which came from this peer, answers the request of the exchange.
@@ -153,6 +161,29 @@ fn is_given_up(given_up: &[MessageName], exchange: &Exchange) -> bool
         .any(|name| is_named(name.peer, name.id, exchange))
 }
 
+/// The name of the exchange's forwarded message, where a tick of the message layer gives that up at this moment.
+fn given_up_of(endpoint: &Endpoint, now: Moment, exchange: &Exchange) -> Option<MessageName>
+    ensures { result ≡ own_given_up (tick_gives_up endpoint.now.pace now endpoint.now.sending) exchange.now }
+{
+    if exchange.confirmable && endpoint.gives_up(now, exchange.target, exchange.id) {
+        Some(MessageName {
+            peer: exchange.target,
+            id: exchange.id,
+        })
+    } else {
+        None
+    }
+}
+
+fn add(names: &mut GivenUp, name: Option<MessageName>)
+    requires { length names.old.items < 64 }
+    ensures { names.new.items ≡ names.old.items ++ option_to_list name }
+{
+    if let Some(name) = name {
+        names.push(name);
+    }
+}
+
 /// Whether no answer is awaited any more.
 fn is_over(now: Moment, given_up: &[MessageName], exchange: &Exchange) -> bool
     ensures { result ≡ is_over_by now given_up.now exchange.now }
@@ -191,6 +222,7 @@ impl Exchanges {
     pub fn count(&self) -> usize
         ensures value { result ≡ spec.count self.now }
         ensures own_tokens { spec.HasOwnTokens self.now }
+        ensures most { result ≤ 64 }
     {
         self.open.len()
     }
@@ -281,6 +313,18 @@ impl Exchanges {
             }
         }
         None
+    }
+
+    /// The forwarded messages of exchanges that a tick of the message layer gives up at this moment.
+    pub fn given_up(&self, endpoint: &Endpoint, now: Moment) -> GivenUp
+        ensures { (key : ℕ) (exchange : AnyExchange) → spec.get self.now key ≡ Some exchange
+            → is_given_up_of result.items exchange ≡ is_given_up_of (tick_gives_up endpoint.now.pace now endpoint.now.sending) exchange }
+    {
+        let mut names = GivenUp::new();
+        for (_, exchange) in self.open.iter() {
+            add(&mut names, given_up_of(endpoint, now, exchange));
+        }
+        names
     }
 
     /// The first moment at which the end of an exchange is due, in ms, or none where no exchange is open.

@@ -23,7 +23,7 @@ ghost use Rattle.osc_proxy.specs.Ticks.{Ticks};
 ghost use Rattle.osc_proxy.specs.declared.exchanges.Exchange.{Exchange as AnyExchange};
 
 use osc_coap::laws::{fewer_options, length_of_spelling};
-use osc_message::laws::{one_reception, what_nodes_send};
+use osc_message::laws::{one_at_a_time, one_reception, what_nodes_send};
 
 /// A tick leaves no exchange that is over: each that is left was opened less than 247 seconds ago.
 pub fn none_is_over()
@@ -76,6 +76,7 @@ pub fn a_request_is_forwarded()
 {
     one_reception();
     what_nodes_send();
+    one_at_a_time();
     forwarding_adds_nothing();
 }
 
@@ -90,6 +91,7 @@ pub fn an_answer_goes_back()
 {
     one_reception();
     what_nodes_send();
+    one_at_a_time();
     forwarding_adds_nothing();
 }
 

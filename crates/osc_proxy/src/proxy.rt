@@ -1,9 +1,9 @@
 //! The proxy.
-ghost use Rattle.std.specs.Prelude.{◌≡◌, ◌≢◌, ℕ, ◌≤◌, ◌<◌, ◌+◌, ◌↔◌, List, [], length, true, false, None, Option, Some, IfOk, OnErr, OnOk, IfSome, IfNone, IsSome};
+ghost use Rattle.std.specs.Prelude.{◌≡◌, ◌≢◌, ℕ, ◌≤◌, ◌<◌, ◌+◌, ◌-◌, ◌↔◌, List, [], length, true, false, None, Option, Some, IfOk, OnErr, OnOk, IfSome, IfNone, IsSome};
 ghost use Rattle.osc_coap.specs.{is_request_code, datagram_limit, HasSpelling, spelling};
 ghost use Rattle.osc_model.specs.{sends};
 ghost use Rattle.osc_model.specs.declared.node.Moment.{Moment as AnyMoment};
-ghost use Rattle.osc_message.specs.{is_reached, fresh, settled, AnswersAlone, IsSendableHeard, heard as heard_as, Receives, AreSendable, is_confirmable as is_confirmable_of, rejection};
+ghost use Rattle.osc_message.specs.{is_reached, fresh, fresh_with, settled, AnswersAlone, IsSendableHeard, heard as heard_as, Receives, AreSendable, is_confirmable as is_confirmable_of, rejection};
 ghost use Rattle.osc_message.specs.declared.received.Received.{Received as AnyReceived};
 ghost use Rattle.osc_message.specs.declared.handling.Handling.TheVariants as handling;
 ghost use Rattle.osc_message.specs.declared.heard.Heard.TheVariants as heard;
@@ -77,6 +77,29 @@ impl Proxy {
             exchanges,
             endpoint,
         })
+    }
+
+    /// The same, where up to `most` confirmable messages of its own may be outstanding to a peer as long as none to it is lost (RFC 7252
+    /// section 4.7). Refused only for lack of memory.
+    pub fn with_pace(alloc: Global, targets: Targets, most: u8) -> Result<Proxy, AllocError>
+        requires { (1 ≤ most) × (most ≤ 16) }
+        ensures { IfOk result (λ proxy. proxy ≡ record { targets = targets; exchanges = none_open; endpoint = fresh_with (most - 1) }) }
+    {
+        let exchanges = Exchanges::new(alloc)?;
+        let endpoint = Endpoint::with_pace(alloc, most)?;
+        Ok(Proxy {
+            targets,
+            exchanges,
+            endpoint,
+        })
+    }
+
+    /// How many confirmable messages of its own may be outstanding to one peer.
+    pub fn most_outstanding(&self) -> u8
+        ensures value { result ≡ 1 + self.now.endpoint.pace.more }
+        ensures bound { result ≤ 16 }
+    {
+        self.endpoint.most_outstanding()
     }
 
     /// How many exchanges are open: at most 64.
@@ -512,7 +535,7 @@ impl Proxy {
         )
     }
 
-    /// Starts again: forgets the open exchanges and what was heard, and keeps its targets. Takes no memory.
+    /// Starts again: forgets the open exchanges and what was heard, and keeps its targets and its pace. Takes no memory.
     pub fn restart(&mut self)
         ensures { self.new ≡ restarted self.old }
     {

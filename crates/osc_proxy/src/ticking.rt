@@ -54,7 +54,7 @@ fn end(
     send_back(endpoint, now, draw, own)
 }
 
-/// A tick: when it comes, what is drawn for it, and the confirmable messages that it gave up.
+/// A tick: when it comes, what is drawn for it, and the forwarded messages that it gave up.
 #[derive(Clone, Copy)]
 struct AtTick<'a> {
     at: Moment,
@@ -139,10 +139,11 @@ pub(crate) fn tick(
         (record { targets = targets; exchanges = exchanges.new; endpoint = endpoint.new }) }
 {
     exchanges.withdraw_over(endpoint, now);
+    let given_up = exchanges.given_up(endpoint, now);
     let Ticked {
         out,
         lost: lost_repeats,
-        given_up,
+        ..
     } = endpoint.on_tick(alloc, now);
     let tick = AtTick {
         at: now,

@@ -5,7 +5,7 @@ use Rattle.osc_model.specs.Arrival.{Arrival}
 use Rattle.osc_model.specs.declared.step.Step.{Step}
 use Rattle.osc_coap.specs.{datagram_limit, HasSpelling, spelling}
 use Rattle.osc_coap.specs.declared.kind.Kind.TheVariants.{Acknowledgement}
-use Rattle.osc_message.specs.{acknowledged, heard, Receives, empty_acknowledgement}
+use Rattle.osc_message.specs.{acknowledged, heard, Receives, empty_acknowledgement, quickened}
 use Rattle.osc_message.specs.declared.heard.Heard.{Heard}
 use Rattle.osc_message.specs.declared.heard.Heard.TheVariants.{Empty}
 use Rattle.osc_message.specs.declared.received.Received.{Received}
@@ -21,7 +21,7 @@ module _ (is_sealing : Sealings)
     (short : (id : ℕ) → length (spelling (empty_acknowledgement id)) ≤ datagram_limit) where
   pub acknowledgement_heard : (old new : Client) (came : Arrival ℕ) (step : Step) → came.what < 2 ^ 16
       → ClientHears is_sealing old (read_as came (spelling (empty_acknowledgement came.what))) step new
-      → (step ≡ sends []) × (new ≡ record old { endpoint = record old.endpoint { sending = acknowledged came.from came.what old.endpoint.sending } })
+      → (step ≡ sends []) × (new ≡ record old { endpoint = record old.endpoint { sending = acknowledged came.from came.what old.endpoint.sending; pace = quickened came.from came.what old.endpoint.sending old.endpoint.pace } })
   acknowledgement_heard old new came step few hears =
       let id = came.what in
       let as_it : hears.received ≡ received.Message (empty_acknowledgement id) =

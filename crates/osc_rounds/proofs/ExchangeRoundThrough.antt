@@ -8,7 +8,7 @@ use Rattle.osc_model.specs.declared.step.ClientResult.TheVariants as result
 use Rattle.osc_model.specs.declared.step.Step.{Step}
 use Rattle.osc_coap.specs.Message.{Message}
 use Rattle.osc_dedup.specs.{Entry as Noted, looked}
-use Rattle.osc_message.specs.{acknowledged, EndpointState}
+use Rattle.osc_message.specs.{acknowledged, EndpointState, quickened}
 use Rattle.osc_scope.specs.{Entry}
 use Rattle.osc_token.specs.declared.claims.Claims.{Claims}
 use Rattle.osc_ccm.specs.{Sealings}
@@ -99,7 +99,7 @@ module _ (is_sealing : Sealings)
     sent = record { begun = begun; message = is.message }
 
     abbrev meanwhile : EndpointState
-    meanwhile = record begun.endpoint { sending = acknowledged proxy_at is.message.id begun.endpoint.sending }
+    meanwhile = record begun.endpoint { sending = acknowledged proxy_at is.message.id begun.endpoint.sending; pace = quickened proxy_at is.message.id begun.endpoint.sending begun.endpoint.pace }
 
     new_at_client : looked now proxy_at (answer_id proxy proxy_draw) begun.endpoint.seen ≡ None
     new_at_client = subst (λ (seen : List Noted). looked now proxy_at (answer_id proxy proxy_draw) seen ≡ None) (sym is.seen) through.new_at_client

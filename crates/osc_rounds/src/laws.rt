@@ -16,7 +16,7 @@ ghost use Rattle.osc_coap.specs.{spelling};
 ghost use Rattle.osc_coap.specs.Message.{Message};
 ghost use Rattle.osc_coap.specs.declared.kind.Kind.{Kind as AnyKind};
 ghost use Rattle.osc_options.specs.{AreInOrder, outer_options};
-ghost use Rattle.osc_message.specs.{acknowledged, acknowledgement, empty_acknowledgement, sent_to, datagram, own_id};
+ghost use Rattle.osc_message.specs.{acknowledged, acknowledgement, empty_acknowledgement, sent_to, datagram, own_id, quickened};
 ghost use Rattle.osc_coap.specs.declared.kind.Kind.TheVariants.{Acknowledgement, Confirmable};
 ghost use Rattle.osc_dedup.specs.{looked};
 ghost use Rattle.osc_scope.specs.{Entry};
@@ -180,7 +180,7 @@ pub fn an_acknowledgement_is_heard<A: Ciphers>()
     ensures { (old new : Client) (came : Arrival ℕ) (step : AnyStep) → came.what < 2 ^ 16
         → ClientHears A.is_sealing old (read_as came (spelling (empty_acknowledgement came.what))) step new
         → (step ≡ sends [])
-        × (new ≡ record old { endpoint = record old.endpoint { sending = acknowledged came.from came.what old.endpoint.sending } }) }
+        × (new ≡ record old { endpoint = record old.endpoint { sending = acknowledged came.from came.what old.endpoint.sending; pace = quickened came.from came.what old.endpoint.sending old.endpoint.pace } }) }
 {
     one_reception();
     what_nodes_send();

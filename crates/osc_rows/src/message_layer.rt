@@ -117,7 +117,7 @@ fn write_ticked(done: &Ticked, line: &mut Line) {
     for datagram in done.out.as_slice() {
         line.peer(datagram.to);
     }
-    line.number(done.given_up.len() as u64);
+    line.number(done.given_up as u64);
 }
 
 /// `noted_reply AT PEER ID`: what answered the message.

@@ -83,8 +83,8 @@ empty_quiet state now peer kind id quiet = record { messages = quiet.messages; n
 
 -- where nothing is open, a tick does nothing but let notes go
 pub record IsQuietTick (now : Moment) (state : EndpointState) : Type 0 where
-  pub sends : tick_sends now state.sending ≡ []
-  pub rests : acts now state.sending ≡ false
+  pub sends : tick_sends state.pace now state.sending ≡ []
+  pub rests : acts state.pace now state.sending ≡ false
   pub stays : IsQuiet (after_tick now state)
 
 pub quiet_tick : (now : Moment) (state : EndpointState) → IsQuiet state → IsQuietTick now state

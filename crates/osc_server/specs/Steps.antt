@@ -2,7 +2,7 @@
 use Rattle.std.specs.Prelude.{Bool, false, []}
 use Rattle.osc_model.specs.declared.node.Moment.{Moment}
 use Rattle.osc_model.specs.declared.step.Step.{Step}
-use Rattle.osc_message.specs.{fresh}
+use Rattle.osc_message.specs.{fresh_with}
 use Rattle.osc_ccm.specs.{Sealings}
 use Rattle.osc_run.specs.{Cause, Came, Due, moment_of, ServerStep}
 use Rattle.osc_server.specs.Hearing.{Hears, Ticks}
@@ -14,7 +14,7 @@ acts state now = false
 
 -- it starts again: it forgets its contexts and what it heard
 abbrev pub again : State → State
-again old = record old { desk = record old.desk { table = [] }; endpoint = fresh }
+again old = record old { desk = record old.desk { table = [] }; endpoint = fresh_with old.endpoint.pace.more }
 
 -- `is_sealing algorithm` is the relation of the algorithm's cipher
 module _ (is_sealing : Sealings) where

@@ -457,7 +457,7 @@ impl Server {
     /// acknowledgement.
     pub fn next_deadline(&self) -> Option<u64>
         ensures none { result ≡ None }
-        ensures idle { (now : AnyMoment) → acts now self.now.endpoint.sending ≡ false }
+        ensures idle { (now : AnyMoment) → acts self.now.endpoint.pace now self.now.endpoint.sending ≡ false }
     {
         // The clause `idle` is the server's invariant.
         let _ = &self.endpoint;

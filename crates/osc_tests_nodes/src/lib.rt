@@ -41,6 +41,8 @@ mod nodes;
 #[cfg(test)]
 mod options;
 #[cfg(test)]
+mod pacing;
+#[cfg(test)]
 mod peer;
 #[cfg(test)]
 mod premise;

@@ -6,6 +6,7 @@ returns c =
     let laws : PassingLaws = record {
       one_reception = c.one_reception.ensures;
       acknowledgement = c.what_nodes_send.ensures.acknowledgement;
+      idle = c.one_at_a_time.ensures.idle;
       short = λ id. (c.what_nodes_send.ensures.short id).1;
       no_longer = c.forwarding_adds_nothing.ensures;
     } in

@@ -1,13 +1,15 @@
-use Rattle.std.proofs.Common.{◌≡◌, ◌++◌, Bool, true, false, ◌||◌, List, refl, sym, ap, ◌∙◌, subst}
+use Rattle.std.proofs.Common.{◌≡◌, ℕ, ◌++◌, Some, Bool, true, false, ◌||◌, List, refl, sym, ap, ◌∙◌, subst}
 use Rattle.std.proofs.lemmas.List.Elements.{All-nil}
 use Rattle.osc_model.specs.{quiet_or_lost}
 use Rattle.osc_model.specs.declared.step.Datagram.{Datagram}
 use Rattle.osc_model.specs.declared.step.Step.{Step}
 use Rattle.osc_message.specs.{EndpointState, after_tick, AreSendable, FitsDatagram, GoesOut, tick_gives_up, tick_sends}
 use Rattle.osc_message.specs.declared.name.MessageName.{MessageName}
-use Rattle.osc_proxy.specs.{without_over, AllEnd, without_over_in}
+use Rattle.osc_proxy.specs.{get, is_given_up, without_over, AllEnd, without_over_in}
 use Rattle.osc_proxy.specs.State.{State}
+use Rattle.osc_proxy.specs.declared.exchanges.Exchange.{Exchange}
 use Rattle.osc_proxy.proofs.Fits.{sendable_both}
+use Rattle.osc_proxy.proofs.GivenUp.{all_end_same}
 use Rattle.osc_proxy.proofs.ticking.tick.Goals.{then-lost_repeats, else-lost_repeats}
 use Rattle.osc_proxy.proofs.ticking.tick.Goals as goal
 
@@ -30,8 +32,15 @@ returns c =
     let repeats = c.on_tick-out.result.out in
     let answers = done.0 in
     let told_answers = done.1 in
-    let given_up : c.as_slice.result.now ≡ tick_gives_up now left =
-    c.as_slice.ensures.value ∙ did.given_up ∙ ap (λ (e : EndpointState). tick_gives_up now e.sending) c.withdraw_over.ensures in
+    let pace = endpoint.pace in
+    let given_up : tick_gives_up c.withdraw_over.new.endpoint.pace now c.withdraw_over.new.endpoint.sending ≡ tick_gives_up pace now left =
+    ap (λ (e : EndpointState). tick_gives_up e.pace now e.sending) c.withdraw_over.ensures in
+    let own = c.as_slice.result.now in
+    let agree : (k : ℕ) (e : Exchange) → get table k ≡ Some e → is_given_up own e ≡ is_given_up (tick_gives_up pace now left) e =
+    λ k e is.
+    ap (λ (names : List MessageName). is_given_up names e) c.as_slice.ensures.value
+    ∙ c.given_up-given_up.ensures k e is
+    ∙ ap (λ (names : List MessageName). is_given_up names e) given_up in
     let ticked : c.on_tick-out.new.self ≡ after_tick now (without_over_in now old) = did.ticked ∙ ap (after_tick now) c.withdraw_over.ensures in
     let told : c.of_tick.result.out ≡ repeats ++ told_answers = ap (λ (s : Step). s.out) c.of_tick.ensures ∙ done.2 in
     let joined : c.if-lost_repeats.of_tick ≡ (c.on_tick-out.result.lost || c.answer_all-out.result.lost) =
@@ -42,10 +51,10 @@ returns c =
     record {
       lost_repeats = c.on_tick-out.result.lost;
       repeats = repeats;
-      repeated = subst (λ (e : EndpointState). GoesOut c.on_tick-out.result.lost (tick_sends now e.sending) repeats) c.withdraw_over.ensures did.sent;
+      repeated = subst (λ (e : EndpointState). GoesOut c.on_tick-out.result.lost (tick_sends e.pace now e.sending) repeats) c.withdraw_over.ensures did.sent;
       answers = answers;
-      ends = subst (λ (e : EndpointState). AllEnd now draw (tick_gives_up now left) (record { targets = targets; exchanges = table; endpoint = e }) answers new) ticked
-          (subst (λ (names : List MessageName). AllEnd now draw names (record { targets = targets; exchanges = table; endpoint = c.on_tick-out.new.self }) answers new) given_up (done.4 targets));
+      ends = subst (λ (e : EndpointState). AllEnd now draw (tick_gives_up pace now left) (record { targets = targets; exchanges = table; endpoint = e }) answers new) ticked
+          (all_end_same now draw own (tick_gives_up pace now left) (record { targets = targets; exchanges = table; endpoint = c.on_tick-out.new.self }) new answers (done.4 targets) agree);
       lost_answers = c.answer_all-out.result.lost;
       told_answers = told_answers;
       answered = done.3;

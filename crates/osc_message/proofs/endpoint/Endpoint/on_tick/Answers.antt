@@ -13,12 +13,13 @@ invariant_of-self g c =
       omega (arith, holds.2, c.tick.ensures.dues),
       c.tick.ensures.sound,
       subst AreShort (sym c.expire.ensures) (alive_short c.args.now c.self.inside.seen holds.4),
+      omega (arith, holds.5, c.tick.ensures.more),
     )
 
 pub returns-clause-fits : goal.returns-clause-fits
-returns-clause-fits g c = going_out_fits c.args.now (messages c.self.inside.sending.items) _ _ c.self.invariant.3.sound c.tick.ensures.out
+returns-clause-fits g c = going_out_fits c.self.inside.pace c.args.now (messages c.self.inside.sending.items) _ _ c.self.invariant.3.sound c.tick.ensures.out
 
 pub returns-clause-few : goal.returns-clause-few
 returns-clause-few g c =
     let P : EndpointState → Type 0 = λ e. length c.tick.result.out ≤ length e.sending in
-    subst P c.self.view_is (going_few c.args.now (messages c.self.inside.sending.items) c.tick.result.lost c.tick.result.out c.tick.ensures.out)
+    subst P c.self.view_is (going_few c.self.inside.pace c.args.now (messages c.self.inside.sending.items) c.tick.result.lost c.tick.result.out c.tick.ensures.out)
