@@ -17,4 +17,4 @@ pub use Kept.{HoldsOneOf, IsUnkept, KeptState, StaysKept, Yields, YieldsKept, tr
 pub use Runs.{AllGoOn, AreOthers, GoesOn, IsIn, IsOfAnEntry, IsTold, first_run, noted, of_own, of_server, restarts}
 pub use Ruling.{method_of, round_of}
 pub use State.{own_address, server_address}
-pub use Words.{Holder, IsNameIn, IsTokenOf, Names, ServedRequest, id_in, refused_in, served_as, served_in}
+pub use Words.{Holder, IsTokenOf, ServedRequest, refused_in, served_as, served_in}

@@ -1,6 +1,5 @@
 -- What a step of a server did, as a device tells it.
-use Rattle.std.specs.Prelude.{◌≡◌, ℕ, nat_lt, if◌then◌else◌, List, [], ◌∷◌, length, Option, Some, None, MatchOption, Result, Ok, Err, option_and_then, option_map}
-use Rattle.osc_cbor.specs.{DataItem, IsWhole, as_bytes, value}
+use Rattle.std.specs.Prelude.{◌≡◌, ℕ, List, [], ◌∷◌, Option, Some, None, MatchOption, Result, Ok, Err, option_map}
 use Rattle.osc_model.specs.{method_of}
 use Rattle.osc_model.specs.StepNotes.{StepNotes}
 use Rattle.osc_model.specs.declared.code.Code.{Code}
@@ -13,6 +12,7 @@ use Rattle.osc_model.specs.declared.step.Entry.{Entry}
 use Rattle.osc_model.specs.declared.step.Note.{Note}
 use Rattle.osc_model.specs.declared.step.RefusedRequest.{RefusedRequest}
 use Rattle.osc_model.specs.declared.step.Step.{Step}
+use Rattle.osc_token.specs.{IsNameIn}
 
 -- ---- a protected request that was served
 
@@ -74,26 +74,6 @@ refused_in step = refused_by step.notes.refused step.out
 
 -- ---- whose token a refused post has
 
--- at most 64 bytes
-abbrev pub within_64 : List ℕ → Option (List ℕ)
-within_64 id = if nat_lt 64 (length id) then None else Some id
-
--- The id that claims give a token: that of the input material (id 0, RFC 9203 section 3.2.1) under the key osc 4 of the claim cnf 8 (RFC 8747
--- section 3.1).
-abbrev pub id_in : DataItem → Option (List ℕ)
-id_in claims =
-    option_and_then within_64 (option_and_then as_bytes (option_and_then (value 0) (option_and_then (value 4) (value 8 claims))))
-
--- the plaintext is claims that give this id
-pub record Names (plaintext id : List ℕ) : Type 0 where
-  pub claims : DataItem
-  pub whole : IsWhole plaintext claims
-  pub id_is : id_in claims ≡ Some id
-
--- this is the id, or there is none
-abbrev pub IsNameIn : List ℕ → Option (List ℕ) → Type 0
-IsNameIn plaintext name = MatchOption name ((id : List ℕ) → ¬ Names plaintext id) (Names plaintext)
-
--- the same of the token that a step opened; without one there is none
+-- the id of the token that a step opened, or that it says none; without one there is none
 abbrev pub IsTokenOf : Option Note → Option (List ℕ) → Type 0
 IsTokenOf opened token = MatchOption opened (token ≡ None) (λ note. IsNameIn note.plaintext token)

@@ -1,23 +1,13 @@
 //! What a step of a server did, in the words of whoever made the device.
 ghost use Rattle.std.specs.Prelude.{◌≡◌, IfSome, option_copied, option_map};
-ghost use Rattle.osc_device.specs.Words.{IsNameIn, IsTokenOf, holder_of as holder_of_entry, id_in, refused_in, request_in, served_by as served_by_of, served_in};
+ghost use Rattle.osc_device.specs.Words.{IsTokenOf, holder_of as holder_of_entry, refused_in, request_in, served_by as served_by_of, served_in};
 
-use osc_cbor::ItemRef;
-use osc_model::limits::LONGEST_ID;
 use osc_model::{
     Code, ContextName, Entry, Method, Note, Path, Peer, RefusedRequest, Reply, Request, Step,
 };
+use osc_token::name_in;
 use std::fmt;
 use std::marker::Model;
-
-/// The claim cnf of a token (RFC 8747 section 3.1).
-const CNF: u64 = 8;
-
-/// Its method osc, the input material (RFC 9203 section 3.2.1).
-const OSC: u64 = 4;
-
-/// The parameter id of input material, by which a token is named.
-const OSC_ID: u64 = 0;
 
 /// Who asked: what a request tells of the context that it means (RFC 8613 section 6.1). Neither is a secret.
 #[derive(Clone, Copy, Debug, PartialEq, Eq)]
@@ -150,27 +140,6 @@ fn id_context(name: &ContextName) -> Option<&[u8]>
 {
     match &name.id_context {
         Some(bytes) => Some(bytes.as_slice()),
-        None => None,
-    }
-}
-
-/// The id of the token that this item claims to be (RFC 9203 section 3.2.1), if it says one of at most 64 bytes.
-fn id_in<'a>(claims: &ItemRef<'a>) -> Option<&'a [u8]>
-    ensures { option_copied result ≡ id_in claims.now }
-{
-    let id = claims.value(CNF)?.value(OSC)?.value(OSC_ID)?.as_bytes()?;
-    if id.len() > LONGEST_ID {
-        return None;
-    }
-    Some(id)
-}
-
-/// The id of the token of this plaintext, if it says one. Takes no memory.
-fn name_in(plaintext: &[u8]) -> Option<&[u8]>
-    ensures { IsNameIn plaintext.now (option_copied result) }
-{
-    match ItemRef::whole(plaintext) {
-        Some(claims) => id_in(&claims),
         None => None,
     }
 }

@@ -14,6 +14,7 @@ pub mod laws;
 mod lengths;
 mod material;
 mod minting;
+mod naming;
 mod opening;
 mod reading;
 
@@ -22,5 +23,6 @@ pub use claims::{Claims, InputMaterial};
 pub use error::{MintError, TokenError};
 pub use judging::judge;
 pub use minting::{CLAIMS_LIMIT, claims_text, mint};
+pub use naming::name_in;
 pub use opening::open_token;
 pub use reading::read;

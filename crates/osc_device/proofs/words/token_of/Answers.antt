@@ -1,7 +1,8 @@
 -- It is that of the note.
 use Rattle.std.proofs.Common.{rules, ◌≡◌, option_copied, sym, subst, Option, Some, List, ℕ}
 use Rattle.osc_model.specs.declared.step.Note.{Note}
-use Rattle.osc_device.specs.Words.{IsNameIn, IsTokenOf}
+use Rattle.osc_token.specs.{IsNameIn}
+use Rattle.osc_device.specs.Words.{IsTokenOf}
 use Rattle.osc_device.proofs.words.token_of.Goals as goal
 
 pub returns-in-Some : goal.returns-in-Some
