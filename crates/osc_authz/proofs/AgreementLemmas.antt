@@ -42,7 +42,7 @@ few_alive now most table few = All-filter (holds_live now) (λ entry. length ent
 
 few_with : (token : List ℕ) (held : SecurityContext) (remember : List AgreedPost → List AgreedPost) (most : ℕ) (table : List TokenEntry)
     → ((older : List AgreedPost) → length (remember older) ≤ most) → AreFew most table → AreFew most (with_pending token held remember table)
-few_with token held remember most [] short few = All-cons (λ (e : TokenEntry). length e.posts ≤ most) (record { id = token; confirmed = None; pending = Some held; posts = remember [] }) [] (short []) (All-nil (λ (e : TokenEntry). length e.posts ≤ most))
+few_with token held remember most [] short few = All-cons (λ (e : TokenEntry). length e.posts ≤ most) (record { id = token; confirmed = None; pending = Some held; posts = remember []; last = None }) [] (short []) (All-nil (λ (e : TokenEntry). length e.posts ≤ most))
 few_with token held remember most (entry ∷ table) short few =
     by (bytes_eq token entry.id) (λ rest. few_with token held remember most table short rest) (recursion_from_All (λ (e : TokenEntry). length e.posts ≤ most) (entry ∷ table) few)
   where
@@ -64,7 +64,7 @@ few_accepted id number most (entry ∷ table) few =
     (few_accepted id number most table (All-from_recursion (λ (e : TokenEntry). length e.posts ≤ most) table all.1))
   where
     here : (a b : Bool) → length entry.posts ≤ most
-        → length (cond a (record entry { confirmed = option_map (taking number) entry.pending; pending = None }) (cond b (record entry { confirmed = option_map (taking number) entry.confirmed }) entry)).posts ≤ most
+        → length (cond a (record entry { confirmed = option_map (taking number) entry.pending; pending = None; last = None }) (cond b (record entry { confirmed = option_map (taking number) entry.confirmed; last = None }) entry)).posts ≤ most
     here true b few = few
     here false true few = few
     here false false few = few

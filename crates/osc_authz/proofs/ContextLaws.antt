@@ -190,7 +190,7 @@ module _ (token : List ℕ) (held : SecurityContext) (remember : List AgreedPost
       by false other (inr m) rest = later g h table (rest m)
 
   has_new : (table : List TokenEntry) → (g : TokenEntry) × In g (with_pending token held remember table) × (g.id ≡ token) × (g.pending ≡ Some held)
-  has_new [] = (record { id = token; confirmed = None; pending = Some held; posts = remember [] }, inl refl, refl, refl)
+  has_new [] = (record { id = token; confirmed = None; pending = Some held; posts = remember []; last = None }, inl refl, refl, refl)
   has_new (h ∷ table) = by (bytes_eq token h.id) refl (has_new table)
     where
       by : (b : Bool) → bytes_eq token h.id ≡ b → (g : TokenEntry) × In g (with_pending token held remember table) × (g.id ≡ token) × (g.pending ≡ Some held)
@@ -298,7 +298,7 @@ module _ (id : List ℕ) (number : ℕ) where
   some_tested (Some d) e = (d, refl, e)
 
   abbrev branch : Bool → Bool → TokenEntry → TokenEntry
-  branch a b h = cond a (record h { confirmed = option_map (taking number) h.pending; pending = None }) (cond b (record h { confirmed = option_map (taking number) h.confirmed }) h)
+  branch a b h = cond a (record h { confirmed = option_map (taking number) h.pending; pending = None; last = None }) (cond b (record h { confirmed = option_map (taking number) h.confirmed; last = None }) h)
 
   branch_id : (a b : Bool) (h : TokenEntry) → (branch a b h).id ≡ h.id
   branch_id true b h = refl

@@ -61,12 +61,15 @@ kept_is_free on id table keeps full =
     by true true same new many few = cc
     by false there same new many few = cc
 
+-- where the token ids are the same
+pub kept_by_tokens : (reserved : Option (List ℕ)) (table other : List TokenEntry) → tokens other ≡ tokens table → KeepsPlace reserved table → KeepsPlace reserved other
+kept_by_tokens None table other same keeps =
+    omega (arith, keeps, length-map other (λ entry. entry.id), length-map table (λ entry. entry.id), ap length same)
+kept_by_tokens (Some own) table other same keeps = omega (arith, keeps, taken_is own other, taken_is own table, ap (taken_by own) same)
+
 -- a number that is taken changes no token id
 pub kept_accepted : (reserved : Option (List ℕ)) (id : List ℕ) (number : ℕ) (table : List TokenEntry) → KeepsPlace reserved table → KeepsPlace reserved (accepted id number table)
-kept_accepted None id number table keeps =
-    omega (arith, keeps, length-map (accepted id number table) (λ entry. entry.id), length-map table (λ entry. entry.id), ap length (accepted_tokens id number table))
-kept_accepted (Some own) id number table keeps =
-    omega (arith, keeps, taken_is own (accepted id number table), taken_is own table, ap (taken_by own) (accepted_tokens id number table))
+kept_accepted reserved id number table keeps = kept_by_tokens reserved table (accepted id number table) (accepted_tokens id number table) keeps
 
 pub kept_in_none : (reserved : Option (List ℕ)) → KeepsPlace reserved []
 kept_in_none None = omega arith

@@ -4,6 +4,8 @@ pub mod Pigeon
 pub mod TableLaws
 pub mod Lookups
 mod KeptPlaces
+mod AnswersKept
+mod LastAnswers
 pub mod LifeLemmas
 mod PostMarks
 mod ChangedPath

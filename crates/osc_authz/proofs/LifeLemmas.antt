@@ -89,7 +89,7 @@ module _ (id : List ℕ) (number : ℕ) where
   comes_in entry held = by (option_map_or (has_id id) entry.pending false) (option_map_or (has_id id) entry.confirmed false)
     where
       entry_by : Bool → Bool → TokenEntry
-      entry_by p c = cond p (record entry { confirmed = option_map (taking number) entry.pending; pending = None }) (cond c (record entry { confirmed = option_map (taking number) entry.confirmed }) entry)
+      entry_by p c = cond p (record entry { confirmed = option_map (taking number) entry.pending; pending = None; last = None }) (cond c (record entry { confirmed = option_map (taking number) entry.confirmed; last = None }) entry)
 
       by : (p c : Bool) → In held (listed (entry_by p c).confirmed ++ listed (entry_by p c).pending) → Comes (listed entry.confirmed ++ listed entry.pending) held
       by true c m =

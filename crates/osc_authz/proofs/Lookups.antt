@@ -8,6 +8,7 @@ use Rattle.std.proofs.lemmas.Slice.Eq.{bytes_eq-Decides}
 use Rattle.osc_authz.specs.declared.token_entry.TokenEntry.{TokenEntry}
 use Rattle.osc_authz.specs.SecurityContext.{SecurityContext}
 use Rattle.osc_authz.specs.declared.agreed_post.AgreedPost.{AgreedPost}
+use Rattle.osc_authz.specs.LastAnswer.{LastAnswerState}
 use Rattle.osc_authz.specs.{IsTable, accepted, accepted_in, contexts, has_id, holds_id, ids, listed, taking, with_id, with_pending}
 
 -- ---- a request opened
@@ -41,7 +42,7 @@ in_holding P (entry ∷ table) (suc i) d within all =
     in_holding P table i d (omega arith) (each_back P (listed entry.confirmed ++ listed entry.pending) (contexts table) all)
 
 -- Recipient IDs stand once: what holds of the context that is found holds of all with its ID.
-found_alone : (P : SecurityContext → Type 0) (id : List ℕ) (held : SecurityContext) (xs : List SecurityContext) → IsDistinct bytes_eq (map (λ context. context.name.client_id) xs)
+pub found_alone : (P : SecurityContext → Type 0) (id : List ℕ) (held : SecurityContext) (xs : List SecurityContext) → IsDistinct bytes_eq (map (λ context. context.name.client_id) xs)
     → find (has_id id) xs ≡ Some held → P held → AllByRecursion (λ context. has_id id context ≡ true → P context) xs
 unfolding IsDistinct
 found_alone P id held [] apart found here = tt
@@ -75,7 +76,7 @@ module _ (id : List ℕ) (number : ℕ) where
   none_of : (held : SecurityContext) (xs : List SecurityContext) → has_id id held ≡ true → AllByRecursion (λ y. bytes_eq held.name.client_id y ≡ false) (client_ids xs) → IsNone xs
   none_of held xs has all = rw ((bytes_eq-Decides id held.name.client_id).0 has) all
 
-  others : (c p : Option SecurityContext) (rest : List SecurityContext) → IsDistinct bytes_eq (client_ids (listed c ++ listed p ++ rest))
+  pub others : (c p : Option SecurityContext) (rest : List SecurityContext) → IsDistinct bytes_eq (client_ids (listed c ++ listed p ++ rest))
       → (option_map_or (has_id id) c false || option_map_or (has_id id) p false) ≡ true → IsNone rest
   unfolding IsDistinct
   others None None rest apart has = absurd (cc)
@@ -91,18 +92,18 @@ module _ (id : List ℕ) (number : ℕ) where
       by true t e = none_of held rest t apart.0.1
       by false t e = none_of other rest e apart.1.0
 
-  rest_apart : (c p : Option SecurityContext) (rest : List SecurityContext) → IsDistinct bytes_eq (client_ids (listed c ++ listed p ++ rest)) → IsDistinct bytes_eq (client_ids rest)
+  pub rest_apart : (c p : Option SecurityContext) (rest : List SecurityContext) → IsDistinct bytes_eq (client_ids (listed c ++ listed p ++ rest)) → IsDistinct bytes_eq (client_ids rest)
   unfolding IsDistinct
   rest_apart None None rest apart = apart
   rest_apart None (Some held) rest apart = apart.1
   rest_apart (Some held) None rest apart = apart.1
   rest_apart (Some held) (Some other) rest apart = apart.1.1
 
-  untouched : (entry : TokenEntry) → holds_id id entry ≡ false → accepted_in id number entry ≡ entry
+  pub untouched : (entry : TokenEntry) → holds_id id entry ≡ false → accepted_in id number entry ≡ entry
   untouched entry none = by (option_map_or (has_id id) entry.confirmed false) (option_map_or (has_id id) entry.pending false) none
     where
       by : (c p : Bool) → (c || p) ≡ false
-          → cond p (record entry { confirmed = option_map (taking number) entry.pending; pending = None }) (cond c (record entry { confirmed = option_map (taking number) entry.confirmed }) entry) ≡ entry
+          → cond p (record entry { confirmed = option_map (taking number) entry.pending; pending = None; last = None }) (cond c (record entry { confirmed = option_map (taking number) entry.confirmed; last = None }) entry) ≡ entry
       by true p e = absurd (cc)
       by false true e = absurd (cc)
       by false false e = refl
@@ -230,27 +231,27 @@ module _ (id : List ℕ) (number : ℕ) where
       let it : other ≡ held = cc in
       cond-true (has_id id other) (Some (taking number other)) (find (has_id id) rest) has ∙ ap (λ h. Some (taking number h)) it
 
-  found_in : (i : List ℕ) (posts : List AgreedPost) (c p : Option SecurityContext) (rest later : List SecurityContext) (held : SecurityContext) → IsDistinct bytes_eq (client_ids (listed c ++ listed p ++ rest))
+  found_in : (i : List ℕ) (posts : List AgreedPost) (last : Option LastAnswerState) (c p : Option SecurityContext) (rest later : List SecurityContext) (held : SecurityContext) → IsDistinct bytes_eq (client_ids (listed c ++ listed p ++ rest))
       → (option_map_or (has_id id) c false || option_map_or (has_id id) p false) ≡ true → find (has_id id) (listed c ++ listed p ++ rest) ≡ Some held
-      → find (has_id id) (before (accepted_in id number (record { id = i; confirmed = c; pending = p; posts = posts })) later) ≡ Some (taking number held)
+      → find (has_id id) (before (accepted_in id number (record { id = i; confirmed = c; pending = p; posts = posts; last = last })) later) ≡ Some (taking number held)
   unfolding IsDistinct
-  found_in i posts None None rest later held apart has found = absurd (cc)
-  found_in i posts None (Some other) rest later held apart has found = by (has_id id other) has
+  found_in i posts last None None rest later held apart has found = absurd (cc)
+  found_in i posts last None (Some other) rest later held apart has found = by (has_id id other) has
     where
       by : (b : Bool) → b ≡ true
-          → find (has_id id) (before (cond b (record { id = i; confirmed = Some (taking number other); pending = None; posts = posts }) (record { id = i; confirmed = None; pending = Some other; posts = posts })) later) ≡ Some (taking number held)
+          → find (has_id id) (before (cond b (record { id = i; confirmed = Some (taking number other); pending = None; posts = posts; last = None }) (record { id = i; confirmed = None; pending = Some other; posts = posts; last = last })) later) ≡ Some (taking number held)
       by true t = taken_one held other later has (sym (cond-true (has_id id other) (Some other) (find (has_id id) rest) has) ∙ found)
       by false t = absurd (cc)
-  found_in i posts (Some other) None rest later held apart has found = by (has_id id other) refl has
+  found_in i posts last (Some other) None rest later held apart has found = by (has_id id other) refl has
     where
       by : (b : Bool) → has_id id other ≡ b → (b || false) ≡ true
-          → find (has_id id) (before (cond b (record { id = i; confirmed = Some (taking number other); pending = None; posts = posts }) (record { id = i; confirmed = Some other; pending = None; posts = posts })) later) ≡ Some (taking number held)
+          → find (has_id id) (before (cond b (record { id = i; confirmed = Some (taking number other); pending = None; posts = posts; last = None }) (record { id = i; confirmed = Some other; pending = None; posts = posts; last = last })) later) ≡ Some (taking number held)
       by true t e = taken_one held other later t (sym (cond-true (has_id id other) (Some other) (find (has_id id) rest) t) ∙ found)
       by false t e = absurd (cc)
-  found_in i posts (Some first) (Some second) rest later held apart has found = by (has_id id first) (has_id id second) refl refl has
+  found_in i posts last (Some first) (Some second) rest later held apart has found = by (has_id id first) (has_id id second) refl refl has
     where
       by : (b d : Bool) → has_id id first ≡ b → has_id id second ≡ d → (b || d) ≡ true
-          → find (has_id id) (before (cond d (record { id = i; confirmed = Some (taking number second); pending = None; posts = posts }) (cond b (record { id = i; confirmed = Some (taking number first); pending = Some second; posts = posts }) (record { id = i; confirmed = Some first; pending = Some second; posts = posts }))) later) ≡ Some (taking number held)
+          → find (has_id id) (before (cond d (record { id = i; confirmed = Some (taking number second); pending = None; posts = posts; last = None }) (cond b (record { id = i; confirmed = Some (taking number first); pending = Some second; posts = posts; last = None }) (record { id = i; confirmed = Some first; pending = Some second; posts = posts; last = last }))) later) ≡ Some (taking number held)
       by true true t u e = absurd (both_ways (has_id id second) (none_of first (second ∷ rest) t apart.0).0 u)
       by true false t u e = taken_one held first (second ∷ later) t (sym (cond-true (has_id id first) (Some first) (find (has_id id) (second ∷ rest)) t) ∙ found)
       by false true t u e =
@@ -265,7 +266,7 @@ module _ (id : List ℕ) (number : ℕ) where
     where
       by : (b : Bool) → holds_id id entry ≡ b → (with_id id table ≡ Some held → with_id id (accepted id number table) ≡ Some (taking number held))
           → with_id id (accepted_in id number entry ∷ accepted id number table) ≡ Some (taking number held)
-      by true has up = found_in entry.id entry.posts entry.confirmed entry.pending (contexts table) (contexts (accepted id number table)) held apart has found
+      by true has up = found_in entry.id entry.posts entry.last entry.confirmed entry.pending (contexts table) (contexts (accepted id number table)) held apart has found
       by false has up =
           rw (untouched entry has)
           (misses entry.confirmed entry.pending (contexts (accepted id number table)) has ∙ up (sym (misses entry.confirmed entry.pending (contexts table) has) ∙ found))
@@ -297,7 +298,7 @@ put_within token held remember (entry ∷ table) d within = by (bytes_eq token e
     by false n is inside up = rw is (ap (λ t. entry ∷ t) (up (omega (arith, is, inside))))
 
 put_at_end : (token : List ℕ) (held : SecurityContext) (remember : List AgreedPost → List AgreedPost) (table : List TokenEntry) → length table ≤ position_or_len (λ entry. bytes_eq token entry.id) table
-    → table ++ (record { id = token; confirmed = None; pending = Some held; posts = remember [] }) ∷ [] ≡ with_pending token held remember table
+    → table ++ (record { id = token; confirmed = None; pending = Some held; posts = remember []; last = None }) ∷ [] ≡ with_pending token held remember table
 put_at_end token held remember [] none = refl
 put_at_end token held remember (entry ∷ table) none = by (bytes_eq token entry.id) (1 + rest) (omega arith) none (put_at_end token held remember table)
   where
@@ -305,7 +306,7 @@ put_at_end token held remember (entry ∷ table) none = by (bytes_eq token entry
     rest = position_or_len (λ entry. bytes_eq token entry.id) table
 
     new : TokenEntry
-    new = record { id = token; confirmed = None; pending = Some held; posts = remember [] }
+    new = record { id = token; confirmed = None; pending = Some held; posts = remember []; last = None }
 
     by : (b : Bool) (n : ℕ) → n ≡ suc rest → suc (length table) ≤ cond (not b) n 0 → (length table ≤ rest → table ++ new ∷ [] ≡ with_pending token held remember table)
         → (entry ∷ table) ++ new ∷ [] ≡ cond b ((record entry { pending = Some held; posts = remember entry.posts }) ∷ table) (entry ∷ with_pending token held remember table)
@@ -327,13 +328,13 @@ put_here token held remember table i x found read = by (nat_lt place (length tab
     by false outside is = let none : None ≡ Some i = is in absurd (cc)
 
 pub put_last : (token : List ℕ) (held : SecurityContext) (remember : List AgreedPost → List AgreedPost) (table : List TokenEntry) → position (λ entry. bytes_eq token entry.id) table ≡ None
-    → table ++ (record { id = token; confirmed = None; pending = Some held; posts = remember [] }) ∷ [] ≡ with_pending token held remember table
+    → table ++ (record { id = token; confirmed = None; pending = Some held; posts = remember []; last = None }) ∷ [] ≡ with_pending token held remember table
 put_last token held remember table none = by (nat_lt place (length table)) refl none
   where
     place : ℕ
     place = position_or_len (λ entry. bytes_eq token entry.id) table
 
     by : (b : Bool) → nat_lt place (length table) ≡ b → cond b (Some place) None ≡ None
-        → table ++ (record { id = token; confirmed = None; pending = Some held; posts = remember [] }) ∷ [] ≡ with_pending token held remember table
+        → table ++ (record { id = token; confirmed = None; pending = Some held; posts = remember []; last = None }) ∷ [] ≡ with_pending token held remember table
     by true inside is = let some : Some place ≡ None = is in absurd (cc)
     by false outside is = put_at_end token held remember table (ltb-false place (length table) outside)

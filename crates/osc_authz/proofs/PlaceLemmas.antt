@@ -183,7 +183,7 @@ same_ids id other number entry none = by (option_map_or (has_id id) entry.pendin
     taken (Some held) = refl
 
     by : (p c : Bool) → p ≡ false
-        → holds_id other (cond p (record entry { confirmed = option_map (taking number) entry.pending; pending = None }) (cond c (record entry { confirmed = option_map (taking number) entry.confirmed }) entry)) ≡ holds_id other entry
+        → holds_id other (cond p (record entry { confirmed = option_map (taking number) entry.pending; pending = None; last = None }) (cond c (record entry { confirmed = option_map (taking number) entry.confirmed; last = None }) entry)) ≡ holds_id other entry
     by true c e = cc
     by false true e = ap (λ b. b || option_map_or (has_id other) entry.pending false) (taken entry.confirmed)
     by false false e = refl

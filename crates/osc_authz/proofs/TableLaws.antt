@@ -102,7 +102,7 @@ module _ (change : TokenEntry → TokenEntry) (same : (entry : TokenEntry) → (
 same_id : (id : List ℕ) (number : ℕ) (entry : TokenEntry) → (accepted_in id number entry).id ≡ entry.id
 same_id id number entry = by (option_map_or (has_id id) entry.pending false) (option_map_or (has_id id) entry.confirmed false)
   where
-    by : (p c : Bool) → (cond p (record entry { confirmed = option_map (taking number) entry.pending; pending = None }) (cond c (record entry { confirmed = option_map (taking number) entry.confirmed }) entry)).id ≡ entry.id
+    by : (p c : Bool) → (cond p (record entry { confirmed = option_map (taking number) entry.pending; pending = None; last = None }) (cond c (record entry { confirmed = option_map (taking number) entry.confirmed; last = None }) entry)).id ≡ entry.id
     by true c = refl
     by false true = refl
     by false false = refl
@@ -131,7 +131,7 @@ fewer_names id number entry = by (option_map_or (has_id id) entry.pending false)
     with_back : map (λ held. held.name) (listed (option_map (taking number) entry.confirmed) ++ listed entry.pending) ≡ front ++ back
     with_back = map-append (λ held. held.name) (listed (option_map (taking number) entry.confirmed)) (listed entry.pending) ∙ ap (λ xs. xs ++ back) (taken_names number entry.confirmed)
 
-    by : (p c : Bool) → Part (names_in (cond p (record entry { confirmed = option_map (taking number) entry.pending; pending = None }) (cond c (record entry { confirmed = option_map (taking number) entry.confirmed }) entry))) (names_in entry)
+    by : (p c : Bool) → Part (names_in (cond p (record entry { confirmed = option_map (taking number) entry.pending; pending = None; last = None }) (cond c (record entry { confirmed = option_map (taking number) entry.confirmed; last = None }) entry))) (names_in entry)
     by true c = rw (alone entry.pending, in_two) (part_back front (part_whole back))
     by false true = rw (with_back, in_two) (part_whole (front ++ back))
     by false false = part_whole (names_in entry)

@@ -2,6 +2,7 @@
 pub mod Exchange
 pub mod Standing
 pub mod SecurityContext
+pub mod LastAnswer
 pub mod Table
 pub mod Known
 pub mod Desk
@@ -14,6 +15,7 @@ pub mod Agreement
 pub mod Granted
 pub mod Enrolling
 pub mod Members
+pub mod LastAnswers
 pub mod Marked
 pub mod Contexts
 pub mod Agreed
@@ -30,10 +32,12 @@ pub use Enrolling.{FitAToken, HasScope, IsDeskOf, IsLawful, IsRefusal, IsUngrant
 pub use Errors.{post_number}
 pub use Exchange.{IsAnswer, IsPost, answer_item, post_item}
 pub use Granted.{IsSecret, IsShort}
+pub use LastAnswers.{Keeps}
+pub use LastAnswer.{LastAnswerState, longest_sealed}
 pub use Known.{AreFew, IsStillHeld, known, offers, remembering}
 pub use Marked.{AreMarked, IsMarked, IsSameBut, mark_of}
 pub use Members.{In}
 pub use Post.{IsKeyFor, IsKeyOf, IsOpened, Opens, Posts, answer_of, code_of, no_post, not_genuine, opened}
 pub use Posting.{Offer, OpenedToken, offered}
-pub use Table.{IsFull, IsLawfulContext, IsLeastFree, IsTable, KeepsPlace, accepted, accepted_in, alive, confirmed_at, contexts, has_id, has_token, holder_at, holds_id, holds_live, ids, if_meant, is_live, is_named, kept_places, listed, meant, places_taken, taking, with_id, with_pending, without_pending, without_pending_in}
+pub use Table.{IsFull, IsLawfulContext, IsLeastFree, IsTable, KeepsPlace, accepted, accepted_in, alive, answered_by, confirmed_at, confirms_id, contexts, has_id, has_token, holder_at, holds_id, holds_live, ids, if_meant, is_live, is_named, kept_places, last_at, last_in, listed, meant, places_taken, taking, with_id, with_last, with_last_in, with_pending, without_pending, without_pending_in}
 pub use Welcome.{IsWelcome}

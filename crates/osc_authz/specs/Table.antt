@@ -7,6 +7,7 @@ use Rattle.osc_model.specs.{stands}
 use Rattle.osc_window.specs.{with_accepted}
 use Rattle.osc_authz.specs.SecurityContext.{SecurityContext}
 use Rattle.osc_authz.specs.Standing.{Standing}
+use Rattle.osc_authz.specs.LastAnswer.{LastAnswerState}
 use Rattle.osc_authz.specs.declared.agreed_post.AgreedPost.{AgreedPost}
 use Rattle.osc_authz.specs.declared.token_entry.TokenEntry.{TokenEntry}
 
@@ -89,17 +90,42 @@ meant on kid kid_context table = if_meant on kid_context (with_id kid table)
 abbrev pub taking : ℕ → SecurityContext → SecurityContext
 taking number held = record held { window = with_accepted held.window number }
 
--- The window of the context takes the number. If it is the pending one, it is confirmed, and the older one goes.
+-- The window of the context takes the number. If it is the pending one, it is confirmed, and the older one goes. The answer that is kept for
+-- the confirmed one is to an older number, and goes.
 abbrev pub accepted_in : List ℕ → ℕ → TokenEntry → TokenEntry
 accepted_in id number entry =
     if option_map_or (has_id id) entry.pending false
-    then record entry { confirmed = option_map (taking number) entry.pending; pending = None }
+    then record entry { confirmed = option_map (taking number) entry.pending; pending = None; last = None }
     else if option_map_or (has_id id) entry.confirmed false
-    then record entry { confirmed = option_map (taking number) entry.confirmed }
+    then record entry { confirmed = option_map (taking number) entry.confirmed; last = None }
     else entry
 
 abbrev pub accepted : List ℕ → ℕ → List TokenEntry → List TokenEntry
 accepted id number table = map (accepted_in id number) table
+
+-- ---- the last answer
+
+-- whether the confirmed context has this recipient ID
+abbrev pub confirms_id : List ℕ → TokenEntry → Bool
+confirms_id id entry = option_map_or (has_id id) entry.confirmed false
+
+-- the last answer of the context with this recipient ID, where that is confirmed and an answer is kept
+abbrev pub last_in : List ℕ → TokenEntry → Option LastAnswerState
+last_in id entry = if confirms_id id entry then entry.last else None
+
+abbrev pub last_at : List ℕ → List TokenEntry → Option LastAnswerState
+last_at id table = option_and_then (last_in id) (find (holds_id id) table)
+
+-- this answer is kept for the confirmed context with this recipient ID, in the place of the one before
+abbrev pub with_last_in : List ℕ → LastAnswerState → TokenEntry → TokenEntry
+with_last_in id last entry = record entry { last = if confirms_id id entry then Some last else entry.last }
+
+abbrev pub with_last : List ℕ → LastAnswerState → List TokenEntry → List TokenEntry
+with_last id last table = map (with_last_in id last) table
+
+-- The context with this recipient ID takes the number of this answer, and where answers are kept, this one is kept for it.
+abbrev pub answered_by : Bool → List ℕ → LastAnswerState → List TokenEntry → List TokenEntry
+answered_by answers id last table = if answers then with_last id last (accepted id last.number table) else accepted id last.number table
 
 -- ---- one more context
 
@@ -134,7 +160,7 @@ without_pending token table = map (without_pending_in token) table
 
 -- with this pending context of a token id, in the place of the one before, and with the posts that are known of it then
 abbrev pub with_pending : List ℕ → SecurityContext → (List AgreedPost → List AgreedPost) → List TokenEntry → List TokenEntry
-with_pending token held remember [] = (record { id = token; confirmed = None; pending = Some held; posts = remember [] }) ∷ []
+with_pending token held remember [] = (record { id = token; confirmed = None; pending = Some held; posts = remember []; last = None }) ∷ []
 with_pending token held remember (entry ∷ table) =
     if bytes_eq token entry.id then (record entry { pending = Some held; posts = remember entry.posts }) ∷ table
     else entry ∷ with_pending token held remember table

@@ -1,6 +1,6 @@
 //! The server's end of exchanges.
 
-ghost use Rattle.std.specs.Prelude.{◌≡◌, ◌≤◌, ◌⊎◌, ℕ, List, [], length, true, ◌↔◌, IfOk, IsErr, IsSome, IsTrue, OnErr, Some, None, Ok, option_map};
+ghost use Rattle.std.specs.Prelude.{◌≡◌, ◌≤◌, ◌⊎◌, ℕ, List, [], length, false, true, ◌↔◌, IfOk, IsErr, IsSome, IsTrue, OnErr, Some, None, Ok, option_map};
 ghost use Rattle.std.specs.Option.{IfSome};
 ghost use Rattle.osc_model.specs.declared.context.Side.TheVariants.{Server};
 ghost use Rattle.osc_context.specs.{accepted_of, greatest_number};
@@ -16,7 +16,7 @@ ghost use Rattle.osc_authz.specs.Inner.KnownAnswer.{IsKnownAnswer};
 ghost use Rattle.osc_authz.specs.SecurityContext.{SecurityContext};
 ghost use Rattle.osc_authz.specs.Inner.Payload.{post_fields as fields_of};
 ghost use Rattle.osc_token.specs.Inner.Reading.{IsItem};
-ghost use Rattle.osc_authz.specs.Table.{IsTable, IsFull, KeepsPlace, accepted, alive, confirmed_at, holder_at, meant, taking, with_id};
+ghost use Rattle.osc_authz.specs.Table.{IsTable, IsFull, KeepsPlace, accepted, alive, confirmed_at, holder_at, last_at, meant, taking, with_id, with_last};
 ghost use Rattle.osc_authz.specs.Post.{IsKeyFor, IsKeyOf, Opens, Posts};
 ghost use Rattle.osc_authz.specs.Posting.{OpenedToken};
 ghost use Rattle.osc_authz.specs.Known.{IsStillHeld};
@@ -26,6 +26,7 @@ use crate::agreed_post::PostRoom;
 use crate::agreement::{Bounds, context_of, name_of};
 use crate::context::ServerContext;
 use crate::error::PostError;
+use crate::last_answer::LastAnswer;
 use crate::payload::{PostFields, post_fields};
 use crate::places::{NOWHERE, Places, places_of};
 use crate::post::{Post, PostAnswer, PostReply};
@@ -135,7 +136,7 @@ impl ServerDesk {
     /// The desk of a server that shares this key with the issuer of tokens for this audience. It has no contexts, no old key and no
     /// rules, and takes no memory.
     pub fn new(alloc: Global, key: [u8; 16], audience: Audience) -> ServerDesk
-        ensures { result ≡ record { key = key; old_key = None; audience = audience; rules = record { revoked = None; seconds = None; remembered = 0; reserved = None; subtrees = true }; table = [] } }
+        ensures { result ≡ record { key = key; old_key = None; audience = audience; rules = record { revoked = None; seconds = None; remembered = 0; reserved = None; subtrees = true; answers = false }; table = [] } }
     {
         ServerDesk::of(
             alloc,
@@ -554,8 +555,32 @@ impl ServerDesk {
         self.table.get(place)?.confirmed.as_ref()
     }
 
+    /// The last answer of the context with this recipient ID, where a request has opened under that and its answer is kept.
+    pub fn last_answer(&self, id: &[u8]) -> Option<&LastAnswer>
+        ensures { option_map (λ last. last.now) result ≡ last_at id.now self.now.table }
+    {
+        table::last_answer(&self.table, &self.places, id)
+    }
+
+    /// Whether the last answer of each context is to be kept.
+    pub fn keeps_answers(&self) -> bool
+        ensures { result ≡ self.now.rules.answers }
+    {
+        self.rules.answers
+    }
+
+    /// This is the last answer of the context that a request has opened under of the token id at this place, as [`ServerDesk::accept`] answers
+    /// it. Takes no memory.
+    pub fn keep_answer(&mut self, place: usize, last: LastAnswer)
+        requires there { (held : SecurityContext) × (confirmed_at place self.old.table ≡ Some held) }
+        ensures { IfSome (confirmed_at place self.old.table) (λ held. self.new ≡ record self.old { table = with_last held.name.client_id last self.old.table }) }
+    {
+        table::keep_answer(&mut self.table, &self.places, place, last);
+    }
+
     /// A request with this fresh number opened under the context with this recipient ID: its window takes the number, and the
-    /// right to one reply comes from it. If the context was pending, it is confirmed, and the older one of its token id goes. Answers
+    /// right to one reply comes from it. If the context was pending, it is confirmed, and the older one of its token id goes. The answer to
+    /// an older number goes. Answers
     /// the place of the context's token id as well, so that it needn't be looked up again. Takes no memory.
     pub fn accept(&mut self, id: &[u8], number: u64) -> (AcceptedNumber, usize)
         requires fresh { (held : SecurityContext) × (with_id id.now self.old.table ≡ Some held) × IsFresh held.window number }

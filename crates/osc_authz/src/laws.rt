@@ -1,6 +1,6 @@
 //! Laws of the definitions, for the crates above. These functions do nothing: whoever calls one has its clauses for a proof.
 
-ghost use Rattle.std.specs.Prelude.{◌≡◌, ◌↔◌, ◌≤◌, ◌<◌, ◌^◌, ℕ, List, [], ◌∷◌, length, true, false, Bool, replicate, Option, Some, None, Ok, Result, IfSome};
+ghost use Rattle.std.specs.Prelude.{◌≡◌, ◌↔◌, ◌⊎◌, ◌≤◌, ◌<◌, ◌^◌, ℕ, List, [], ◌∷◌, length, true, false, Bool, replicate, Option, Some, None, Ok, Result, IfSome};
 ghost use Rattle.osc_cbor.specs.{spelling};
 ghost use Rattle.osc_model.specs.{code, nonce_drawn, revocation_of, stands, HasBegun, IsNotOver};
 ghost use Rattle.osc_model.specs.Tree.{Tree as Resources};
@@ -22,12 +22,14 @@ ghost use Rattle.osc_authz.specs.Desk.{DeskState};
 ghost use Rattle.osc_authz.specs.Exchange.{IsPost, IsAnswer, post_item, answer_item};
 ghost use Rattle.osc_authz.specs.SecurityContext.{SecurityContext};
 ghost use Rattle.osc_authz.specs.Known.{AreFew, known};
+ghost use Rattle.osc_authz.specs.LastAnswer.{LastAnswerState};
+ghost use Rattle.osc_authz.specs.LastAnswers.{Keeps};
 ghost use Rattle.osc_authz.specs.HoldsToken.{HoldsToken};
 ghost use Rattle.osc_authz.specs.Marked.{AreMarked, IsSameBut};
 ghost use Rattle.osc_authz.specs.Members.{In};
 ghost use Rattle.osc_authz.specs.Post.{Posts};
 ghost use Rattle.osc_authz.specs.Posting.{Offer, Posting};
-ghost use Rattle.osc_authz.specs.Table.{IsFull, IsLawfulContext, IsTable, KeepsPlace, accepted, alive, contexts, holder_at, is_live, meant, with_pending};
+ghost use Rattle.osc_authz.specs.Table.{IsFull, IsLawfulContext, IsTable, KeepsPlace, accepted, alive, answered_by, contexts, holder_at, is_live, last_at, meant, taking, with_id, with_pending};
 ghost use Rattle.osc_authz.specs.Welcome.{IsWelcome};
 ghost use Rattle.osc_authz.specs.declared.error.FinishError.{FinishError as AnyFinishError};
 ghost use Rattle.osc_authz.specs.declared.granted.ClientDesk.{ClientDesk as AnyClient};
@@ -153,6 +155,36 @@ pub fn marks_stay()
         → AreMarked tree table marks → AreMarked tree (accepted id number table) marks }
     ensures empty { (tree : Resources) (marks : List Bool) → AreMarked tree [] marks }
     ensures none { (table : List TokenEntry) → AreMarked map.empty table (replicate 256 false) }
+{}
+
+/// An answer that is kept changes no context, no token id and no mark.
+pub fn answers_stay()
+    ensures tokens { (answers : Bool) (id : List ℕ) (last : LastAnswerState) (table : List TokenEntry)
+        → of_tokens (answered_by answers id last table) ≡ of_tokens (accepted id last.number table) }
+    ensures contexts { (answers : Bool) (id : List ℕ) (last : LastAnswerState) (table : List TokenEntry)
+        → contexts (answered_by answers id last table) ≡ contexts (accepted id last.number table) }
+    ensures table { (answers : Bool) (id : List ℕ) (last : LastAnswerState) (table : List TokenEntry)
+        → IsTable table → IsTable (answered_by answers id last table) }
+    ensures places { (answers : Bool) (id : List ℕ) (last : LastAnswerState) (reserved : Option (List ℕ)) (table : List TokenEntry)
+        → KeepsPlace reserved table → KeepsPlace reserved (answered_by answers id last table) }
+    ensures marked { (answers : Bool) (id : List ℕ) (last : LastAnswerState) (tree : Resources) (table : List TokenEntry) (marks : List Bool)
+        → AreMarked tree table marks → AreMarked tree (answered_by answers id last table) marks }
+{}
+
+/// Which answers are kept: a post adds none, and a request that is served adds its own, under its own context. Empty tables keep none.
+pub fn answers_kept<A: Aead>()
+    ensures posted { (before after : DeskState) (posting : Posting) (post : AnyPost) (held : SecurityContext) (last : LastAnswerState)
+        → Posts A.is_sealing before posting post after → Keeps held last after.table → Keeps held last before.table }
+    ensures served { (answers : Bool) (id : List ℕ) (own last : LastAnswerState) (table : List TokenEntry) (held other : SecurityContext)
+        → IsTable table → with_id id table ≡ Some held → Keeps other last (answered_by answers id own table)
+        → Keeps other last table ⊎ ((other ≡ taking own.number held) × (last ≡ own)) }
+    ensures empty { (held : SecurityContext) (last : LastAnswerState) → ¬ Keeps held last [] }
+{}
+
+/// An answer that is kept for a context is found by the context's recipient ID.
+pub fn answers_are_found()
+    ensures { (id : List ℕ) (last : LastAnswerState) (table : List TokenEntry) (held : SecurityContext)
+        → with_id id table ≡ Some held → last_at id (answered_by true id last table) ≡ Some last }
 {}
 
 /// A resource that is put or removed changes the tree at its path alone.

@@ -1,6 +1,6 @@
 //! What a server rules for its contexts.
 
-ghost use Rattle.std.specs.Prelude.{◌≡◌, None, true};
+ghost use Rattle.std.specs.Prelude.{◌≡◌, None, false, true};
 ghost use Rattle.osc_authz.specs.Agreement.{end_of, is_allowed};
 
 use osc_model::{Bytes, Moment, Path};
@@ -20,12 +20,15 @@ pub struct ContextRules {
     pub reserved: Option<Bytes>,
     /// Whether a token's scope may have permissions that count on the paths below their own, too.
     pub subtrees: bool,
+    /// Whether the last answer of each context is kept, for a request that comes again.
+    pub answers: bool,
 }
 
 impl ContextRules {
-    /// No token is revoked, a context counts as long as its token, each post is new, no place is kept, and each scope is taken.
+    /// No token is revoked, a context counts as long as its token, each post is new, no place is kept, each scope is taken, and no answer is
+    /// kept.
     pub fn none() -> ContextRules
-        ensures { result ≡ record { revoked = None; seconds = None; remembered = 0; reserved = None; subtrees = true } }
+        ensures { result ≡ record { revoked = None; seconds = None; remembered = 0; reserved = None; subtrees = true; answers = false } }
     {
         ContextRules {
             revoked: None,
@@ -33,6 +36,7 @@ impl ContextRules {
             remembered: 0,
             reserved: None,
             subtrees: true,
+            answers: false,
         }
     }
 

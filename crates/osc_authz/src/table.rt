@@ -10,10 +10,11 @@ ghost use Rattle.osc_authz.specs.Inner.Lives.{alive_by};
 ghost use Rattle.osc_authz.specs.Inner.Places.{IsIndex};
 ghost use Rattle.osc_authz.specs.Inner.Rooms.{IsRoom};
 ghost use Rattle.osc_authz.specs.Known.{known as known_of};
-ghost use Rattle.osc_authz.specs.Table.{IsTable, IsFull, IsLeastFree, accepted, confirmed_at, has_token, holder_at, ids, kept_places as kept_places_of, taking, with_id as with_id_of, without_pending, with_pending};
+ghost use Rattle.osc_authz.specs.Table.{IsTable, IsFull, IsLeastFree, accepted, confirmed_at, has_token, holder_at, ids, kept_places as kept_places_of, last_at, taking, with_id as with_id_of, with_last, without_pending, with_pending};
 
 use crate::agreed_post::{AgreedPosts, PostRoom};
 use crate::context::ServerContext;
+use crate::last_answer::LastAnswer;
 use crate::marks::{least_unmarked, mark, mark_staying};
 use crate::payload::PostFields;
 use crate::places::{Places, place_of_id, places_of};
@@ -57,8 +58,24 @@ pub(crate) fn holder<'a>(
     }
 }
 
+/// The last answer of the context with this recipient ID, where that is confirmed and an answer is kept.
+pub(crate) fn last_answer<'a>(
+    table: &'a [TokenEntry],
+    places: &Places,
+    id: &[u8],
+) -> Option<&'a LastAnswer>
+    requires table { IsTable table.now }
+    requires index { IsIndex places.now table.now }
+    ensures { option_map (λ last. last.now) result ≡ last_at id.now table.now }
+{
+    match place_of_id(table, places, id) {
+        Some(index) => table[index].last_answer(id),
+        None => None,
+    }
+}
+
 /// The window of the context with this recipient ID takes this fresh number. If it was pending, it is confirmed, and the
-/// older one of its token id goes. Answers the place of the token id as well.
+/// older one of its token id goes. The answer to an older number goes. Answers the place of the token id as well.
 pub(crate) fn accept(
     table: &mut [TokenEntry],
     places: &mut Places,
@@ -116,6 +133,17 @@ fn take_number(
         // The context is there.
         None => unreachable!(),
     }
+}
+
+/// This is the last answer of the confirmed context of the token id at this place.
+pub(crate) fn keep_answer(table: &mut [TokenEntry], places: &Places, place: usize, last: LastAnswer)
+    requires table { IsTable table.old }
+    requires index { IsIndex places.now table.old }
+    requires there { (held : SecurityContext) × (confirmed_at place table.old ≡ Some held) }
+    ensures kept { IfSome (confirmed_at place table.old) (λ held. table.new ≡ with_last held.name.client_id last table.old) }
+    ensures index { IsIndex places.now table.new }
+{
+    table[place].keep_answer(last);
 }
 
 /// Whether other token ids have all places by a live context, or all but the reserved one.
@@ -263,6 +291,7 @@ fn put_pending(alloc: Global, table: &mut Vec<TokenEntry>, added: Addition)
             confirmed: None,
             pending: Some(context),
             posts: room.before(AgreedPosts::none(alloc)),
+            last: None,
         }),
     }
 }

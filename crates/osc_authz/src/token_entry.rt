@@ -8,22 +8,25 @@ ghost use Rattle.osc_context.specs.{accepted_of, greatest_number};
 ghost use Rattle.osc_window.specs.{IsFresh};
 ghost use Rattle.osc_authz.specs.Inner.Lives.{holds_live_by, is_live_by};
 ghost use Rattle.osc_authz.specs.SecurityContext.{SecurityContext};
-ghost use Rattle.osc_authz.specs.Table.{holds_id, listed, has_id, taking, accepted_in};
+ghost use Rattle.osc_authz.specs.Table.{holds_id, last_in, listed, has_id, taking, accepted_in};
 
 use crate::agreed_post::{AgreedPosts, PostRoom};
 use crate::context::ServerContext;
+use crate::last_answer::LastAnswer;
 use crate::revoked_marks::RevokedMarks;
 use osc_context::AcceptedNumber;
 use osc_model::{Moment, SharedBytes};
 use std::alloc::Global;
 use std::mem;
 
-/// The contexts of one token id: one that a request has opened under, and one of the newest post; and the posts of it that are known.
+/// The contexts of one token id: one that a request has opened under, and one of the newest post; the posts of it that are known; and the last
+/// answer under the first of them, where answers are kept.
 pub struct TokenEntry {
     pub id: SharedBytes,
     pub confirmed: Option<ServerContext>,
     pub pending: Option<ServerContext>,
     pub posts: AgreedPosts,
+    pub last: Option<LastAnswer>,
 }
 
 impl Drop for TokenEntry {
@@ -33,6 +36,7 @@ impl Drop for TokenEntry {
             confirmed: _,
             pending: _,
             posts: _,
+            last: _,
         } = self;
     }
 }
@@ -124,7 +128,7 @@ impl TokenEntry {
     }
 
     /// The window of the context with this recipient ID takes this fresh number. If it was pending, it is confirmed, and the
-    /// older one goes.
+    /// older one goes. The answer to an older number goes.
     pub fn accept(&mut self, id: &[u8], number: u64) -> AcceptedNumber
         requires there { holds_id id.now self.old ≡ true }
         requires number { number ≤ greatest_number }
@@ -143,6 +147,25 @@ impl TokenEntry {
         if is_of(&self.pending, id) {
             self.confirmed = self.pending.take();
         }
+        self.last = None;
         take_number(&mut self.confirmed, number)
+    }
+
+    /// The last answer of the context with this recipient ID, where that is confirmed and an answer is kept.
+    pub fn last_answer(&self, id: &[u8]) -> Option<&LastAnswer>
+        ensures { option_map (λ last. last.now) result ≡ last_in id.now self.now }
+    {
+        if is_of(&self.confirmed, id) {
+            self.last.as_ref()
+        } else {
+            None
+        }
+    }
+
+    /// This is the last answer of the confirmed context.
+    pub fn keep_answer(&mut self, last: LastAnswer)
+        ensures { self.new ≡ record self.old { last = Some last } }
+    {
+        self.last = Some(last);
     }
 }

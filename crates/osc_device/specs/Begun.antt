@@ -54,6 +54,7 @@ server_alone parts own = record {
     remembered = remembered_posts;
     reserved = Some own;
     subtrees = parts.subtrees;
+    answers = true;
   };
   server_at = server_address;
   minted = [];

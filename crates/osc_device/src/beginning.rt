@@ -75,6 +75,7 @@ pub(crate) fn server_of(alloc: Global, parts: ServerParts, own: Bytes) -> Result
         remembered: REMEMBERED_POSTS,
         reserved: Some(own),
         subtrees,
+        answers: true,
     };
     let desk = ServerDesk::of(
         alloc,

@@ -59,6 +59,23 @@ pub fn revoking_server(alloc: Global, tree: Tree, root: &[u8]) -> Result<Server,
     Server::new(alloc, tree, desk, Scope::new(alloc))
 }
 
+/// A server without resources and contexts, which keeps the last answer of each context.
+pub fn answering_server(alloc: Global) -> Result<Server, AllocError> {
+    let desk = ServerDesk::of(
+        alloc,
+        DeskParts {
+            key: KEY,
+            old_key: None,
+            audience: Audience::new(alloc, "s")?,
+            rules: ContextRules {
+                answers: true,
+                ..ContextRules::none()
+            },
+        },
+    );
+    Server::new(alloc, Tree::new(alloc), desk, Scope::new(alloc))
+}
+
 /// A server without resources and contexts.
 pub fn empty_server(alloc: Global) -> Result<Server, AllocError> {
     server(alloc, Tree::new(alloc), Scope::new(alloc))

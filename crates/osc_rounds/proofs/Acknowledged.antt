@@ -5,7 +5,7 @@ use Rattle.osc_model.specs.Arrival.{Arrival}
 use Rattle.osc_model.specs.declared.step.Step.{Step}
 use Rattle.osc_coap.specs.{datagram_limit, HasSpelling, spelling}
 use Rattle.osc_coap.specs.declared.kind.Kind.TheVariants.{Acknowledgement}
-use Rattle.osc_message.specs.{acknowledged, heard, Receives, empty_acknowledgement, quickened}
+use Rattle.osc_message.specs.{heard, Receives, empty_acknowledgement}
 use Rattle.osc_message.specs.declared.heard.Heard.{Heard}
 use Rattle.osc_message.specs.declared.heard.Heard.TheVariants.{Empty}
 use Rattle.osc_message.specs.declared.received.Received.{Received}
@@ -14,6 +14,7 @@ use Rattle.osc_ccm.specs.{Sealings}
 use Rattle.osc_client.specs.{Hears as ClientHears, Answers as ClientAnswers}
 use Rattle.osc_client.specs.State.{State as Client}
 use Rattle.osc_rounds.proofs.Asking.{received_as}
+use Rattle.osc_rounds.specs.Asked.{with_acknowledgement}
 
 module _ (is_sealing : Sealings)
     (one_reception : (bytes : List ℕ) (a b : Received) → Receives bytes a → Receives bytes b → a ≡ b)
@@ -21,7 +22,7 @@ module _ (is_sealing : Sealings)
     (short : (id : ℕ) → length (spelling (empty_acknowledgement id)) ≤ datagram_limit) where
   pub acknowledgement_heard : (old new : Client) (came : Arrival ℕ) (step : Step) → came.what < 2 ^ 16
       → ClientHears is_sealing old (read_as came (spelling (empty_acknowledgement came.what))) step new
-      → (step ≡ sends []) × (new ≡ record old { endpoint = record old.endpoint { sending = acknowledged came.from came.what old.endpoint.sending; pace = quickened came.from came.what old.endpoint.sending old.endpoint.pace } })
+      → (step ≡ sends []) × (new ≡ record old { endpoint = with_acknowledgement came.from came.what old.endpoint })
   acknowledgement_heard old new came step few hears =
       let id = came.what in
       let as_it : hears.received ≡ received.Message (empty_acknowledgement id) =

@@ -157,7 +157,7 @@ module _ (is_sealing : Sealings) (tag : Tags) (laws : RoundLaws is_sealing tag)
     reply = is.reply;
     applied = is.applied;
     entry = ap (λ (s : Step). s.notes) is.told;
-    kept = ap (λ (s : Server). s.desk) is.kept;
+    kept = is.desk;
     answer = is.answer;
     out = ap (λ (s : Step). s.out) is.told;
     answered = λ draw third after hears.

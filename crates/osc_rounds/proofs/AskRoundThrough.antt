@@ -10,7 +10,7 @@ use Rattle.osc_model.specs.declared.step.Step.{Step}
 use Rattle.osc_coap.specs.{spelling}
 use Rattle.osc_coap.specs.Message.{Message}
 use Rattle.osc_dedup.specs.{Entry, looked}
-use Rattle.osc_message.specs.{acknowledged, EndpointState, empty_acknowledgement, quickened}
+use Rattle.osc_message.specs.{EndpointState, empty_acknowledgement}
 use Rattle.osc_ccm.specs.{Sealings}
 use Rattle.osc_authz.specs.SecurityContext.{SecurityContext}
 use Rattle.osc_server.specs.{Hears as ServerHears}
@@ -23,12 +23,13 @@ use Rattle.osc_proxy.specs.State.{State as Proxy}
 use Rattle.osc_rounds.specs.{asked_text, IsAskedAndServedThrough, IsBroughtBackAndAnswered, IsPassedOnAndServed, IsServedAndBroughtBack, OnItsWay, coming, Hops, IsThrough}
 use Rattle.osc_rounds.proofs.AskedThrough.{IsAskedAndAnsweredThrough, IsServedAndAnsweredThrough, RequestFromProxy}
 use Rattle.osc_rounds.proofs.PassedOn.{PassesLaw, can_send, passage_on, takes_up, token_size}
+use Rattle.osc_rounds.specs.Asked.{with_acknowledgement}
 
 module _ (is_sealing : Sealings) where
   abbrev pub AcknowledgedLaw : Type 0
   AcknowledgedLaw = (old new : Client) (came : Arrival ℕ) (step : Step) → came.what < 2 ^ 16
       → ClientHears is_sealing old (read_as came (spelling (empty_acknowledgement came.what))) step new
-      → (step ≡ sends []) × (new ≡ record old { endpoint = record old.endpoint { sending = acknowledged came.from came.what old.endpoint.sending; pace = quickened came.from came.what old.endpoint.sending old.endpoint.pace } })
+      → (step ≡ sends []) × (new ≡ record old { endpoint = with_acknowledgement came.from came.what old.endpoint })
 
   module _ (passes : PassesLaw) (settles : AcknowledgedLaw)
       (client asked : Client) (proxy : Proxy) (server : Server) (asks_for : Asked) (hops : Hops) (held : SecurityContext) (number : ℕ) (asks : Step)
@@ -80,7 +81,7 @@ module _ (is_sealing : Sealings) where
     from_proxy = record { asked = asked; message = is.message; server = server; request = record { held = held; number = number; text = asked_text client draw request } }
 
     abbrev meanwhile : EndpointState
-    meanwhile = record asked.endpoint { sending = acknowledged proxy_at is.message.id asked.endpoint.sending; pace = quickened proxy_at is.message.id asked.endpoint.sending asked.endpoint.pace }
+    meanwhile = with_acknowledgement proxy_at is.message.id asked.endpoint
 
     new_at_client : looked now proxy_at (answer_id proxy proxy_draw) asked.endpoint.seen ≡ None
     new_at_client = subst (λ (seen : List Entry). looked now proxy_at (answer_id proxy proxy_draw) seen ≡ None) (sym is.heard) may.new_at_client

@@ -291,7 +291,7 @@ module _ (is_sealing : Sealings) (tag : Tags) (laws : RoundLaws is_sealing tag)
     reply = is.reply;
     applied = is.applied;
     entry = ap (λ (s : Step). s.notes) is.told;
-    kept = ap (λ (s : Server). s.desk) is.kept;
+    kept = is.desk;
     response = is.answer;
     out = ap (λ (s : Step). s.out) is.told;
     forwardable = forwardable;

@@ -16,7 +16,7 @@ use Rattle.osc_message.specs.{EndpointState, own_id, datagram, empty_acknowledge
 use Rattle.osc_context.specs.{greatest_number}
 use Rattle.osc_ccm.specs.{Sealings}
 use Rattle.osc_protect.specs.{IsProtectedRequest, plain_bytes}
-use Rattle.osc_authz.specs.{ClientContextState, accepted, holder_at}
+use Rattle.osc_authz.specs.{ClientContextState, holder_at}
 use Rattle.osc_authz.specs.SecurityContext.{SecurityContext}
 use Rattle.osc_run.specs.{request_note, Replies as AppliesTo}
 use Rattle.osc_options.specs.{read_request}
@@ -25,7 +25,7 @@ use Rattle.osc_server.specs.State.{State as Server}
 use Rattle.osc_client.specs.{Hears as ClientHears, Asked, plain_of, HostAndPort, IsLawfulOrigin}
 use Rattle.osc_client.specs.State.{State as Client}
 use Rattle.osc_proxy.specs.{answer as sent_back, forwarded, IsAnswerTo}
-use Rattle.osc_rounds.specs.{asked_text, AwaitsReply, IsAnsweredWith, IsForServer, OpenedRequest, coming, IsForProxy}
+use Rattle.osc_rounds.specs.{asked_text, AwaitsReply, HasServed, IsAnsweredWith, IsForServer, OpenedRequest, coming, IsForProxy}
 
 -- ---- before
 
@@ -100,7 +100,7 @@ module _ (is_sealing : Sealings) where
     pub reply : Reply
     pub applied : AppliesTo way.server.tree (apply_read way.server.desk.rules.revoked way.server.tree way.request.held.scope (read_request way.request.text)) reply served.tree
     pub entry : second.notes ≡ notes_of_request came.at way.request.held (holder_at way.request.held.name.client_id way.server.desk.table) way.request.number way.request.text reply
-    pub kept : served.desk ≡ record way.server.desk { table = accepted way.request.held.name.client_id way.request.number way.server.desk.table }
+    pub kept : HasServed way.request.held.name.client_id way.request.number way.server.desk served.desk
     pub response : Message
     pub out : second.out ≡ datagram came.from response ∷ []
     pub forwardable : IsAnswerTo came.what response

@@ -27,9 +27,9 @@ use Rattle.osc_window.specs.{IsFresh}
 use Rattle.osc_protect.specs.{aad_of, HasShortContext, IsFor, IsProtectedRequest, IsProtectedResponse, IsRequest, SealedRequest, plain_bytes, request_nonce, request_value, Compressed, SpellsValue}
 use Rattle.osc_ccm.specs.{Sealings}
 use Rattle.osc_authz.specs.SecurityContext.{SecurityContext}
-use Rattle.osc_authz.specs.{holder_at, meant, accepted}
+use Rattle.osc_authz.specs.{DeskState, holder_at, meant}
 use Rattle.osc_run.specs.{Replies as AppliesTo}
-use Rattle.osc_server.specs.{met, standing_of, case_of as server_case, Answers as ServerAnswers, AnswersNew as ServerAnswersNew, AnswersProtected, IsMeant, IsRefused, IsSealed, Sends, Serves, notes_of_request, refused, reply_to, served, Hears as ServerHears}
+use Rattle.osc_server.specs.{met, standing_of, case_of as server_case, Answers as ServerAnswers, AnswersNew as ServerAnswersNew, AnswersProtected, IsMeant, IsRefused, IsSealed, Sends, Serves, answer_to, answered, answered_again, notes_of_request, refused, reply_to, served, served_desk, Hears as ServerHears}
 use Rattle.osc_server.specs.State.{State as Server}
 use Rattle.osc_server.specs.declared.case.RequestCase.{RequestCase}
 use Rattle.osc_server.specs.declared.case.RequestCase.TheVariants.{Protected}
@@ -220,7 +220,7 @@ module _ (is_sealing : Sealings) (laws : RequestLaws is_sealing)
     applied : AppliesTo old.tree (apply_read old.desk.rules.revoked old.tree h.scope (read_request text)) reply new.tree
     answer : Message
     protects : IsProtectedResponse is_sealing h.name request.number None (reply_to old.endpoint came reply) answer
-    sends : Sends (record old { tree = new.tree; desk = record old.desk { table = accepted request.kid request.number old.desk.table } })
+    sends : Sends (record old { tree = new.tree; desk = served_desk old.desk came request protects.sealed })
         came answer (notes_of_request now h (holder_at request.kid old.desk.table) request.number text reply) step new
 
   are_served : (s : Serves is_sealing old came step new) → AreServed s.held s.request s.text
@@ -242,6 +242,9 @@ module _ (is_sealing : Sealings) (laws : RequestLaws is_sealing)
       let under : AreServed held what s.text = subst (λ (h : SecurityContext). AreServed h what s.text) held_is read in
       by (subst (λ (t : List ℕ). AreServed held what t) (once s.text under.opens) under)
     where
+      desk_is : (it : AreServed held what (plain_bytes m)) → new.desk ≡ served_desk old.desk came what it.protects.sealed
+      desk_is it = ap (λ (s : Server). s.desk) it.sends.kept
+
       by : AreServed held what (plain_bytes m) → IsServed is_sealing old came opened step new
       by it = record {
         reply = it.reply;
@@ -250,11 +253,16 @@ module _ (is_sealing : Sealings) (laws : RequestLaws is_sealing)
         answer = it.answer;
         protected = it.protects;
         told = it.sends.sent;
-        kept = it.sends.kept;
+        desk = record { last = answer_to came what it.protects.sealed; its = refl; kept = desk_is it };
+        kept = it.sends.kept
+            ∙ ap (λ (d : DeskState). record { tree = new.tree; desk = d; open_scope = old.open_scope; endpoint = answered old.endpoint came it.answer }) (sym (desk_is it));
       }
 
   answered_so : AnswersProtected is_sealing old came step new → IsServed is_sealing old came opened step new
   answered_so (refused refusal is sends) = absurd (not_refused refusal is)
+  answered_so (answered_again request other last again stale sends) =
+      let number_is : number ≡ request.number = ap (λ (r : SealedRequest). r.number) (sym (whatever request again.meant.is_request)) in
+      absurd (stale (subst (IsFresh other.window) number_is (subst (λ (h : SecurityContext). IsFresh h.window number) (same_held request other again.meant) awaits.fresh)))
   answered_so (served s) = is_served s
 
   -- it comes to the server, which serves it

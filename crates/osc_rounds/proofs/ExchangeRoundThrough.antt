@@ -8,7 +8,7 @@ use Rattle.osc_model.specs.declared.step.ClientResult.TheVariants as result
 use Rattle.osc_model.specs.declared.step.Step.{Step}
 use Rattle.osc_coap.specs.Message.{Message}
 use Rattle.osc_dedup.specs.{Entry as Noted, looked}
-use Rattle.osc_message.specs.{acknowledged, EndpointState, quickened}
+use Rattle.osc_message.specs.{EndpointState}
 use Rattle.osc_scope.specs.{Entry}
 use Rattle.osc_token.specs.declared.claims.Claims.{Claims}
 use Rattle.osc_ccm.specs.{Sealings}
@@ -25,6 +25,7 @@ use Rattle.osc_rounds.specs.{coming, IsAgreedAndBroughtBack, IsBroughtBackAndMad
 use Rattle.osc_rounds.specs.ProxiedExchange.{ProxiedExchange}
 use Rattle.osc_rounds.proofs.ExchangeRound.{drawn_size}
 use Rattle.osc_rounds.proofs.PassedOn.{PassesLaw, can_send, passage_on, takes_up, token_size}
+use Rattle.osc_rounds.specs.Asked.{with_acknowledgement}
 
 module _ (is_sealing : Sealings)
     (client begun : Client) (proxy : Proxy) (server : Server) (draw : Draw) (hops : Hops) (claims : Claims) (entries : List Entry) (posts : Step)
@@ -99,7 +100,7 @@ module _ (is_sealing : Sealings)
     sent = record { begun = begun; message = is.message }
 
     abbrev meanwhile : EndpointState
-    meanwhile = record begun.endpoint { sending = acknowledged proxy_at is.message.id begun.endpoint.sending; pace = quickened proxy_at is.message.id begun.endpoint.sending begun.endpoint.pace }
+    meanwhile = with_acknowledgement proxy_at is.message.id begun.endpoint
 
     new_at_client : looked now proxy_at (answer_id proxy proxy_draw) begun.endpoint.seen ≡ None
     new_at_client = subst (λ (seen : List Noted). looked now proxy_at (answer_id proxy proxy_draw) seen ≡ None) (sym is.seen) through.new_at_client

@@ -13,14 +13,14 @@ use Rattle.osc_message.specs.{own_id, datagram}
 use Rattle.osc_ccm.specs.{Sealings}
 use Rattle.osc_protect.specs.{plain_bytes}
 use Rattle.osc_authz.specs.SecurityContext.{SecurityContext}
-use Rattle.osc_authz.specs.{IsTable, accepted, holder_at}
+use Rattle.osc_authz.specs.{IsTable, holder_at}
 use Rattle.osc_run.specs.{request_note, Replies as AppliesTo}
 use Rattle.osc_options.specs.{read_request}
 use Rattle.osc_server.specs.State.{State as Server}
 use Rattle.osc_server.specs.{notes_of_request, Hears as ServerHears}
 use Rattle.osc_client.specs.{plain_of, Hears as ClientHears}
 use Rattle.osc_client.specs.State.{State as Client}
-use Rattle.osc_rounds.specs.Asked.{IsAnswered}
+use Rattle.osc_rounds.specs.Asked.{HasServed, IsAnswered}
 use Rattle.osc_rounds.specs.Coming.{coming}
 
 -- what is true of each server: its resources stay within their limits, and its contexts are a table
@@ -51,7 +51,7 @@ module _ (is_sealing : Sealings) where
     pub reply : Reply
     pub applied : AppliesTo way.server.tree (apply_read way.server.desk.rules.revoked way.server.tree way.held.scope (read_request way.text)) reply served.tree
     pub entry : second.notes ≡ notes_of_request way.now way.held (holder_at way.held.name.client_id way.server.desk.table) way.number way.text reply
-    pub kept : served.desk ≡ record way.server.desk { table = accepted way.held.name.client_id way.number way.server.desk.table }
+    pub kept : HasServed way.held.name.client_id way.number way.server.desk served.desk
     pub answer : Message
     pub out : second.out ≡ datagram way.at answer ∷ []
     pub answered : (draw : Draw) (third : Step) (after : Client) → ClientHears is_sealing way.asked (coming way.now way.server_at draw answer) third after

@@ -12,7 +12,7 @@ use Rattle.osc_coap.specs.Message.{Message}
 use Rattle.osc_message.specs.{datagram, empty_acknowledgement}
 use Rattle.osc_ccm.specs.{Sealings}
 use Rattle.osc_authz.specs.SecurityContext.{SecurityContext}
-use Rattle.osc_authz.specs.{accepted, holder_at}
+use Rattle.osc_authz.specs.{holder_at}
 use Rattle.osc_run.specs.{request_note, Replies as AppliesTo}
 use Rattle.osc_options.specs.{read_request}
 use Rattle.osc_server.specs.{Hears as ServerHears, notes_of_request}
@@ -23,7 +23,7 @@ use Rattle.osc_proxy.specs.{Hears as ProxyHears, IsAtRest, answer_id, forwarded_
 use Rattle.osc_proxy.specs.Passage.{Passage}
 use Rattle.osc_proxy.specs.State.{State as Proxy}
 use Rattle.osc_rounds.specs.AskRound.{asked_text}
-use Rattle.osc_rounds.specs.Asked.{IsAnsweredWith}
+use Rattle.osc_rounds.specs.Asked.{HasServed, IsAnsweredWith}
 use Rattle.osc_rounds.specs.Coming.{coming}
 
 -- a request on its way: the client that has asked, proxy and server before, their addresses, the moment, and what the proxy draws; the
@@ -81,7 +81,7 @@ module _ (is_sealing : Sealings) where
     pub reply : Reply
     pub applied : AppliesTo way.server.tree (apply_read way.server.desk.rules.revoked way.server.tree way.held.scope (read_request way.text)) reply served.tree
     pub entry : third.notes ≡ notes_of_request way.now way.held (holder_at way.held.name.client_id way.server.desk.table) way.number way.text reply
-    pub kept : served.desk ≡ record way.server.desk { table = accepted way.held.name.client_id way.number way.server.desk.table }
+    pub kept : HasServed way.held.name.client_id way.number way.server.desk served.desk
     pub response : Message
     pub out : third.out ≡ datagram way.proxy_at response ∷ []
     pub brought : (draw : Draw) (fourth : Step) (after : Proxy) → ProxyHears passed (coming way.now way.server_at draw response) fourth after

@@ -13,7 +13,7 @@ pub mod ExchangeRoundThrough
 pub use Agreement.{AwaitsAgreement, AwaitsPost, BegunExchange, IsAgreedTo, MakesContexts, agreement, body_of, posted}
 pub use AskRound.{IsAskedAndAnswered, IsLawfulServer, IsServedAndAnswered, StraightRequest, asked_text}
 pub use AskRoundThrough.{IsAnsweredAndEnds, IsAskedAndServedThrough, IsBroughtBackAndAnswered, IsPassedOnAndServed, IsServedAndBroughtBack, IsSettledAndServed, OnItsWay, forwarded_on, id_back, passage_of}
-pub use Asked.{AnsweredRequest, AreForServer, AwaitsReply, AwaitsRequest, CarriesReply, ComesBack, IsAnswered, IsAnsweredWith, IsForServer, IsServed, OpenedRequest, a_uri_host, in_acknowledgement, in_confirmable, nothing}
+pub use Asked.{AnsweredRequest, AreForServer, AwaitsReply, AwaitsRequest, CarriesReply, ComesBack, HasServed, IsAnswered, IsAnsweredWith, IsForServer, IsServed, OpenedRequest, a_uri_host, in_acknowledgement, in_confirmable, nothing, with_acknowledgement}
 pub use Coming.{coming, in_bytes}
 pub use ExchangeRound.{IsAgreedAndMade, IsBegunAndMade, IsHeld, IsMade, StraightPost}
 pub use ExchangeRoundThrough.{IsAgreedAndBroughtBack, IsBroughtBackAndMade, IsMadeAndEnds, IsPassedOnAndAgreed, IsPostedAndAgreedThrough, IsSettledAndAgreed, PostOnItsWay, forwarded_post, post_id_back, post_passage}

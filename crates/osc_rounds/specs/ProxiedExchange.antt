@@ -13,7 +13,7 @@ use Rattle.osc_cbor.specs.{spelling as item_spelling}
 use Rattle.osc_coap.specs.Message.{Message}
 use Rattle.osc_coap.specs.declared.kind.Kind.TheVariants.{Confirmable}
 use Rattle.osc_dedup.specs.{looked}
-use Rattle.osc_message.specs.{acknowledged, EndpointState, own_id, datagram, empty_acknowledgement, quickened}
+use Rattle.osc_message.specs.{EndpointState, own_id, datagram, empty_acknowledgement}
 use Rattle.osc_scope.specs.{Entry}
 use Rattle.osc_token.specs.{claims_item}
 use Rattle.osc_token.specs.declared.claims.Claims.{Claims}
@@ -30,6 +30,7 @@ use Rattle.osc_rounds.specs.Coming.{coming, in_bytes}
 use Rattle.osc_rounds.specs.ExchangeRound.{IsHeld}
 use Rattle.osc_rounds.specs.ForProxy.{IsForProxy}
 use Rattle.osc_rounds.specs.RoundNotes.{AreNotesOfAgreement}
+use Rattle.osc_rounds.specs.Asked.{with_acknowledgement}
 
 -- an exchange that goes through a proxy, whatever that is: the server before, the moment, what the client draws, the host and port by which
 -- it names the server, and the proxy's address; what its token claims, and the entries of the token's scope
@@ -109,7 +110,7 @@ module _ (is_sealing : Sealings) where
     pub settled : (at : Moment) (draw : Draw) (step : Step) (later : Client)
         → ClientHears is_sealing begun (coming at exchange.proxy_at draw (empty_acknowledgement message.id)) step later
         → (step ≡ sends [])
-        × (later ≡ record begun { endpoint = record begun.endpoint { sending = acknowledged exchange.proxy_at message.id begun.endpoint.sending; pace = quickened exchange.proxy_at message.id begun.endpoint.sending begun.endpoint.pace } })
+        × (later ≡ record begun { endpoint = with_acknowledgement exchange.proxy_at message.id begun.endpoint })
     pub agreed : (id : ℕ) (token : List ℕ) (server_draw : Draw) (second : Step) (after : Server)
         → id < 2 ^ 16 → length token ≡ 8 → looked exchange.now exchange.proxy_at id exchange.server.endpoint.seen ≡ None
         → length server_draw.0 ≡ 32

@@ -16,7 +16,7 @@ ghost use Rattle.osc_coap.specs.{spelling};
 ghost use Rattle.osc_coap.specs.Message.{Message};
 ghost use Rattle.osc_coap.specs.declared.kind.Kind.{Kind as AnyKind};
 ghost use Rattle.osc_options.specs.{AreInOrder, outer_options};
-ghost use Rattle.osc_message.specs.{acknowledged, acknowledgement, empty_acknowledgement, sent_to, datagram, own_id, quickened};
+ghost use Rattle.osc_message.specs.{acknowledgement, empty_acknowledgement, sent_to, datagram, own_id};
 ghost use Rattle.osc_coap.specs.declared.kind.Kind.TheVariants.{Acknowledgement, Confirmable};
 ghost use Rattle.osc_dedup.specs.{looked};
 ghost use Rattle.osc_scope.specs.{Entry};
@@ -44,6 +44,7 @@ ghost use Rattle.osc_rounds.specs.Agreement.{AwaitsAgreement, AwaitsPost, BegunE
 ghost use Rattle.osc_rounds.specs.ForProxy.{IsForProxy};
 ghost use Rattle.osc_rounds.specs.ProxiedExchange.{IsBegunAndMadeThrough, IsMadeThrough, IsPostedThrough, MayExchangeThrough, ProxiedExchange, claims_text};
 ghost use Rattle.osc_rounds.specs.RoundNotes.{AreAmongQuiet, AreNotesOfExchange, AreNotesOfRequest, Draws};
+ghost use Rattle.osc_rounds.specs.Asked.{with_acknowledgement};
 
 use osc_authz::laws::{
     held_contexts_are_meant, lengths_of_answers, one_name, one_payload, posts_that_agree,
@@ -180,7 +181,7 @@ pub fn an_acknowledgement_is_heard<A: Ciphers>()
     ensures { (old new : Client) (came : Arrival ℕ) (step : AnyStep) → came.what < 2 ^ 16
         → ClientHears A.is_sealing old (read_as came (spelling (empty_acknowledgement came.what))) step new
         → (step ≡ sends [])
-        × (new ≡ record old { endpoint = record old.endpoint { sending = acknowledged came.from came.what old.endpoint.sending; pace = quickened came.from came.what old.endpoint.sending old.endpoint.pace } }) }
+        × (new ≡ record old { endpoint = with_acknowledgement came.from came.what old.endpoint }) }
 {
     one_reception();
     what_nodes_send();

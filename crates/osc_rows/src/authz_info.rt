@@ -43,6 +43,7 @@ fn parts_of(alloc: Global, words: &[Word<'_>]) -> Option<DeskParts> {
             remembered,
             reserved: reserved.copied_if_some(alloc)?,
             subtrees,
+            answers: false,
         },
     })
 }

@@ -98,7 +98,7 @@ module _ (key text audience : List ℕ) (now : Moment) (claims : Claims) (lawful
   no_age seconds e = cc
 
   abbrev rules : ContextRules
-  rules = record { revoked = None; seconds = None; remembered = 0; reserved = None; subtrees = true }
+  rules = record { revoked = None; seconds = None; remembered = 0; reserved = None; subtrees = true; answers = false }
 
   abbrev post : AgreedPost
   post = record { nonce1 = eight 1; client_id = byte 0; answer = answer }

@@ -1,3 +1,5 @@
+pub mod ComesAgain
+pub mod KeptAnswers
 pub mod Meant
 pub mod Cases
 pub mod Changes

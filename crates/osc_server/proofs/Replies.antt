@@ -14,20 +14,20 @@ use Rattle.osc_model.specs.declared.code.Method.TheVariants.{Get, Post, Put, Del
 use Rattle.osc_model.specs.declared.reply.Reply.{Reply}
 use Rattle.osc_model.specs.declared.request.Request.{Request}
 use Rattle.osc_model.specs.declared.resource.Resource.{Resource}
-use Rattle.osc_coap.specs.{payload_of, extension_length, options_length, plaintext_length, spelled_length, NumberAndValue, spelling, plaintext_spelling}
+use Rattle.osc_coap.specs.{payload_of, extension_length, options_length, plaintext_length, spelled_length, with_option, with_payload, NumberAndValue, spelling, plaintext_spelling}
 use Rattle.osc_coap.specs.Length as coap
 use Rattle.osc_coap.specs.Message.{Message}
 use Rattle.osc_coap.specs.Plaintext.{Plaintext}
 use Rattle.osc_options.specs.{etag_option, format_option, reply_options, uint_bytes, reply_plaintext, merge, outer_options, reply_text}
-use Rattle.osc_message.specs.{EndpointState}
+use Rattle.osc_message.specs.{EndpointState, reply_start}
 use Rattle.osc_protect.specs.{plain_bytes, response_length, response_value, response_with, value_spelling}
-use Rattle.osc_authz.specs.{code_of}
+use Rattle.osc_authz.specs.{LastAnswerState, code_of}
 use Rattle.osc_authz.specs.declared.error.PostError.{PostError}
 use Rattle.osc_authz.specs.declared.error.PostError.TheVariants.{Fields, Token, Revoked, Full, Replayed}
 use Rattle.osc_token.specs.declared.error.TokenError.TheVariants as token
 use Rattle.osc_authz.specs.declared.post.PostReply.{PostReply}
 use Rattle.osc_server.specs.Inner.Parts.{IsReplyOf, FitsAResource, read_length, request_reply_length}
-use Rattle.osc_server.specs.{post_reply, reply_to}
+use Rattle.osc_server.specs.{again_to, post_reply, reply_to}
 use Rattle.osc_server.proofs.Gets.{bare_reply, content_reply}
 
 -- ---- short replies
@@ -181,6 +181,13 @@ post_message_short endpoint came answer token short =
 pub reply_message_short : (endpoint : EndpointState) (came : Arrival Message) (reply : Reply) → length came.what.token ≤ 8 → FitsAResource reply → spelled_length (reply_to endpoint came reply) ≤ 1152
 reply_message_short endpoint came reply token short =
     omega (arith, token, options_short reply.etag reply.format short.etag, payload_short reply.payload, short.payload)
+
+-- ---- a protected reply that goes out again
+
+pub again_is : (endpoint : EndpointState) (came : Arrival Message) (last : LastAnswerState)
+    → with_payload (with_option (reply_start came.draw endpoint.next_id came.what 68) 9 []) last.reply ≡ again_to endpoint came last
+unfolding value_spelling
+again_is endpoint came last = refl
 
 -- ---- a protected reply
 

@@ -1,5 +1,5 @@
 -- Each step is one of the kinds that a run has.
-use Rattle.std.proofs.Common.{◌≡◌, ℕ, ◌≤◌, List, length, Option, Some, None, Result, Ok, Err, refl, sym, subst, ap}
+use Rattle.std.proofs.Common.{◌≡◌, ℕ, ◌≤◌, Bool, List, length, Option, Some, None, Result, Ok, Err, refl, sym, subst, ap}
 use Rattle.osc_model.specs.{apply_read, read_as, quiet}
 use Rattle.osc_model.specs.Arrival.{Arrival}
 use Rattle.osc_model.specs.StepNotes.{StepNotes}
@@ -15,7 +15,7 @@ use Rattle.osc_message.specs.declared.heard.Heard.TheVariants as heard
 use Rattle.osc_context.specs.{greatest_number}
 use Rattle.osc_window.specs.{IsFresh}
 use Rattle.osc_ccm.specs.{Sealings}
-use Rattle.osc_authz.specs.{of_tokens, DeskState, Posts, IsTable, accepted, holder_at, meant}
+use Rattle.osc_authz.specs.{OfToken, of_tokens, DeskState, LastAnswerState, Posts, IsTable, accepted, answered_by, holder_at, meant}
 use Rattle.osc_authz.specs.SecurityContext.{SecurityContext}
 use Rattle.osc_authz.specs.Posting.{Posting}
 use Rattle.osc_authz.specs.declared.error.PostError.{PostError}
@@ -27,7 +27,7 @@ use Rattle.osc_authz.specs.declared.post.PostReply.TheVariants.{New, Known}
 use Rattle.osc_authz.specs.declared.rules.ContextRules.{ContextRules}
 use Rattle.osc_run.specs.{opening_note, reply_note, Replies as AppliesTo, IsServerIdle, IsPosted, IsServed, ServerStep, ServerIdle, Posted, Served, ServerRestarted}
 use Rattle.osc_options.specs.{read_request, IsWithinRanges}
-use Rattle.osc_server.specs.{case_of, core, again, Answers, AnswersNew, AnswersPost, AnswersProtected, Sends, Serves, nonce_of_post, notes_of_post, posting, notes_of_request, refusal_of_post, refused, served}
+use Rattle.osc_server.specs.{case_of, core, again, Answers, AnswersNew, AnswersPost, AnswersProtected, Sends, Serves, answer_to, answered_again, nonce_of_post, notes_of_post, posting, notes_of_request, refusal_of_post, refused, served}
 use Rattle.osc_server.specs.State.{State}
 use Rattle.osc_server.specs.declared.case.RequestCase.{RequestCase}
 use Rattle.osc_server.specs.declared.case.RequestCase.TheVariants as case
@@ -62,6 +62,8 @@ pub record Laws (is_sealing : Sealings) : Type 0 where
         holder = holder_at kid table;
       })
       (record { contexts = of_tokens (accepted kid number table); tree = after; rules = rules })
+  pub stay : (answers : Bool) (id : List ℕ) (last : LastAnswerState) (table : List TokenEntry)
+      → of_tokens (answered_by answers id last table) ≡ of_tokens (accepted id last.number table)
 
 -- ---- a step that does nothing for a run
 
@@ -112,11 +114,15 @@ module _ (is_sealing : Sealings) (laws : Laws is_sealing) (old : State) (step : 
   served_kind came it =
       subst (λ notes. ServerStep (core old) came.at notes (core new)) (sym (ap (λ s. s.notes) it.sent.sent))
       (subst (λ d. ServerStep (core old) came.at (notes_of_request came.at it.held (holder_at it.request.kid old.desk.table) it.request.number it.text it.reply) (record { contexts = of_tokens d.table; tree = new.tree; rules = d.rules })) (sym (ap (λ s. s.desk) it.sent.kept))
+      (subst (λ (contexts : List OfToken). ServerStep (core old) came.at (notes_of_request came.at it.held (holder_at it.request.kid old.desk.table) it.request.number it.text it.reply)
+      (record { contexts = contexts; tree = new.tree; rules = old.desk.rules }))
+      (sym (laws.stay old.desk.rules.answers it.request.kid (answer_to came it.request it.protected.sealed) old.desk.table))
       (Served (laws.opens came.at it.request.kid it.request.kid_context old.desk.table it.held it.request.number it.text it.reply old.tree new.tree old.desk.rules
-      before it.opened.meant.is_meant it.opened.meant.is_request.says.spelled.lawful.number it.opened.fresh it.within it.applied)))
+      before it.opened.meant.is_meant it.opened.meant.is_request.says.spelled.lawful.number it.opened.fresh it.within it.applied))))
 
   protected_kind : (came : Arrival Message) → AnswersProtected is_sealing old came step new → ServerStep (core old) came.at step.notes (core new)
   protected_kind came (refused refusal why sends) = sends_idly old came _ _ step new sends
+  protected_kind came (answered_again request held last again stale sends) = sends_idly old came _ None step new sends
   protected_kind came (served it) = served_kind came it
 
   new_kind : (came : Arrival Message) (it : RequestCase) → length came.draw.0 ≡ 32 → AnswersNew is_sealing old came it step new → ServerStep (core old) came.at step.notes (core new)

@@ -28,7 +28,7 @@ use Rattle.osc_protect.specs.{aad_of, plain_bytes, request_nonce}
 use Rattle.osc_ccm.specs.{Sealings}
 use Rattle.osc_run.specs.{IsOpenOf, IsSealOf, opening_note, reply_note}
 use Rattle.osc_token.specs.{token_note}
-use Rattle.osc_server.specs.{case_of, Answers, AnswersNew, AnswersProtected, Serves, notes_of_post, post_reply, posting, refusal_age, refusal_code, refusal_number, refused_for, reply_to, refused, served, AreTold, IsOpenedOf, IsToldOf, request_came, sealed_now, sent_before, token_came, unprotected}
+use Rattle.osc_server.specs.{case_of, Answers, AnswersNew, AnswersProtected, Serves, again_to, answered_again, notes_of_post, post_reply, posting, refusal_age, refusal_code, refusal_number, refused_for, reply_to, refused, served, AreTold, IsOpenedOf, IsToldOf, request_came, sealed_before, sealed_now, sent_before, token_came, unprotected}
 use Rattle.osc_server.specs.State.{State}
 use Rattle.osc_server.specs.declared.case.RequestCase.{RequestCase}
 use Rattle.osc_server.specs.declared.case.RequestCase.TheVariants as case
@@ -108,6 +108,12 @@ module _ (is_sealing : Sealings)
 
   protected_told : (message : Message) (step : Step) (new : State) → Spells came.what message → AnswersProtected is_sealing old (read_as came message) step new → AreTold is_sealing old came step
   protected_told message step new spelled (refused refusal why sends) = as_sent step _ sends.sent (told_plain (refused_for (refusal_code refusal) (Some (refusal_number refusal))) _ refl opens_nothing (no_oscore_aged (refusal_age refusal)))
+  protected_told message step new spelled (answered_again request held last again stale sends) =
+      as_sent step _ sends.sent (record {
+        out = one_told (datagram came.from (again_to old.endpoint (read_as came message) last)) quiet (sealed_before message request held last spelled again refl);
+        seals = λ note e. absurd (cc);
+        opens = opens_nothing;
+      })
   protected_told message step new spelled (served it) = served_told message step new spelled it
 
   replied_told : (request : Message) (reply : Reply) (notes : StepNotes) (step : Step) → notes.seals ≡ None → OpensCame notes → step ≡ record { out = datagram came.from (reply_to old.endpoint (read_as came request) reply) ∷ []; notes = notes } → AreTold is_sealing old came step

@@ -23,9 +23,11 @@ use Rattle.osc_message.specs.declared.handling.Handling.TheVariants.{Dropped, An
 use Rattle.osc_message.specs.{EndpointState, settled, rejection, reply_start, replied, datagram}
 use Rattle.osc_context.specs.{algorithm_of, key_of}
 use Rattle.osc_window.specs.{IsFresh}
-use Rattle.osc_protect.specs.{aad_of, SealedRequest, IsRequest, IsProtectedResponse, request_nonce}
+use Rattle.osc_protect.specs.{aad_of, SealedRequest, IsRequest, IsProtectedResponse, request_nonce, response_with}
 use Rattle.osc_ccm.specs.{Sealings}
-use Rattle.osc_authz.specs.{answer_of, post_number, answer_item, Posts, code_of, holder_at, meant, accepted}
+use Rattle.osc_authz.specs.{answer_of, post_number, answer_item, Posts, code_of, holder_at, last_at, meant, answered_by}
+use Rattle.osc_authz.specs.Desk.{DeskState}
+use Rattle.osc_authz.specs.LastAnswer.{LastAnswerState}
 use Rattle.osc_authz.specs.SecurityContext.{SecurityContext}
 use Rattle.osc_authz.specs.Posting.{Posting}
 use Rattle.osc_authz.specs.declared.error.PostError.{PostError}
@@ -161,6 +163,35 @@ pub record IsMeant (server : Met) (came : Arrival Message) (request : SealedRequ
   pub is_request : IsRequest came.what request
   pub is_meant : context_for server came request ≡ Some held
 
+-- ---- a request that comes again
+
+-- this is the answer to it: it is from the same peer, has the same number and carries the same sealed
+pub record IsAnswerTo (came : Arrival Message) (request : SealedRequest) (last : LastAnswerState) : Type 0 where
+  pub from : came.from ≡ last.from
+  pub number : request.number ≡ last.number
+  pub sealed : request.sealed ≡ last.sealed
+
+-- the live context that it means keeps the answer to it
+pub record IsAgain (server : Met) (came : Arrival Message) (request : SealedRequest) (held : SecurityContext) (last : LastAnswerState) : Type 0 where
+  pub meant : IsMeant server came request held
+  pub kept : last_at request.kid server.table ≡ Some last
+  pub answer : IsAnswerTo came request last
+
+-- What the first reply carried sealed, in the message that answers this one: under the request's nonce, so without a Partial IV of its own
+-- (RFC 8613 section 8.3).
+abbrev pub again_to : EndpointState → Arrival Message → LastAnswerState → Message
+again_to endpoint came last = response_with None (reply_start came.draw endpoint.next_id came.what 68) last.reply
+
+-- the answer to a request that is served, whose reply carries this sealed
+abbrev pub answer_to : Arrival Message → SealedRequest → List ℕ → LastAnswerState
+answer_to came request reply = record { from = came.from; number = request.number; sealed = request.sealed; reply = reply }
+
+-- the desk once it is served: its context took the number, and where answers are kept, this one is
+abbrev pub served_desk : DeskState → Arrival Message → SealedRequest → List ℕ → DeskState
+served_desk desk came request reply = record desk { table = answered_by desk.rules.answers request.kid (answer_to came request reply) desk.table }
+
+-- ---- what is noted of a request that is served
+
 -- what is noted of a request that is served under this context, which the token of this id made
 abbrev pub notes_of_request : Moment → SecurityContext → Option (List ℕ) → ℕ → List ℕ → Reply → StepNotes
 notes_of_request now held holder number text reply = record quiet {
@@ -182,7 +213,9 @@ module _ (is_sealing : Sealings) where
   IsRefused server came Malformed = (request : SealedRequest) → ¬ IsRequest came.what request
   IsRefused server came NoContext =
       (request : SealedRequest) × IsRequest came.what request × (context_for server came request ≡ None)
-  IsRefused server came Replayed = (request : SealedRequest) × (held : SecurityContext) × IsMeant server came request held × (¬ IsFresh held.window request.number)
+  IsRefused server came Replayed =
+      (request : SealedRequest) × (held : SecurityContext) × IsMeant server came request held × (¬ IsFresh held.window request.number)
+      × ((last : LastAnswerState) → ¬ IsAgain server came request held last)
   IsRefused server came NotGenuine =
       (request : SealedRequest) × (held : SecurityContext) × IsMeant server came request held × IsFresh held.window request.number
       × ((text : List ℕ) → ¬ IsSealed held request text)
@@ -194,7 +227,7 @@ module _ (is_sealing : Sealings) where
     pub opens : IsSealed held request text
 
   -- A request that opens is applied to the resources under its context's scope, and answered under its own nonce (section 8.3).
-  -- The context's window takes its number, and the context is confirmed.
+  -- The context's window takes its number, the context is confirmed, and where answers are kept, this one is.
   pub record Serves (old : State) (came : Arrival Message) (step : Step) (new : State) : Type 0 where
     pub request : SealedRequest
     pub held : SecurityContext
@@ -205,12 +238,17 @@ module _ (is_sealing : Sealings) where
     pub applied : AppliesTo old.tree (apply_read old.desk.rules.revoked old.tree held.scope (read_request text)) reply new.tree
     pub answer : Message
     pub protected : IsProtectedResponse is_sealing held.name request.number None (reply_to old.endpoint came reply) answer
-    pub sent : Sends (record old { tree = new.tree; desk = record old.desk { table = accepted request.kid request.number old.desk.table } })
+    pub sent : Sends (record old { tree = new.tree; desk = served_desk old.desk came request protected.sealed })
         came answer (notes_of_request came.at held (holder_at request.kid old.desk.table) request.number text reply) step new
 
   pub data AnswersProtected (old : State) (came : Arrival Message) (step : Step) (new : State) : Type 0 where
     refused : (refusal : Refusal) → IsRefused (met old) came refusal
         → Sends old came (refusal_to old.endpoint came refusal) (refused_for (refusal_code refusal) (Some (refusal_number refusal))) step new
+        → AnswersProtected old came step new
+    -- the reply that was sealed before goes out again, and but for the message layer nothing is done
+    answered_again : (request : SealedRequest) (held : SecurityContext) (last : LastAnswerState) → IsAgain (met old) came request held last
+        → (¬ IsFresh held.window request.number)
+        → Sends old came (again_to old.endpoint came last) quiet step new
         → AnswersProtected old came step new
     served : Serves old came step new → AnswersProtected old came step new
 

@@ -2,6 +2,7 @@
 //! `specs/Case.antt` says which case a datagram is, and `specs/Table.antt` what is sent in each, and kept after it.
 #![tactic(auto)]
 
+mod again;
 mod answer;
 mod case;
 mod in_hand;

@@ -19,13 +19,14 @@ ghost use Rattle.osc_server.specs.Steps.{again};
 ghost use Rattle.osc_server.specs.Table.{Answers, AnswersNew, AnswersPost, AnswersProtected, AnswersWith, Refuses, Sends, refusal_code, refusal_number, refusal_to as refusal_to_of, refused_for as refused_for_of, reply_to as reply_to_of};
 
 use crate::Endpoint;
+use crate::again::answered_again;
 use crate::answer::{refusal_to, sent_as, sent_reply};
 use crate::case::{RequestCase, case_of};
 use crate::in_hand::InHand;
 use crate::posting::{POST_ANSWER, POST_PAYLOAD, notes_of, post_answer};
 use crate::refusal::Refusal;
 use crate::serving::{SealedAnswer, SealedArrival, prepared, sealed_request, serve_opened};
-use osc_authz::laws::marks_stay;
+use osc_authz::laws::{answers_stay, marks_stay};
 use osc_authz::{Post, RevokedMarks, ServerDesk, Standing};
 use osc_ccm::Ciphers;
 use osc_message::laws::{what_is_heard, what_nodes_send};
@@ -36,6 +37,7 @@ use osc_model::{
 };
 use osc_options::{OscoreValue, reply_message_size};
 use osc_protect::TokenCipher;
+use osc_protect::laws::one_request;
 use osc_run::kinds;
 use osc_scope::Scope;
 use osc_tree::{Grant, Tree};
@@ -142,8 +144,9 @@ impl Server {
 
     /// These bytes came from this peer at this moment as one datagram: the step that answers them. What is sent is at most
     /// one datagram, to that peer: a Reset, an acknowledgement with the reply, or a reply to a request that isn't
-    /// confirmable. A request that is answered is noted, so that a repeat is answered by the same bytes. The draw gives the
-    /// first message ID of the server's own, and the nonce of a post.
+    /// confirmable. A request that is answered is noted, so that a repeat is answered by the same bytes. Where its desk keeps answers, the last
+    /// protected request of a context is answered by the same sealed bytes whenever it comes again from the same peer, in whatever message.
+    /// The draw gives the first message ID of the server's own, and the nonce of a post.
     ///
     /// Without memory for it an `AllocError`; then nothing has changed. What the resources themselves lack of memory is answered,
     /// by 5.00, to a GET on an open path and to a request that opened. A change below the revocation path, at a server that has one, may use
@@ -173,6 +176,7 @@ impl Server {
         kinds::posts_that_are_refused::<TokenCipher<A>>();
         kinds::posts_that_are_known::<TokenCipher<A>>();
         kinds::requests_that_open();
+        answers_stay();
         kinds::what_is_sealed();
         drawn(draw);
         self.desk.has_a_table();
@@ -371,7 +375,8 @@ impl Server {
         })
     }
 
-    /// Answers a protected request with this value of the OSCORE option. Its number is accepted once nothing can fail.
+    /// Answers a protected request with this value of the OSCORE option. Its number is accepted once nothing can fail. Where it comes again,
+    /// what its reply carried sealed goes out again.
     #[inline(never)]
     fn protected<A: Ciphers>(
         &mut self,
@@ -389,7 +394,8 @@ impl Server {
         let Ok(says) = sealed_request(value, &came.message) else {
             return self.complain(alloc, came, Refusal::Malformed);
         };
-        marks_stay();
+        answers_stay();
+        one_request();
         let request = SealedArrival { came: &came, says };
         match prepared::<A>(
             alloc,
@@ -415,7 +421,16 @@ impl Server {
                 self.desk.has_a_table();
                 return Ok(Step { out, notes });
             }
-            Ok(Err(refusal)) => self.complain(alloc, came, refusal),
+            Ok(Err(refusal)) => {
+                match answered_again(alloc, &self.desk, &self.endpoint, &request, refusal)? {
+                    Some((out, reply)) => {
+                        self.note(came, reply);
+                        self.desk.has_a_table();
+                        Ok(Step::sending(out))
+                    }
+                    None => self.complain(alloc, came, refusal),
+                }
+            }
             Err(error) => Err(error),
         }
     }

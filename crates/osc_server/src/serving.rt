@@ -1,9 +1,10 @@
 //! Protected requests (RFC 8613 sections 8.2 and 8.3): a request is opened without memory until it is known to be genuine, then all
 //! memory is taken before the number is accepted, and nothing fails from there but what is answered by 5.00.
-ghost use Rattle.std.specs.Prelude.{◌≡◌, ◌<◌, ◌≤◌, ◌+◌, ℕ, List, length, Ok, Some, None, IfOk, IfErr, IfSome, IfNone, option_map};
+ghost use Rattle.std.specs.Prelude.{◌≡◌, ◌<◌, ◌≤◌, ◌+◌, ℕ, List, [], length, Ok, Some, None, IfOk, IfErr, IfSome, IfNone, option_map, unwrap_or};
+ghost use Rattle.osc_coap.specs.{Spells};
 ghost use Rattle.osc_coap.specs.Message.{Message as AnyMessage};
 ghost use Rattle.osc_authz.specs.SecurityContext.{SecurityContext};
-ghost use Rattle.osc_authz.specs.{AreMarked, accepted, holder_at};
+ghost use Rattle.osc_authz.specs.{AreMarked, confirmed_at, holder_at, longest_sealed};
 ghost use Rattle.osc_context.specs.{algorithm_of, accepted_of};
 ghost use Rattle.osc_model.specs.declared.context.Side.TheVariants.{Server};
 ghost use Rattle.osc_model.specs.{apply_read};
@@ -11,8 +12,8 @@ ghost use Rattle.osc_protect.specs.{aad_of, IsFor, IsRequest, IsProtectedRespons
 ghost use Rattle.osc_run.specs.{opening_note, reply_note, Replies as AppliesTo};
 ghost use Rattle.osc_options.specs.{read_request, value as value_in, IsWithinRanges};
 ghost use Rattle.osc_model.specs.Tree.{Tree as AnyTree};
-ghost use Rattle.osc_server.specs.Inner.Parts.{DifferAt, FitsAResource, IsReady, IsReplyOf, IsSentAs, IsServedAs, IsTakenFor, may_change_by, message_beside_sealed, reply_length, read_length as read_length_of, text_beside_payload};
-ghost use Rattle.osc_server.specs.Table.{context_for, IsMeant, IsOpened, IsRefused, IsSealed, notes_of_request, reply_to as reply_to_of};
+ghost use Rattle.osc_server.specs.Inner.Parts.{DifferAt, FitsAResource, IsReady, IsReplyOf, IsSentAs, IsServedAs, IsTakenFor, IsUnserved, if_kept, kept_answer, kept_sealed, may_change_by, message_beside_sealed, reply_length, read_length as read_length_of, text_beside_payload, with_kept};
+ghost use Rattle.osc_server.specs.Table.{context_for, IsMeant, IsOpened, IsSealed, notes_of_request, reply_to as reply_to_of};
 ghost use Rattle.osc_window.specs.{IsFresh};
 
 use crate::Endpoint;
@@ -20,12 +21,12 @@ use crate::answer::header_to;
 use crate::in_hand::InHand;
 use crate::refusal::Refusal;
 use osc_authz::laws::{meant_contexts, one_path_changed};
-use osc_authz::{RevokedMarks, ServerContext, ServerDesk, Standing};
+use osc_authz::{LastAnswer, RevokedMarks, ServerContext, ServerDesk, Standing};
 use osc_ccm::Ciphers;
 use osc_coap::MessageRef;
 use osc_coap::laws::{length_of_plaintext, length_of_spelling};
 use osc_context::AcceptedNumber;
-use osc_message::{Arrival, ReplyRoom};
+use osc_message::{Arrival, MessageRoom, ReplyRoom};
 use osc_model::limits::GET;
 use osc_model::{
     Bytes, Code, Datagrams, Entry, Note, Path, Peer, Reply, Request, SharedBytes, SharedName,
@@ -111,7 +112,7 @@ fn fresh_context<'a, A: Ciphers>(
     requires marked { AreMarked tree.now desk.now.table marks.now }
     ensures meant { IfOk result (λ context. IsMeant (record { tree = tree.now; table = desk.now.table }) request.now.came.now request.now.says context.now) }
     ensures fresh { IfOk result (λ context. IsFresh context.now.window request.now.says.number) }
-    ensures refused { IfErr result (λ refusal. IsRefused A.is_sealing (record { tree = tree.now; table = desk.now.table }) request.now.came.now refusal) }
+    ensures refused { IfErr result (λ refusal. IsUnserved A.is_sealing (record { tree = tree.now; table = desk.now.table }) request.now.came.now refusal) }
 {
     let Some(context) = meant_context(desk, tree, marks, request) else {
         return Err(Refusal::NoContext);
@@ -169,6 +170,72 @@ fn applied(
     }
 }
 
+/// The memory of an answer that is kept for when its request comes again: what the request carried sealed, and room for what the reply carries
+/// sealed.
+#[derive(Drop)]
+struct KeptRoom {
+    sealed: Bytes,
+    reply: MessageRoom,
+}
+
+/// The memory of the answer to a request that carried this sealed, where it is kept: `size` bytes for what the reply carries sealed.
+fn kept_room(
+    alloc: Global,
+    sealed: Option<&[u8]>,
+    size: usize,
+) -> Result<Option<KeptRoom>, AllocError>
+    ensures sealed { IfOk result (λ kept. kept_sealed kept ≡ option_map (λ bytes. bytes.now) sealed.entry) }
+    ensures room { IfOk result (λ kept. IfSome kept (λ kept. kept.reply ≡ size)) }
+{
+    match sealed {
+        Some(sealed) => Ok(Some(KeptRoom {
+            sealed: Bytes::from_slice(alloc, sealed)?,
+            reply: MessageRoom::new(alloc, size)?,
+        })),
+        None => Ok(None),
+    }
+}
+
+/// What a datagram carries sealed.
+fn sealed_in(datagram: &[u8]) -> &[u8]
+    requires { (m : AnyMessage) × Spells datagram.now m }
+    ensures { (m : AnyMessage) → Spells datagram.now m → result.now ≡ unwrap_or m.payload [] }
+{
+    match MessageRef::parse(datagram) {
+        Ok(message) => message.payload().unwrap_or(&[]),
+        // The bytes are a message.
+        Err(_) => unreachable!(),
+    }
+}
+
+/// The answer to the request of this peer and number, where it is kept: what this datagram carries sealed. Takes no memory.
+fn kept(room: Option<KeptRoom>, from: Peer, number: u64, reply: &[u8]) -> Option<LastAnswer>
+    requires short { length reply.now ≤ longest_sealed }
+    requires room { IfSome room (λ room. length reply.now ≤ room.reply) }
+    ensures { result ≡ kept_answer from number reply.now (kept_sealed room) }
+{
+    match room {
+        Some(room) => {
+            let KeptRoom {
+                sealed,
+                reply: bytes,
+            } = room;
+            Some(LastAnswer::new(from, number, sealed, bytes.fill(reply)))
+        }
+        None => None,
+    }
+}
+
+/// This is the last answer of the context of the token id at this place, where one is kept; takes no memory.
+fn keep(desk: &mut ServerDesk, place: usize, last: Option<LastAnswer>)
+    requires there { (held : SecurityContext) × (confirmed_at place desk.old.table ≡ Some held) }
+    ensures { IfSome (confirmed_at place desk.old.table) (λ held. desk.new ≡ record desk.old { table = with_kept held.name.client_id last desk.old.table }) }
+{
+    if let Some(last) = last {
+        desk.keep_answer(place, last);
+    }
+}
+
 /// The memory of a protected reply, taken before anything changes.
 #[derive(Drop)]
 struct AnswerRoom {
@@ -176,6 +243,21 @@ struct AnswerRoom {
     seal: Room,
     /// For its datagram, and for the copy that answers a repeat.
     datagram: ReplyRoom,
+    /// For the answer that is kept, where answers are.
+    kept: Option<KeptRoom>,
+}
+
+/// A protected reply that is sent.
+#[derive(Drop)]
+struct SentAnswer {
+    /// Its datagram.
+    out: Datagrams,
+    /// Its bytes, for a repeat of the request.
+    reply: Bytes,
+    /// The answer that is kept, where answers are.
+    last: Option<LastAnswer>,
+    /// What is noted of its seal.
+    note: Note,
 }
 
 /// What an opened request asks, and the memory of all that follows, taken before anything changes.
@@ -193,8 +275,8 @@ pub struct ReservedAnswer {
     room: AnswerRoom,
 }
 
-/// The reply to a request that was opened, protected under its nonce, as it goes to the peer and as its bytes are kept for a repeat, and the
-/// note of its seal: it fits, since no reply has more than 512 bytes. Takes no memory.
+/// The reply to a request that was opened, protected under its nonce, as it goes to the peer and as it is kept, and the note of its seal: it
+/// fits, since no reply has more than 512 bytes. Takes no memory.
 fn sent<A: Ciphers>(
     room: AnswerRoom,
     number: AcceptedNumber,
@@ -202,22 +284,29 @@ fn sent<A: Ciphers>(
     endpoint: &Endpoint,
     came: &Arrival<'_>,
     reply: &Reply,
-) -> ((Datagrams, Bytes), Note)
+) -> SentAnswer
     requires number { number ≡ accepted_of context.now.name Server number.number }
     requires name { room.seal.name ≡ context.now.name }
     requires about { room.seal.number ≡ number.number }
     requires short { FitsAResource reply.now }
     requires seal { text_beside_payload + length reply.now.payload ≤ room.seal.most }
     requires datagram { message_beside_sealed + text_beside_payload + length reply.now.payload + A.TAG (algorithm_of context.now.name) ≤ room.datagram }
-    ensures sent { (answer : AnyMessage) × IsProtectedResponse A.is_sealing context.now.name number.number None
-        (reply_to_of endpoint.now came.now reply.now) answer
-        × IsSentAs came.now.from answer result.0.0 result.0.1 }
-    ensures noted { result.1 ≡ reply_note context.now.name number.number reply.now }
+    requires kept { IfSome room.kept (λ kept. text_beside_payload + length reply.now.payload + A.TAG (algorithm_of context.now.name) ≤ kept.reply) }
+    ensures sent { (answer : AnyMessage) × (protected : IsProtectedResponse A.is_sealing context.now.name number.number None
+        (reply_to_of endpoint.now came.now reply.now) answer)
+        × IsSentAs came.now.from answer result.out result.reply
+        × (result.last ≡ kept_answer came.now.from number.number protected.sealed (kept_sealed room.kept)) }
+    ensures noted { result.note ≡ reply_note context.now.name number.number reply.now }
 {
     kinds::what_is_sealed();
     length_of_spelling();
     length_of_plaintext();
-    let AnswerRoom { seal, datagram } = room;
+    let AnswerRoom {
+        seal,
+        datagram,
+        kept: kept_room,
+    } = room;
+    let about = number.get();
     let (datagram, copy) = datagram.open();
     let header = header_to(endpoint, came);
     let sealed = seal_reply::<A>(
@@ -229,24 +318,33 @@ fn sent<A: Ciphers>(
         datagram.into_vec(),
     );
     let SealedReply { datagram, note } = sealed;
-    (copy.fill(came.from, datagram), note)
+    let last = kept(kept_room, came.from, about, sealed_in(datagram.as_slice()));
+    let (out, reply) = copy.fill(came.from, datagram);
+    SentAnswer {
+        out,
+        reply,
+        last,
+        note,
+    }
 }
 
 /// A protected request that opened, with the memory of all that follows, or why it isn't served; or that memory was refused.
 pub type Prepared = Result<Result<ReservedAnswer, Refusal>, AllocError>;
 
 impl ReservedAnswer {
-    /// Reads what was opened, and takes the memory of all that follows.
+    /// Reads what was opened, and takes the memory of all that follows; with what the request carried sealed, where its answer is kept.
     #[inline(never)]
     fn new<A: Ciphers>(
         alloc: Global,
         tree: &Tree,
         note: Note,
         holder: Option<SharedBytes>,
+        kept: Option<&[u8]>,
     ) -> Result<ReservedAnswer, AllocError>
         requires { note.aad ≡ aad_of note.context note.number }
         ensures holder { IfOk result (λ taken. taken.holder ≡ holder) }
         ensures note { IfOk result (λ taken. taken.note ≡ note) }
+        ensures kept { IfOk result (λ taken. kept_sealed taken.room.kept ≡ option_map (λ bytes. bytes.now) kept.entry) }
         ensures taken { IfOk result (λ taken. IsTakenFor A.TAG tree.now taken) }
     {
         let read = request_in(alloc, note.plaintext.as_slice())?;
@@ -257,6 +355,7 @@ impl ReservedAnswer {
         let room = AnswerRoom {
             seal: Room::answering(alloc, &note, most)?,
             datagram: ReplyRoom::new(alloc, MESSAGE_BESIDE_SEALED + most + tag)?,
+            kept: kept_room(alloc, kept, most + tag)?,
         };
         Ok(ReservedAnswer {
             note,
@@ -276,14 +375,15 @@ impl ReservedAnswer {
         endpoint: &Endpoint,
         came: &Arrival<'_>,
         reply: Reply,
-    ) -> SealedAnswer
+    ) -> (SealedAnswer, Option<LastAnswer>)
         requires number { number ≡ accepted_of context.now.name Server number.number }
         requires noted { self.note ≡ opening_note context.now.name number.number self.note.plaintext }
         requires taken { (tree : AnyTree) × IsTakenFor A.TAG tree self × IsReplyOf (reply_length tree self.read) reply }
-        ensures protected { (answer : AnyMessage) × IsProtectedResponse A.is_sealing context.now.name number.number None
-            (reply_to_of endpoint.now came.now reply) answer
-            × IsSentAs came.now.from answer result.out result.reply }
-        ensures noted { result.notes ≡ notes_of_request came.now.at context.now self.holder number.number self.note.plaintext reply }
+        ensures protected { (answer : AnyMessage) × (protected : IsProtectedResponse A.is_sealing context.now.name number.number None
+            (reply_to_of endpoint.now came.now reply) answer)
+            × IsSentAs came.now.from answer result.0.out result.0.reply
+            × (result.1 ≡ kept_answer came.now.from number.number protected.sealed (kept_sealed self.room.kept)) }
+        ensures noted { result.0.notes ≡ notes_of_request came.now.at context.now self.holder number.number self.note.plaintext reply }
     {
         let ReservedAnswer {
             note,
@@ -294,7 +394,12 @@ impl ReservedAnswer {
             room,
         } = self;
         let accepted = number.get();
-        let ((out, bytes), sealed) = sent::<A>(room, number, context, endpoint, came, &reply);
+        let SentAnswer {
+            out,
+            reply: bytes,
+            last,
+            note: sealed,
+        } = sent::<A>(room, number, context, endpoint, came, &reply);
         let entry = Entry {
             context: name,
             number: accepted,
@@ -303,15 +408,17 @@ impl ReservedAnswer {
             moment: came.at,
             reply,
         };
-        SealedAnswer {
+        let answer = SealedAnswer {
             out,
             reply: bytes,
             notes: StepNotes::of_request(sealed, note, entry, holder),
-        }
+        };
+        (answer, last)
     }
 }
 
-/// Accepts the number of a request that was opened, and serves the request; takes no memory but the tree's.
+/// Accepts the number of a request that was opened, serves the request, and keeps the answer, where answers are kept; takes no memory but the
+/// tree's.
 #[inline(never)]
 pub fn serve_opened<A: Ciphers>(
     alloc: Global,
@@ -321,17 +428,19 @@ pub fn serve_opened<A: Ciphers>(
     request: &SealedArrival<'_>,
     taken: ReservedAnswer,
 ) -> SealedAnswer
-    requires { IsReady A.is_sealing A.TAG (record { tree = tree.old; table = desk.old.table }) request.now.came.now request.now.says taken }
-    ensures served { IsServedAs A.is_sealing (record { tree = tree.old; desk = desk.old; endpoint = endpoint.now }) request.now.came.now request.now.says result tree.new }
-    ensures accepted { desk.new ≡ record desk.old { table = accepted request.now.says.kid request.now.says.number desk.old.table } }
+    requires { IsReady A.is_sealing A.TAG desk.old.rules.answers (record { tree = tree.old; table = desk.old.table }) request.now.came.now request.now.says taken }
+    ensures served { IsServedAs A.is_sealing (record { tree = tree.old; desk = desk.old; endpoint = endpoint.now }) request.now.came.now request.now.says result tree.new desk.new }
     ensures changed { DifferAt (may_change_by result.notes.served) tree.old tree.new }
 {
     one_path_changed();
+    meant_contexts();
     let says = &request.says;
     let (number, place) = desk.accept(says.kid(), says.number());
     let context = desk.confirmed_at(place).unwrap();
     let reply = applied(alloc, desk.revoked(), tree, context.scope(), &taken.read);
-    taken.answered::<A>(context, number, endpoint, request.came, reply)
+    let (answer, last) = taken.answered::<A>(context, number, endpoint, request.came, reply);
+    keep(desk, place, last);
+    answer
 }
 
 /// Opens a protected request, if it is genuine.
@@ -363,7 +472,7 @@ fn opened<A: Ciphers>(
     ensures opened { IfOk result (λ outcome. IfOk outcome (λ note. (held : SecurityContext)
         × IsOpened A.is_sealing (record { tree = tree.now; table = desk.now.table }) request.now.came.now request.now.says held note.plaintext
         × (note ≡ opening_note held.name request.now.says.number note.plaintext))) }
-    ensures refused { IfOk result (λ outcome. IfErr outcome (λ refusal. IsRefused A.is_sealing (record { tree = tree.now; table = desk.now.table }) request.now.came.now refusal)) }
+    ensures refused { IfOk result (λ outcome. IfErr outcome (λ refusal. IsUnserved A.is_sealing (record { tree = tree.now; table = desk.now.table }) request.now.came.now refusal)) }
 {
     meant_contexts();
     let context = match fresh_context::<A>(desk, tree, marks, request) {
@@ -389,6 +498,17 @@ fn holder_of(
     }
 }
 
+/// What the request carries sealed, where answers are kept.
+fn kept_of<'a>(desk: &ServerDesk, says: &SealedRequestRef<'a>) -> Option<&'a [u8]>
+    ensures { option_map (λ bytes. bytes.now) result ≡ if_kept desk.now.rules.answers says.now.sealed }
+{
+    if desk.keeps_answers() {
+        Some(says.sealed())
+    } else {
+        None
+    }
+}
+
 /// Opens a protected request, and takes the memory of all that follows, or says why it isn't served.
 fn taken_for<A: Ciphers>(
     alloc: Global,
@@ -399,13 +519,14 @@ fn taken_for<A: Ciphers>(
 ) -> Prepared
     requires says { IsRequest request.now.came.now.what request.now.says }
     requires marked { AreMarked tree.now desk.now.table marks.now }
-    ensures ready { IfOk result (λ outcome. IfOk outcome (IsReady A.is_sealing A.TAG (record { tree = tree.now; table = desk.now.table }) request.now.came.now request.now.says)) }
-    ensures refused { IfOk result (λ outcome. IfErr outcome (IsRefused A.is_sealing (record { tree = tree.now; table = desk.now.table }) request.now.came.now)) }
+    ensures ready { IfOk result (λ outcome. IfOk outcome (IsReady A.is_sealing A.TAG desk.now.rules.answers (record { tree = tree.now; table = desk.now.table }) request.now.came.now request.now.says)) }
+    ensures refused { IfOk result (λ outcome. IfErr outcome (IsUnserved A.is_sealing (record { tree = tree.now; table = desk.now.table }) request.now.came.now)) }
 {
     match opened::<A>(alloc, desk, tree, marks, request)? {
         Ok(note) => {
             let holder = holder_of(desk, &request.says)?;
-            let taken = ReservedAnswer::new::<A>(alloc, tree, note, holder)?;
+            let kept = kept_of(desk, &request.says);
+            let taken = ReservedAnswer::new::<A>(alloc, tree, note, holder, kept)?;
             Ok(Ok(taken))
         }
         Err(refusal) => Ok(Err(refusal)),
@@ -425,8 +546,8 @@ pub fn prepared<A: Ciphers>(
 ) -> Prepared
     requires says { IsRequest request.now.came.now.what request.now.says }
     requires marked { AreMarked tree.now desk.now.table marks.now }
-    ensures ready { IfOk result (λ outcome. IfOk outcome (IsReady A.is_sealing A.TAG (record { tree = tree.now; table = desk.now.table }) request.now.came.now request.now.says)) }
-    ensures refused { IfOk result (λ outcome. IfErr outcome (IsRefused A.is_sealing (record { tree = tree.now; table = desk.now.table }) request.now.came.now)) }
+    ensures ready { IfOk result (λ outcome. IfOk outcome (IsReady A.is_sealing A.TAG desk.now.rules.answers (record { tree = tree.now; table = desk.now.table }) request.now.came.now request.now.says)) }
+    ensures refused { IfOk result (λ outcome. IfErr outcome (IsUnserved A.is_sealing (record { tree = tree.now; table = desk.now.table }) request.now.came.now)) }
 {
     let prepared = taken_for::<A>(alloc, desk, tree, marks, request);
     if may_revoke(desk, tree, marks, request, &prepared) {
@@ -448,8 +569,8 @@ fn prepared_in_hand<A: Ciphers>(
 ) -> Prepared
     requires says { IsRequest request.now.came.now.what request.now.says }
     requires marked { AreMarked tree.now desk.now.table marks.now }
-    ensures ready { IfOk result (λ outcome. IfOk outcome (IsReady A.is_sealing A.TAG (record { tree = tree.now; table = desk.now.table }) request.now.came.now request.now.says)) }
-    ensures refused { IfOk result (λ outcome. IfErr outcome (IsRefused A.is_sealing (record { tree = tree.now; table = desk.now.table }) request.now.came.now)) }
+    ensures ready { IfOk result (λ outcome. IfOk outcome (IsReady A.is_sealing A.TAG desk.now.rules.answers (record { tree = tree.now; table = desk.now.table }) request.now.came.now request.now.says)) }
+    ensures refused { IfOk result (λ outcome. IfErr outcome (IsUnserved A.is_sealing (record { tree = tree.now; table = desk.now.table }) request.now.came.now)) }
 {
     let prepared = taken_for::<A>(alloc, desk, tree, marks, request);
     if may_revoke(desk, tree, marks, request, &prepared) {

@@ -124,7 +124,7 @@ first_start lines = record {
   key = token_key;
   old_key = None;
   audience = codes "s";
-  rules = record { revoked = revocation_in lines; seconds = None; remembered = 0; reserved = None; subtrees = true };
+  rules = record { revoked = revocation_in lines; seconds = None; remembered = 0; reserved = None; subtrees = true; answers = false };
   server_at = address_of Server;
   minted = [];
   clients = [];

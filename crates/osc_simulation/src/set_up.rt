@@ -1,5 +1,5 @@
 //! The world before the first event, from the set-up lines of a script.
-ghost use Rattle.std.specs.Prelude.{◌≡◌, ◌+◌, [], IfOk, None, OnOk, codes, length, true};
+ghost use Rattle.std.specs.Prelude.{◌≡◌, ◌+◌, [], IfOk, None, OnOk, codes, false, length, true};
 ghost use Rattle.std.specs.FinMap as map;
 ghost use Rattle.std.specs.FinSet as set;
 ghost use Rattle.osc_model.specs.{default_port};
@@ -134,7 +134,7 @@ fn revocation_path(lines: &[Line]) -> Result<Option<Path>, AllocError>
 
 // The start, with this revocation path, if there is one. In scripts a context counts as long as its token, and each post is new.
 fn with_revoked(mut start: Start, revoked: Option<Path>) -> Start
-    ensures { result ≡ record start { rules = record { revoked = revoked; seconds = None; remembered = 0; reserved = None; subtrees = true } } }
+    ensures { result ≡ record start { rules = record { revoked = revoked; seconds = None; remembered = 0; reserved = None; subtrees = true; answers = false } } }
 {
     start.rule_contexts(ContextRules {
         revoked,
@@ -142,6 +142,7 @@ fn with_revoked(mut start: Start, revoked: Option<Path>) -> Start
         remembered: 0,
         reserved: None,
         subtrees: true,
+        answers: false,
     });
     start
 }

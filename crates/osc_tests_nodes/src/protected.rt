@@ -8,7 +8,7 @@ use osc_ccm::Suite;
 use osc_coap::{Kind, MessageBuilder, MessageRef};
 use osc_context::{SendNumber, derive};
 use osc_fixtures::{CLIENT, empty_server, sent_in, shared_name};
-use osc_model::{Draw, Moment, SharedName, Side, Step};
+use osc_model::{Draw, Moment, Peer, SharedName, Side, Step};
 use osc_protect::{
     MessageTooLong, ProtectedRequest, Room, open_response, protect_request, read_response,
 };
@@ -19,22 +19,22 @@ use std::test::*;
 
 /// A post to authz-info, with a nonce that ends in 1 and the ID 00. Its token, of the secret that ends in 1, gives GET and POST
 /// on `/log`; another implementation made it.
-const POST: &[u8] =
+pub(crate) const POST: &[u8] =
     b"\x48\x02\x01\x00\x00\x00\x00\x00\x00\x00\x00\x01\xbaauthz-info\x11\x13\xff\xa3\x01\x58\x46\x83\x43\xa1\x01\x0a\xa1\x05\x4d\0\0\0\0\0\0\0\0\0\0\0\0\x01\x58\x2f\x7a\x0e\xde\x21\x71\xa9\xef\x96\x11\xe8\xb2\x3a\xfd\x72\x3e\x78\x79\xca\xdf\xb8\x87\xe3\xcb\x88\x90\x1d\xd4\x04\x61\xe9\xf3\x01\x24\xce\xe0\x4d\x4a\x5e\x85\x93\x1d\x22\x4b\x7c\xe6\xb4\xe2\x18\x28\x48\0\0\0\0\0\0\0\x01\x18\x2b\x41\0";
 
 /// Its answer where the server's nonce ends in 2: 2.01, and the ID 01.
-const POSTED: &[u8] =
+pub(crate) const POSTED: &[u8] =
     b"\x68\x41\x01\x00\x00\x00\x00\x00\x00\x00\x00\x01\xc1\x13\xff\xa2\x18\x2a\x48\0\0\0\0\0\0\0\x02\x18\x2c\x41\x01";
 
 /// What an exchange of the token gave: the last byte of the server's nonce, and the ID that the client sends.
 #[derive(Clone, Copy)]
-struct Exchanged {
-    nonce: u8,
-    id: u8,
+pub(crate) struct Exchanged {
+    pub nonce: u8,
+    pub id: u8,
 }
 
 /// The exchange whose answer is `POSTED`.
-const FIRST: Exchanged = Exchanged { nonce: 2, id: 1 };
+pub(crate) const FIRST: Exchanged = Exchanged { nonce: 2, id: 1 };
 
 /// The name of the context that the exchange makes (RFC 9203 section 4.3): the salt is the token's, which is empty, and the two
 /// nonces, each as CBOR.
@@ -78,14 +78,20 @@ fn protect_in(
 
 /// A confirmable request on `/log` with this code, message ID and payload, protected under this number of the first exchange's
 /// context.
-fn request(alloc: Global, code: u8, id: u16, number: u64, payload: &[u8]) -> Result<Vec<u8>, Fail>
+pub(crate) fn request(
+    alloc: Global,
+    code: u8,
+    id: u16,
+    number: u64,
+    payload: &[u8],
+) -> Result<Vec<u8>, Fail>
     requires { 0 < code }
 {
     request_under(alloc, FIRST, code, id, number, payload)
 }
 
 /// The same under the context of this exchange.
-fn request_under(
+pub(crate) fn request_under(
     alloc: Global,
     exchanged: Exchanged,
     code: u8,
@@ -162,20 +168,37 @@ fn hears(
     datagram: &[u8],
     nonce: u8,
 ) -> Result<Step, AllocError> {
+    hears_from(alloc, server, CLIENT, datagram, nonce)
+}
+
+/// The same of a datagram from this peer.
+pub(crate) fn hears_from(
+    alloc: Global,
+    server: &mut Server,
+    from: Peer,
+    datagram: &[u8],
+    nonce: u8,
+) -> Result<Step, AllocError> {
     let mut drawn = [0; 32];
     drawn[7] = nonce;
-    server.on_datagram::<Suite>(alloc, Moment::START, CLIENT, datagram, &Draw(drawn))
+    server.on_datagram::<Suite>(alloc, Moment::START, from, datagram, &Draw(drawn))
 }
 
 /// The server answers the datagram so.
-fn check(rt: &impl Abort, alloc: Global, server: &mut Server, datagram: &[u8], reply: &[u8]) {
+pub(crate) fn check(
+    rt: &impl Abort,
+    alloc: Global,
+    server: &mut Server,
+    datagram: &[u8],
+    reply: &[u8],
+) {
     let answered = answer(alloc, server, datagram);
     assert!(rt; answered.as_slice() == reply);
 }
 
 /// The server serves the request of this number of the first exchange's context, which isn't repeated; what is sealed in its reply
 /// ends so.
-fn check_served(
+pub(crate) fn check_served(
     rt: &impl Abort,
     alloc: Global,
     server: &mut Server,
@@ -191,7 +214,7 @@ fn check_served(
 }
 
 /// What is sealed in the server's reply to the request of this number under the context of this exchange.
-fn sealed_under(
+pub(crate) fn sealed_under(
     alloc: Global,
     server: &mut Server,
     exchanged: Exchanged,
@@ -230,7 +253,7 @@ fn served_once(rt: HostRuntime) -> Result<(), Fail> {
 }
 
 /// The datagram with this message ID.
-fn numbered(alloc: Global, datagram: &[u8], id: u16) -> Result<Vec<u8>, AllocError> {
+pub(crate) fn numbered(alloc: Global, datagram: &[u8], id: u16) -> Result<Vec<u8>, AllocError> {
     let mut numbered = Vec::from_slice(alloc, datagram)?;
     for (at, byte) in [2, 3].into_iter().zip(id.to_be_bytes()) {
         if let Some(old) = numbered.get_mut(at) {
@@ -427,7 +450,7 @@ fn beginnings(rt: HostRuntime) -> Result<(), Fail> {
 }
 
 /// The token is posted again in a message of this ID, and the server's nonce ends in this byte: its answer gives the ID 02.
-fn posts_again(
+pub(crate) fn posts_again(
     rt: &impl Abort,
     alloc: Global,
     server: &mut Server,
@@ -479,7 +502,7 @@ fn a_token_posted_again(rt: HostRuntime) -> Result<(), Fail> {
 }
 
 /// Whether the step that answers the datagram is refused memory.
-fn is_refused(alloc: Global, server: &mut Server, datagram: &[u8]) -> bool {
+pub(crate) fn is_refused_by(alloc: Global, server: &mut Server, datagram: &[u8]) -> bool {
     match hears(alloc, server, datagram, 2) {
         Ok(step) => {
             drop(step);
@@ -491,7 +514,7 @@ fn is_refused(alloc: Global, server: &mut Server, datagram: &[u8]) -> bool {
 
 /// A post that is refused memory leaves the server as it was: the same datagram then gets its answer.
 fn posts_or_stays(rt: &impl Abort, alloc: Global, server: &mut Server) {
-    is_refused(alloc, server, POST);
+    is_refused_by(alloc, server, POST);
     check(rt, alloc, server, POST, POSTED);
 }
 
@@ -506,7 +529,7 @@ fn a_refused_allocation_of_a_post(rt: HostRuntime) -> Result<(), Fail> {
 fn serves_or_stays(rt: &impl Abort, alloc: Global, server: &mut Server) -> Result<(), Fail> {
     check(rt, alloc, server, POST, POSTED);
     let post = request(alloc, 2, 0x0203, 0, b"a")?;
-    if is_refused(alloc, server, &post) {
+    if is_refused_by(alloc, server, &post) {
         assert!(rt; server.tree().is_empty());
     }
     let reply = answer(alloc, server, &post);

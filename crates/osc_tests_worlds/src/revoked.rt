@@ -52,6 +52,7 @@ pub(crate) fn world(
         remembered,
         reserved: None,
         subtrees: true,
+        answers: false,
     });
     let whole = is_enrolled(alloc, &mut start, own(0, OWNER), Ok(straight()))
         && is_enrolled(alloc, &mut start, own(1, guest), Ok(straight()));

@@ -5,16 +5,24 @@ use Rattle.std.specs.List.{All}
 use Rattle.std.proofs.lemmas.List.Elements.{All-cons, All-filter, All-head, All-tail}
 use Rattle.osc_authz.specs.Standing.{Standing}
 use Rattle.osc_window.specs.{IsFresh, is_near, put, width, with_accepted}
-use Rattle.osc_authz.specs.{HasTaken, OfToken, confirmed_by, of_token, of_tokens, DeskState, In, IsTable, accepted, contexts, listed, taking}
+use Rattle.osc_authz.specs.{HasTaken, OfToken, LastAnswerState, answered_by, confirmed_by, of_token, of_tokens, DeskState, In, IsTable, accepted, contexts, listed, taking}
 use Rattle.osc_authz.specs.SecurityContext.{SecurityContext}
 use Rattle.osc_authz.specs.declared.token_entry.TokenEntry.{TokenEntry}
 use Rattle.osc_server.specs.State.{State as Server}
+use Rattle.osc_rounds.specs.{HasServed}
 use Rattle.osc_world.specs.{HoldsStill}
 
--- where a context of a table takes a number
+-- where a context of a table takes the number of an answer, which is kept or not
 abbrev pub TakesNumbers : Type 0
-TakesNumbers = (on : Standing) (number : ℕ) (context : OfToken) (table : List TokenEntry) → IsTable table → In context (of_tokens table)
-    → HasTaken on number context (of_tokens table) (of_tokens (accepted context.held.name.client_id number table))
+TakesNumbers = (on : Standing) (context : OfToken) (answers : Bool) (last : LastAnswerState) (table : List TokenEntry) → IsTable table → In context (of_tokens table)
+    → HasTaken on last.number context (of_tokens table) (of_tokens (answered_by answers context.held.name.client_id last table))
+
+pub takes_numbers : ((on : Standing) (number : ℕ) (context : OfToken) (table : List TokenEntry) → IsTable table → In context (of_tokens table)
+    → HasTaken on number context (of_tokens table) (of_tokens (accepted context.held.name.client_id number table)))
+    → ((answers : Bool) (id : List ℕ) (last : LastAnswerState) (table : List TokenEntry) → of_tokens (answered_by answers id last table) ≡ of_tokens (accepted id last.number table))
+    → TakesNumbers
+takes_numbers taken stay on context answers last table is here =
+    subst (HasTaken on last.number context (of_tokens table)) (sym (stay answers context.held.name.client_id last table)) (taken on last.number context table is here)
 
 -- ---- members of two lists
 
@@ -86,12 +94,12 @@ without_token (entry ∷ table) c here =
         (its (in_either c (of_token entry.id true entry.confirmed) (of_token entry.id false entry.pending) m))
     by (inr m) rest = in_back c.held (listed entry.confirmed ++ listed entry.pending) (contexts table) (rest m)
 
-still_here : TakesNumbers → (on : Standing) (table : List TokenEntry) (held : SecurityContext) (number : ℕ) → IsTable table → In held (contexts table)
-    → In (taking number held) (contexts (accepted held.name.client_id number table))
-still_here law on table held number is here =
+still_here : TakesNumbers → (on : Standing) (table : List TokenEntry) (held : SecurityContext) (answers : Bool) (last : LastAnswerState) → IsTable table → In held (contexts table)
+    → In (taking last.number held) (contexts (answered_by answers held.name.client_id last table))
+still_here law on table held answers last is here =
     let it : IsOf held (of_tokens table) = with_token table held here in
-    subst (λ (h : SecurityContext). In (taking number h) (contexts (accepted h.name.client_id number table))) it.2
-    (without_token (accepted it.0.held.name.client_id number table) (confirmed_by number it.0) (law on number it.0 table is it.1).here)
+    subst (λ (h : SecurityContext). In (taking last.number h) (contexts (answered_by answers h.name.client_id last table))) it.2
+    (without_token (answered_by answers it.0.held.name.client_id last table) (confirmed_by last.number it.0) (law on it.0 answers last table is it.1).here)
 
 -- ---- its window
 
@@ -112,9 +120,11 @@ fresh_still window number later above fresh =
 -- ---- both
 
 pub holds_still : TakesNumbers → (on : Standing) (old new : Server) (held : SecurityContext) (number : ℕ) → IsTable old.desk.table → In held (contexts old.desk.table)
-    → new.desk ≡ record old.desk { table = accepted held.name.client_id number old.desk.table } → HoldsStill new held number (taking number held)
+    → HasServed held.name.client_id number old.desk new.desk → HoldsStill new held number (taking number held)
 holds_still law on old new held number is here kept = record {
-  here = subst (λ (d : DeskState). In (taking number held) (contexts d.table)) (sym kept) (still_here law on old.desk.table held number is here);
+  here = subst (λ (d : DeskState). In (taking number held) (contexts d.table)) (sym kept.kept)
+      (subst (λ (n : ℕ). In (taking n held) (contexts (answered_by old.desk.rules.answers held.name.client_id kept.last old.desk.table))) kept.its
+      (still_here law on old.desk.table held old.desk.rules.answers kept.last is here));
   name = refl;
   scope = refl;
   not_before = refl;

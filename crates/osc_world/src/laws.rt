@@ -38,7 +38,7 @@ ghost use Rattle.osc_world.specs.declared.nodes.Placed.{Placed as AnyPlaced};
 ghost use Rattle.osc_world.specs.declared.nodes.Whose.TheVariants as whose;
 ghost use Rattle.osc_world.specs.declared.start.NewHolder.{NewHolder as AnyHolder};
 
-use osc_authz::laws::numbers_taken;
+use osc_authz::laws::{answers_stay, numbers_taken};
 use osc_ccm::Ciphers;
 use osc_model::laws::one_peer;
 use osc_rounds::laws::{
@@ -133,6 +133,7 @@ pub fn an_asked_round<A: Ciphers>()
 {
     one_peer();
     numbers_taken();
+    answers_stay();
     a_request_is_answered::<A>();
     a_request_goes_through_a_proxy::<A>();
     a_request_keeps_the_premise();

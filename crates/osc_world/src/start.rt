@@ -1,5 +1,5 @@
 //! Where a world begins.
-ghost use Rattle.std.specs.Prelude.{◌≡◌, ◌<◌, ◌^◌, ◌++◌, ℕ, List, [], ◌∷◌, IfErr, IfOk, None, OnErr, OnOk, Some, length, true};
+ghost use Rattle.std.specs.Prelude.{◌≡◌, ◌<◌, ◌^◌, ◌++◌, ℕ, List, [], ◌∷◌, IfErr, IfOk, None, OnErr, OnOk, Some, false, length, true};
 ghost use Rattle.std.specs.List.{list_any};
 ghost use Rattle.std.specs.Option.{ForSome};
 ghost use Rattle.osc_authz.specs.{IsLawful, IsRefusal};
@@ -112,7 +112,7 @@ impl Start {
         audience: Audience,
         server_at: Peer,
     ) -> Start
-        ensures { result ≡ record { first = first; open_scope = open_scope; key = key; old_key = None; audience = audience; rules = record { revoked = None; seconds = None; remembered = 0; reserved = None; subtrees = true }; server_at = server_at; minted = []; clients = []; proxies = [] } }
+        ensures { result ≡ record { first = first; open_scope = open_scope; key = key; old_key = None; audience = audience; rules = record { revoked = None; seconds = None; remembered = 0; reserved = None; subtrees = true; answers = false }; server_at = server_at; minted = []; clients = []; proxies = [] } }
     {
         Start {
             first,

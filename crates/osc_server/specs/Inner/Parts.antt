@@ -1,8 +1,8 @@
 -- What is served of a protected request, how long replies are, and what the message layer keeps.
-use Rattle.std.specs.Prelude.{◌≡◌, ℕ, ◌+◌, ◌<◌, ◌≤◌, ◌==◌, if◌then◌else◌, List, [], ◌∷◌, length, Option, Some, None, Result, Ok, Err, IfErr}
+use Rattle.std.specs.Prelude.{◌≡◌, ℕ, ◌+◌, ◌<◌, ◌≤◌, ◌==◌, if◌then◌else◌, Bool, List, [], ◌∷◌, length, Option, Some, None, option_map, Result, Ok, Err, IfErr}
 use Rattle.std.specs.FinMap as map
 use Rattle.std.specs.List.{All}
-use Rattle.std.specs.Option.{ForSome}
+use Rattle.std.specs.Option.{ForSome, IfSome}
 use Rattle.osc_coap.specs.{Spells, spelling}
 use Rattle.osc_coap.specs.Message.{Message}
 use Rattle.osc_dedup.specs.{Entry as Noted}
@@ -18,8 +18,10 @@ use Rattle.osc_model.specs.declared.request.Request.{Request}
 use Rattle.osc_model.specs.declared.step.Datagram.{Datagram}
 use Rattle.osc_model.specs.declared.step.Entry.{Entry}
 use Rattle.osc_context.specs.{algorithm_of}
-use Rattle.osc_authz.specs.{DeskState, IsSameBut, holder_at}
+use Rattle.osc_authz.specs.{DeskState, IsSameBut, LastAnswerState, holder_at, last_at, with_last}
 use Rattle.osc_authz.specs.SecurityContext.{SecurityContext}
+use Rattle.osc_authz.specs.declared.token_entry.TokenEntry.{TokenEntry}
+use Rattle.osc_window.specs.{IsFresh}
 use Rattle.osc_message.specs.{EndpointState, settled, AreSendable, FitsDatagram, datagram, replied}
 use Rattle.osc_message.specs.declared.handling.Handling.TheVariants.{Answered}
 use Rattle.osc_message.specs.declared.heard.Heard.{Heard}
@@ -29,10 +31,13 @@ use Rattle.osc_protect.specs.{SealedRequest, IsProtectedResponse}
 use Rattle.osc_run.specs.{opening_note, Replies as AppliesTo}
 use Rattle.osc_options.specs.{oscore, read_request, value, IsWithinRanges}
 use Rattle.osc_server.specs.State.{State}
-use Rattle.osc_server.specs.Table.{IsOpened, Met, answered, notes_of_request, reply_to}
+use Rattle.osc_server.specs.Table.{IsAnswerTo, IsMeant, IsOpened, IsRefused, Met, again_to, answer_to, answered, notes_of_request, reply_to, served_desk}
+use Rattle.osc_server.specs.declared.refusal.Refusal.{Refusal}
+use Rattle.osc_server.specs.declared.refusal.Refusal.TheVariants.{Replayed}
 use Rattle.osc_server.specs.declared.case.RequestCase.{RequestCase}
 use Rattle.osc_server.specs.declared.case.RequestCase.TheVariants.{OpenGet, Protected}
 use Rattle.osc_server.specs.declared.serving.SealedAnswer.{SealedAnswer}
+use Rattle.osc_server.specs.declared.serving.KeptRoom.{KeptRoom}
 use Rattle.osc_server.specs.declared.serving.ReservedAnswer.{ReservedAnswer}
 
 -- a reply with a payload of at most `most` bytes
@@ -74,15 +79,43 @@ pub record IsTakenFor (tag : Tags) (tree : Tree) (taken : ReservedAnswer) : Type
   pub plaintext : taken.plaintext ≡ taken.note.plaintext
   pub seal : taken.room.seal ≡ record { name = taken.note.context; number = taken.note.number; most = text_beside_payload + reply_length tree taken.read }
   pub datagram : taken.room.datagram ≡ message_beside_sealed + text_beside_payload + reply_length tree taken.read + tag (algorithm_of taken.note.context)
+  pub kept : IfSome taken.room.kept (λ kept. kept.reply ≡ text_beside_payload + reply_length tree taken.read + tag (algorithm_of taken.note.context))
   pub limit : reply_length tree taken.read ≤ longest_payload
 
+-- what the request carried sealed is kept of it, where answers are kept
+abbrev pub kept_sealed : Option KeptRoom → Option (List ℕ)
+kept_sealed room = option_map (λ kept. kept.sealed) room
+
+abbrev pub if_kept : {T : Type 0} → Bool → T → Option T
+if_kept answers value = if answers then Some value else None
+
+-- the answer that is kept of it, once what its reply carries sealed is known
+abbrev pub kept_answer : Peer → ℕ → List ℕ → Option (List ℕ) → Option LastAnswerState
+kept_answer from number reply sealed = option_map (λ bytes. record { from = from; number = number; sealed = bytes; reply = reply }) sealed
+
+-- the table with this last answer of a context, where one is kept
+abbrev pub with_kept : List ℕ → Option LastAnswerState → List TokenEntry → List TokenEntry
+with_kept id None table = table
+with_kept id (Some last) table = with_last id last table
+
 -- a protected request that opened, with what was taken of it: under a context that it means, at a fresh number
-pub record IsReady (is_sealing : Sealings) (tag : Tags) (server : Met) (came : Arrival Message) (request : SealedRequest) (taken : ReservedAnswer) : Type 0 where
+pub record IsReady (is_sealing : Sealings) (tag : Tags) (answers : Bool) (server : Met) (came : Arrival Message) (request : SealedRequest) (taken : ReservedAnswer) : Type 0 where
   pub held : SecurityContext
   pub opened : IsOpened is_sealing server came request held taken.note.plaintext
   pub noted : taken.note ≡ opening_note held.name request.number taken.note.plaintext
   pub room : IsTakenFor tag server.tree taken
   pub holder : taken.holder ≡ holder_at request.kid server.table
+  pub kept : kept_sealed taken.room.kept ≡ if_kept answers request.sealed
+
+-- Why a protected request isn't served: of one that isn't fresh, whether or not it comes again.
+abbrev pub IsUnserved : Sealings → Met → Arrival Message → Refusal → Type 0
+IsUnserved is_sealing server came Replayed =
+    (request : SealedRequest) × (held : SecurityContext) × IsMeant server came request held × (¬ IsFresh held.window request.number)
+IsUnserved is_sealing server came refusal = IsRefused is_sealing server came refusal
+
+-- the table keeps this answer to it
+abbrev pub HasAnswer : List TokenEntry → Arrival Message → SealedRequest → LastAnswerState → Type 0
+HasAnswer table came request last = (last_at request.kid table ≡ Some last) × IsAnswerTo came request last
 
 -- the path whose resource a request may change
 abbrev pub may_change : Result Request Code → Option (List ℕ)
@@ -177,8 +210,9 @@ pub record IsReplied (is_sealing : Sealings) (old : Standing) (came : Arrival Me
   pub noted : served.notes ≡ notes_of_request came.at opened.held opened.holder opened.number opened.text reply
 
 -- the same of a request that came protected
-pub record IsServedAs (is_sealing : Sealings) (old : Standing) (came : Arrival Message) (request : SealedRequest) (served : SealedAnswer) (new : Tree) : Type 0 where
+pub record IsServedAs (is_sealing : Sealings) (old : Standing) (came : Arrival Message) (request : SealedRequest) (served : SealedAnswer) (new : Tree) (desk : DeskState) : Type 0 where
   pub held : SecurityContext
   pub text : List ℕ
   pub opened : IsOpened is_sealing (record { tree = old.tree; table = old.desk.table }) came request held text
   pub replied : IsReplied is_sealing old came (record { held = held; holder = holder_at request.kid old.desk.table; number = request.number; text = text }) served new
+  pub kept : desk ≡ served_desk old.desk came request replied.protected.sealed

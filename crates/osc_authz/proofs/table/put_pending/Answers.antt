@@ -28,6 +28,6 @@ returns-in-None c =
     ∙ c.in-None.is
     in
     c.push_reserved.ensures.items
-    ∙ ap (λ (posts : List AgreedPost). c.args.table.now.items ++ (record { id = c.args.added.token; confirmed = None; pending = Some c.args.added.context; posts = posts }) ∷ [])
+    ∙ ap (λ (posts : List AgreedPost). c.args.table.now.items ++ (record { id = c.args.added.token; confirmed = None; pending = Some c.args.added.context; posts = posts; last = None }) ∷ [])
     (c.before-in-None.ensures ∙ ap (remembered c.args.added.room) c.none.ensures)
     ∙ put_last c.args.added.token c.args.added.context (remembered c.args.added.room) c.args.table.now.items place

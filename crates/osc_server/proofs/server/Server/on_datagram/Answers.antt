@@ -34,7 +34,7 @@ pub returns-clause-kind : goal.returns-clause-kind
 returns-clause-kind g c =
     IfOk-weaker c.answer.result _ _
     (λ step it. kind_of g.A.Ciphers.is_sealing
-    (record { agrees = c.posts_that_agree.ensures; refuses = c.posts_that_are_refused.ensures; knows = c.posts_that_are_known.ensures; opens = c.requests_that_open.ensures })
+    (record { agrees = c.posts_that_agree.ensures; refuses = c.posts_that_are_refused.ensures; knows = c.posts_that_are_known.ensures; opens = c.requests_that_open.ensures; stay = c.answers_stay.ensures.tokens })
     c.args.self.now step c.answer.new.self
     (subst (λ s. IsTable s.desk.table) c.self.view_is c.has_a_table.ensures)
     it.1
