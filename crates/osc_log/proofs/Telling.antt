@@ -3,8 +3,8 @@ use Rattle.std.proofs.Common.{◌≡◌, ◌∙◌, inr, ℕ, List, [], ◌∷�
 use Rattle.std.specs.Io.KnownBytes.{Appends}
 use Rattle.osc_model.specs.declared.node.Moment.{Moment}
 use Rattle.osc_log.specs.Counters.{after_turn, with_lost}
-use Rattle.osc_log.specs.Faults.{IsUnreadText, lost_text, unsaid_text, untold_text}
-use Rattle.osc_log.specs.Log.{Event, Says, SaysIf, SaysOf, Tells, Told, Writes, counted_by, lost, turned, unseen}
+use Rattle.osc_log.specs.Faults.{IsUnreadText, behind_text, lost_text, unsaid_text, untold_text}
+use Rattle.osc_log.specs.Log.{Event, Says, SaysIf, SaysOf, Tells, Told, Writes, behind, counted_by, lost, turned, unseen}
 use Rattle.osc_log.specs.Log as log
 use Rattle.osc_log.specs.Sent.{seen_after, turn_text}
 use Rattle.osc_log.specs.Time.{IsTime}
@@ -144,6 +144,14 @@ tells_lost old new now seen last time text form is_old is_new is_last is_time is
     tells_this old new (lost now) seen last old.text text form is_old is_new (ap (λ (s : Seen). s.counters) is_last) (λ none. refl) written
     (subst (SaysOf old.form seen (lost now) text) (sym is_last)
     (subst (λ (t : List ℕ). SaysOf old.form seen (lost now) t (record seen { counters = with_lost seen.counters })) (sym is_text) (log.missed now time is_time)))
+
+pub tells_behind : (old new : Told) (now : Moment) (seconds : ℕ) (seen : Seen) (time text : List ℕ)
+    → new.form ≡ old.form → old.seen ≡ Some seen → new.seen ≡ Some seen
+    → IsTime now time → text ≡ behind_text old.form time seconds → (new.dropped ≡ 0 → (old.dropped ≡ 0) × Appends old.text new.text text)
+    → Tells old new (behind now seconds ∷ [])
+tells_behind old new now seconds seen time text form is_old is_new is_time is_text written =
+    tells_this old new (behind now seconds) seen seen old.text text form is_old is_new refl (λ none. refl) written
+    (subst (λ (t : List ℕ). SaysOf old.form seen (behind now seconds) t seen) (sym is_text) (log.lagging now seconds time is_time))
 
 -- ---- settings that are none
 

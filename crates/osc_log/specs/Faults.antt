@@ -21,6 +21,13 @@ untold_text form time = bare_text form time (codes "out of memory: what a step d
 abbrev pub lost_text : Form → List ℕ → List ℕ
 lost_text form time = bare_text form time (codes "out of memory: what came is lost")
 
+-- what is told of a wall clock that is so many seconds behind the time that the node counts
+abbrev pub behind_words : ℕ → List ℕ
+behind_words seconds = codes "the clock is " ++ decimal seconds ++ codes " seconds behind the time of this node"
+
+abbrev pub behind_text : Form → List ℕ → ℕ → List ℕ
+behind_text form time seconds = bare_text form time (behind_words seconds)
+
 -- ---- faults in words
 
 -- "level", "time" where there is one, and "why"

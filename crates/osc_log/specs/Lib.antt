@@ -15,8 +15,8 @@ pub mod Log
 pub mod Served
 pub mod Inner
 pub use Counters.{after_turn, are_due, counted_text, with_lost, with_turn}
-pub use Faults.{IsUnreadText, fault_text, lost_text, unsaid_text, untold_text}
-pub use Log.{Event, Says, SaysOf, Tells, Told, Writes, counted_by, lost, missed, told, turned, unseen, untold}
+pub use Faults.{IsUnreadText, behind_text, fault_text, lost_text, unsaid_text, untold_text}
+pub use Log.{Event, Says, SaysOf, Tells, Told, Writes, behind, counted_by, lagging, lost, missed, told, turned, unseen, untold}
 pub use Served.{IsTold, Serves, lines_of}
 pub use Time.{IsTime}
 pub use Sent.{line_text, seen_after, turn_text}

@@ -3,7 +3,7 @@ use Rattle.std.specs.Prelude.{◌≡◌, ℕ, List, [], ◌∷◌, ◌++◌, Opt
 use Rattle.std.specs.Io.KnownBytes.{Appends}
 use Rattle.osc_model.specs.declared.node.Moment.{Moment}
 use Rattle.osc_log.specs.Counters.{after_turn, no_counters, with_lost}
-use Rattle.osc_log.specs.Faults.{lost_text, untold_text}
+use Rattle.osc_log.specs.Faults.{behind_text, lost_text, untold_text}
 use Rattle.osc_log.specs.Limits.{none_told}
 use Rattle.osc_log.specs.Time.{IsTime}
 use Rattle.osc_log.specs.Sent.{seen_after, turn_text}
@@ -16,10 +16,12 @@ use Rattle.osc_log.specs.declared.seen.Seen.{Seen}
 
 -- ---- what it is told
 
--- a turn, and what the node holds after it; or that there was no memory for the step of what came at this moment
+-- a turn, and what the node holds after it; or that there was no memory for the step of what came at this moment; or that the wall clock was so many
+-- seconds behind it
 pub data Event : Type 0 where
   turned : Turn → Held → Event
   lost : Moment → Event
+  behind : Moment → ℕ → Event
 
 -- ---- what it says
 
@@ -35,6 +37,7 @@ pub data SaysOf (form : Form) (seen : Seen) : Event → List ℕ → Seen → Ty
       → SaysOf form seen (turned turn held) (untold_text form time) (record seen { counters = after_turn turn seen.counters })
   missed : (now : Moment) (time : List ℕ) → IsTime now time
       → SaysOf form seen (lost now) (lost_text form time) (record seen { counters = with_lost seen.counters })
+  lagging : (now : Moment) (seconds : ℕ) (time : List ℕ) → IsTime now time → SaysOf form seen (behind now seconds) (behind_text form time seconds) seen
 
 -- of some events, one after another
 pub data Says (form : Form) : Seen → List Event → List ℕ → Seen → Type 0 where
@@ -46,6 +49,7 @@ pub data Says (form : Form) : Seen → List Event → List ℕ → Seen → Type
 abbrev pub count_of : Event → Counters → Counters
 count_of (turned turn held) counters = after_turn turn counters
 count_of (lost now) counters = with_lost counters
+count_of (behind now seconds) counters = counters
 
 abbrev pub counted_by : List Event → Counters → Counters
 counted_by [] counters = counters

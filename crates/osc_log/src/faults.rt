@@ -6,12 +6,13 @@ ghost use Rattle.osc_log.specs.Inner.Objects.{members_of};
 use crate::form::Form;
 use crate::object::Object;
 use arrayvec::ArrayString;
+use itoa::Buffer;
 use std::alloc::{AllocError, Global};
 
 // ---- without memory
 
 /// There was no memory for a step. Takes none itself.
-pub(crate) fn lost_line(form: Form, time: &str) -> ArrayString<128>
+pub(crate) fn lost_line(form: Form, time: &str) -> ArrayString<160>
     requires { length time.now ≤ 33 }
     ensures { result.bytes ≡ spec.lost_text form time.now }
 {
@@ -19,16 +20,35 @@ pub(crate) fn lost_line(form: Form, time: &str) -> ArrayString<128>
 }
 
 /// There was no memory for the lines of a turn. Takes none itself.
-pub(crate) fn untold_line(form: Form, time: &str) -> ArrayString<128>
+pub(crate) fn untold_line(form: Form, time: &str) -> ArrayString<160>
     requires { length time.now ≤ 33 }
     ensures { result.bytes ≡ spec.untold_text form time.now }
 {
     bare_line(form, time, "out of memory: what a step did is not told")
 }
 
-fn bare_line(form: Form, time: &str, words: &str) -> ArrayString<128>
+/// The wall clock is so many seconds behind the time of the node. Takes no memory itself.
+pub(crate) fn behind_line(form: Form, time: &str, seconds: u64) -> ArrayString<160>
+    requires { length time.now ≤ 33 }
+    ensures { result.bytes ≡ spec.behind_text form time.now seconds }
+{
+    bare_line(form, time, behind_words(seconds).as_str())
+}
+
+fn behind_words(seconds: u64) -> ArrayString<80>
+    ensures { result.bytes ≡ spec.behind_words seconds }
+{
+    let mut number = Buffer::new();
+    let mut words = ArrayString::new();
+    words.push_str("the clock is ");
+    words.push_str(number.format(seconds));
+    words.push_str(" seconds behind the time of this node");
+    words
+}
+
+fn bare_line(form: Form, time: &str, words: &str) -> ArrayString<160>
     requires time { length time.now ≤ 33 }
-    requires words { length words.now ≤ 50 }
+    requires words { length words.now ≤ 80 }
     ensures { result.bytes ≡ spec.bare_text form time.now words.now }
 {
     match form {
@@ -37,8 +57,8 @@ fn bare_line(form: Form, time: &str, words: &str) -> ArrayString<128>
     }
 }
 
-fn bare_text(words: &str) -> ArrayString<128>
-    requires { length words.now ≤ 50 }
+fn bare_text(words: &str) -> ArrayString<160>
+    requires { length words.now ≤ 80 }
     ensures { result.bytes ≡ words.now ++ codes "\n" }
 {
     let mut line = ArrayString::new();
@@ -47,9 +67,9 @@ fn bare_text(words: &str) -> ArrayString<128>
     line
 }
 
-fn bare_object(time: &str, words: &str) -> ArrayString<128>
+fn bare_object(time: &str, words: &str) -> ArrayString<160>
     requires time { length time.now ≤ 33 }
-    requires words { length words.now ≤ 50 }
+    requires words { length words.now ≤ 80 }
     ensures { result.bytes ≡ codes "{\"level\":\"fault\",\"time\":\"" ++ time.now ++ codes "\",\"why\":\"" ++ words.now ++ codes "\"}" ++ codes "\n" }
 {
     let mut line = ArrayString::new();

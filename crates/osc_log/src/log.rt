@@ -5,7 +5,7 @@ ghost use Rattle.osc_log.specs.Faults.{IsUnreadText};
 ghost use Rattle.osc_log.specs.Log as spec;
 
 use crate::counters::Counters;
-use crate::faults::{dropped_line, fault_line, lost_line, unsaid_line, untold_line};
+use crate::faults::{behind_line, dropped_line, fault_line, lost_line, unsaid_line, untold_line};
 use crate::form::Form;
 use crate::held::TellsHeld;
 use crate::seen::Seen;
@@ -33,6 +33,10 @@ pub trait Log {
     fn lost(&mut self, now: Moment)
         ensures { spec.Tells (told self.old) (told self.new) (spec.lost now ∷ []) };
 
+    /// Tells by one line that the wall clock is so many seconds behind this moment.
+    fn behind(&mut self, now: Moment, seconds: u64)
+        ensures { spec.Tells (told self.old) (told self.new) (spec.behind now seconds ∷ []) };
+
     /// Tells by one line, in these words, why settings are none; or that there was no memory to say so, as where there are no words.
     fn no_settings(&mut self, alloc: Global, words: Option<&str>)
         ensures { (text : List ℕ) × IsUnreadText (told self.old).form (option_map (λ words. words.now) words.entry) text × spec.Writes (told self.old) (told self.new) text };
@@ -48,6 +52,8 @@ impl Log for Silent {
     fn turn<N: TellsHeld>(&mut self, _alloc: Global, _turn: &Turn<'_>, _node: &N) {}
 
     fn lost(&mut self, _now: Moment) {}
+
+    fn behind(&mut self, _now: Moment, _seconds: u64) {}
 
     fn no_settings(&mut self, _alloc: Global, _words: Option<&str>) {}
 }
@@ -81,6 +87,8 @@ impl<W: Write + Drop> Log for Faults<W> {
     fn turn<N: TellsHeld>(&mut self, _alloc: Global, _turn: &Turn<'_>, _node: &N) {}
 
     fn lost(&mut self, _now: Moment) {}
+
+    fn behind(&mut self, _now: Moment, _seconds: u64) {}
 
     fn no_settings(&mut self, alloc: Global, words: Option<&str>) {
         if let Some(words) = words {
@@ -214,6 +222,12 @@ impl<W: Write + Drop> Log for Lines<W> {
         let time = time_text(now);
         let line = lost_line(self.form, time.as_str());
         self.write_counting(line.as_bytes(), counters);
+    }
+
+    fn behind(&mut self, now: Moment, seconds: u64) {
+        let time = time_text(now);
+        let line = behind_line(self.form, time.as_str(), seconds);
+        self.write(line.as_bytes());
     }
 
     fn no_settings(&mut self, alloc: Global, words: Option<&str>) {

@@ -1,5 +1,5 @@
 -- What `osc server` and `osc proxy` do: the node of the settings takes its turns.
-use Rattle.std.specs.Prelude.{◌≡◌, ◌||◌, ℕ, Bool, bytes_eq, List, [], Some, fold, map, replicate}
+use Rattle.std.specs.Prelude.{◌≡◌, ◌||◌, ℕ, Bool, true, bytes_eq, List, [], Some, fold, map, replicate}
 use Rattle.std.specs.Option.{option_eq}
 use Rattle.std.specs.FinMap as map
 use Rattle.std.specs.FinSet as set
@@ -45,7 +45,7 @@ pub record IsServerOf (settings : ServerSettings) (resources : Tree) (server : S
   pub old_key : server.desk.old_key ≡ settings.old_key
   pub audience : server.desk.audience ≡ settings.audience
   pub rules : server.desk.rules
-      ≡ record { revoked = settings.revoked; seconds = settings.context_seconds; remembered = remembered_posts; reserved = settings.reserved_id; subtrees = settings.subtrees }
+      ≡ record { revoked = settings.revoked; seconds = settings.context_seconds; remembered = remembered_posts; reserved = settings.reserved_id; subtrees = settings.subtrees; answers = true }
   pub contexts : server.desk.table ≡ []
   pub open_paths : server.open_scope ≡ set.from_list (map (λ path. exactly path Get) settings.open.items)
   pub tree : server.tree ≡ resources
@@ -54,7 +54,8 @@ pub record IsServerOf (settings : ServerSettings) (resources : Tree) (server : S
 abbrev pub target_of : TargetSetting → Target
 target_of setting = record { host = setting.host; port = setting.port; peer = setting.to }
 
--- the proxy of these settings, which did nothing yet: it forwards to their targets, and 16 confirmable messages may be outstanding to a peer
+-- The proxy of these settings, which did nothing yet: it forwards to their targets, and 16 confirmable messages may be outstanding to a peer, 15 more than
+-- one (RFC 7252 section 4.7).
 pub record IsProxyOf (settings : ProxySettings) (proxy : Proxy) : Type 0 where
   pub targets : proxy.targets ≡ map target_of settings.targets.items
   pub exchanges : proxy.exchanges ≡ none_open

@@ -1,10 +1,10 @@
 -- The turns that a node takes in a program: its moments, its draws, and its ticks.
-use Rattle.std.specs.Prelude.{◌≡◌, ◌++◌, ◌∷◌, ℕ, suc, Bool, true, false, List, [], Option, None, is_some}
+use Rattle.std.specs.Prelude.{◌≡◌, ◌++◌, ◌∷◌, ℕ, suc, Bool, true, false, List, [], Option, Some, None, is_some}
 use Rattle.osc_model.specs.declared.node.Draw.{Draw}
 use Rattle.osc_model.specs.declared.node.Moment.{Moment}
 use Rattle.osc_model.specs.declared.step.Datagram.{Datagram}
 use Rattle.osc_model.specs.declared.step.Step.{Step}
-use Rattle.osc_log.specs.{Event, turned}
+use Rattle.osc_log.specs.{Event, behind, turned}
 use Rattle.osc_log.specs.Log as log
 use Rattle.osc_log.specs.declared.held.Held.{Held}
 use Rattle.osc_run.specs.{Cause}
@@ -51,13 +51,25 @@ module _ {N : Type 0} (acts : N → Moment → Bool) (is_step : N → Cause → 
     pub node : new.node ≡ old.node
     pub rested : new.busy ≡ None
 
+-- what there is to tell of the wall clock at a moment: by how many seconds it is behind, where that is due
+abbrev pub of_behind : Moment → Option ℕ → List Event
+of_behind now None = []
+of_behind now (Some seconds) = behind now seconds ∷ []
+
+abbrev pub of_clock : Moment → ClockAndRandomState → List Event
+of_clock now supply = of_behind now supply.behind.seconds
+
 -- what such a node holds is told beside its turns
 module _ {N : Type 0} (acts : N → Moment → Bool) (is_step : N → Cause → Step → N → Type 0) (held : N → Held) where
-  -- a turn of either kind, and what it showed
+  -- a turn of either kind, and what it showed: first what there is to tell of the wall clock
   pub data GoesOn (old : Running N) : Shown → Running N → Type 0 where
     taken : (step : Step) (new : Running N) → (turn : TakesTurn acts is_step old step new)
-        → GoesOn old (record { sent = step.out; events = turned (record { now = turn.now; received = is_some turn.came; step = step }) (held new.node) ∷ [] }) new
-    lost : (new : Running N) → (turn : LosesTurn acts is_step old new) → GoesOn old (record { sent = []; events = log.lost turn.now ∷ [] }) new
+        → GoesOn old (record {
+          sent = step.out;
+          events = of_clock turn.now new.supply ++ turned (record { now = turn.now; received = is_some turn.came; step = step }) (held new.node) ∷ [];
+        }) new
+    lost : (new : Running N) → (turn : LosesTurn acts is_step old new)
+        → GoesOn old (record { sent = []; events = of_clock turn.now new.supply ++ log.lost turn.now ∷ [] }) new
 
   -- this number of turns, one after another, and what they showed
   pub data Turns : ℕ → Running N → Shown → Running N → Type 0 where

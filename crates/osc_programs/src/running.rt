@@ -233,6 +233,7 @@ pub(crate) fn server_with(
                 remembered: REMEMBERED_POSTS,
                 reserved: reserved_id,
                 subtrees,
+                answers: true,
             },
         },
     );

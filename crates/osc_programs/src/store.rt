@@ -22,8 +22,6 @@ use crate::ended::{Ended, ended_by_io};
 use crate::revoking::KeepsServer;
 use crate::running::add_resource;
 use crate::saving::save_tree;
-use libc::clock_gettime;
-use libc::types::timespec;
 use osc_ccm::Suite;
 use osc_model::laws::paths_are_ordered;
 use osc_model::{Code, Entry, Path, Resource, StepNotes};
@@ -34,7 +32,7 @@ use osc_store::{
 };
 use osc_tree::Tree;
 use osc_turn::laws::one_path_changes;
-use osc_turn::{KeepsSteps, keep_change};
+use osc_turn::{KeepsSteps, keep_change, since_boot};
 use osc_words::{FileName, ResourceSetting, StoreWords};
 use sqlite_std_file::FileFrom;
 use sqlite_store::FileStore;
@@ -83,17 +81,14 @@ pub trait Stores {
 }
 
 /// How long no change comes before the file itself holds all that was kept, in seconds.
-const IDLE_SECONDS: i64 = 10;
-
-/// A clock that goes on while the machine sleeps, and that nobody sets.
-const CLOCK_BOOTTIME: i32 = 7;
+const IDLE_SECONDS: u64 = 10;
 
 /// What keeps the changes of a server in a file of this system, of whose torn writes nothing is supposed.
 #[derive(Drop)]
 pub struct StoreFile {
     keeper: FileKeeper<FileFrom<Wary>>,
     // When the last change came that the file itself doesn't hold yet.
-    changed: Option<i64>,
+    changed: Option<u64>,
 }
 
 impl StoreFile {
@@ -138,14 +133,12 @@ impl StoreFile {
     }
 }
 
-// The time of that clock, which says nothing where it can't be read.
-fn seconds() -> i64 {
-    let mut time = timespec {
-        tv_sec: 0,
-        tv_nsec: 0,
-    };
-    let _ = clock_gettime(CLOCK_BOOTTIME, &mut time);
-    time.tv_sec
+// The time since the start of the machine, which says nothing where it can't be read.
+fn seconds() -> u64 {
+    match since_boot() {
+        Some(time) => time.as_secs(),
+        None => 0,
+    }
 }
 
 // Whether the reply of a served request tells of a change.

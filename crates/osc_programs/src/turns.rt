@@ -81,9 +81,11 @@ fn one_turn<W: Watch + Drop, P: Port, N: Node<Suite> + Holding, K: KeepsSteps<Su
     ensures fails { IfErr result (λ ended. (error : _) → ended ≡ Ended.NotKept error → K.may_fail kept.old.keeper) }
     ensures fault { IfErr result ends.EndsUnkept }
 {
+    telling_goes_on();
     let (now, draw) = moment_and_draw(supply)?;
     match kept_turn::<Suite, _, _, _>(alloc, port, kept, pace, now, &draw) {
         Ok(turned) => {
+            tell_clock(log, now, supply);
             tell_turn(alloc, log, now, &turned, &kept.node);
             drop(turned);
             Ok(())
@@ -91,11 +93,23 @@ fn one_turn<W: Watch + Drop, P: Port, N: Node<Suite> + Holding, K: KeepsSteps<Su
         Err(Unsent::NoStep(TurnError::Memory)) => {
             // Before the next tick it takes what comes, so a node without memory waits between its turns.
             *pace = Pace::START;
+            tell_clock(log, now, supply);
             log.lost(now);
             Ok(())
         }
         Err(Unsent::NoStep(TurnError::Port(_))) => Err(Ended::PortFailed),
         Err(Unsent::NotKept(error)) => Err(Ended::NotKept(error)),
+    }
+}
+
+// The log tells by how much the wall clock is behind this moment, where that is due.
+fn tell_clock<W: Watch + Drop, L: Log>(log: &mut L, now: Moment, supply: &ClockAndRandom<W>)
+    ensures { Tells (L.told log.old) (L.told log.new) (spec.of_clock now supply.now) }
+{
+    telling_goes_on();
+    match supply.seconds_behind() {
+        Some(seconds) => log.behind(now, seconds),
+        None => {}
     }
 }
 

@@ -13,6 +13,8 @@ mod ccm;
 #[cfg(test)]
 mod client;
 #[cfg(test)]
+mod clocks;
+#[cfg(test)]
 mod coap;
 #[cfg(test)]
 mod context;
@@ -62,6 +64,8 @@ mod reference;
 mod revoking;
 #[cfg(test)]
 mod same;
+#[cfg(test)]
+mod served_again;
 #[cfg(test)]
 mod server;
 #[cfg(test)]

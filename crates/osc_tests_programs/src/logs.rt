@@ -429,6 +429,29 @@ fn each_line_is_an_object(rt: HostRuntime) -> Result<(), Fail> {
     Ok(())
 }
 
+/// The line of a wall clock that is so many seconds behind.
+fn behind_line(alloc: Global, form: Form, seconds: u64) -> Vec<u8> {
+    let mut lines = Lines::new(form, Vec::new(alloc));
+    lines.behind(moment(), seconds);
+    lines.into_writer()
+}
+
+#[test]
+fn a_clock_behind_is_a_line(rt: HostRuntime) -> Result<(), Fail> {
+    let alloc = rt.alloc();
+    assert_eq!(rt;
+        behind_line(alloc, Form::Text, 3_600).as_slice(),
+        b"the clock is 3600 seconds behind the time of this node\n".as_slice()
+    );
+    assert_eq!(rt;
+        behind_line(alloc, Form::Json, u64::MAX).as_slice(),
+        br#"{"level":"fault","time":"2023-11-14T22:13:20.123Z","why":"the clock is 18446744073709551615 seconds behind the time of this node"}
+"#
+            .as_slice()
+    );
+    Ok(())
+}
+
 #[test]
 fn faults_are_objects(rt: HostRuntime) -> Result<(), Fail> {
     let alloc = rt.alloc();

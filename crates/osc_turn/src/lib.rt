@@ -3,20 +3,24 @@
 //! Of a node whose resources outlive a power cut, what a step changed is kept before anything of the step is sent.
 #![tactic(auto)]
 
+mod behind;
 mod clock_and_random;
 mod error;
 mod kept;
+mod lead;
 mod pace;
 mod port;
 mod seeds;
+mod time;
+pub mod time_laws;
 mod turning;
 mod watch;
 
-pub use clock_and_random::{ClockAndRandom, generator_of, not_before};
+pub use clock_and_random::{ClockAndRandom, generator_of};
 pub use error::TurnError;
 pub use kept::{KeepsSteps, KeptNode, Unsent, keep_change, kept_turn, laws};
 pub use pace::{Pace, paced_step, paced_turn};
 pub use port::{Port, PortFault};
 pub use seeds::Seeds;
 pub use turning::{Stepped, Turned, send_all, send_step, turn};
-pub use watch::{SystemWatch, Watch};
+pub use watch::{Reading, SystemWatch, Watch, since_boot};

@@ -1,7 +1,6 @@
-use Rattle.std.proofs.Common.{◌∙◌, ◌∷◌, [], ap, refl, Err}
+use Rattle.std.proofs.Common.{◌∙◌, [], ap, refl, Err}
 use Rattle.osc_turn.specs.declared.kept.error.Unsent.{Unsent}
 use Rattle.osc_turn.specs.{busy_after, must_tick}
-use Rattle.osc_log.specs.Log as log
 use Rattle.osc_programs.specs.Turning as turning
 use Rattle.osc_programs.proofs.Taken.{came_in, grown_none, not_due, tells_received}
 use Rattle.osc_programs.proofs.turns.one_turn.Goals as goal
@@ -25,7 +24,7 @@ returns-in-Ok-clause-ok g c =
             pace = c.in-Ok.ensures.pace ∙ ap (busy_after busy now) done.2;
           }),
       done.4,
-      told,
+      c.telling_goes_on.ensures.more _ _ _ _ _ c.tell_clock.ensures told,
     )
 
 pub returns-in-Err-NoStep-Memory-clause-ok : goal.returns-in-Err-NoStep-Memory-clause-ok
@@ -33,7 +32,7 @@ returns-in-Err-NoStep-Memory-clause-ok g c =
     let turn = c.in-Err-NoStep-Memory in
     let none = turn.ensures.no_step turn.field-0-0 (ap (λ (error : Unsent). Err error) turn.field-0-is) in
     let now = c.in_ok-now.now in (
-      log.lost now ∷ [],
+      _,
       [],
       turning.lost _
           (record {
@@ -45,7 +44,7 @@ returns-in-Err-NoStep-Memory-clause-ok g c =
             rested = refl;
           }),
       turn.ensures.not_sent ∙ grown_none _,
-      c.lost.ensures,
+      c.telling_goes_on.ensures.more _ _ _ _ _ c.tell_clock-in-Err-NoStep-Memory.ensures c.lost.ensures,
     )
 
 pub returns-in-Err-NoStep-Memory-clause-kept : goal.returns-in-Err-NoStep-Memory-clause-kept
