@@ -17,7 +17,7 @@ static any const CALLS[] = {
 #endif
 #ifdef PROXY
     (any)nzf_proxy_new,  (any)nzf_proxy_add_target,    (any)nzf_proxy_on_datagram, (any)nzf_proxy_on_tick,
-    (any)nzf_proxy_next, (any)nzf_proxy_next_deadline, (any)nzf_proxy_restart,     (any)nzf_proxy_free,
+    (any)nzf_proxy_next, (any)nzf_proxy_next_deadline, (any)nzf_proxy_restart,     (any)nzf_proxy_free, (any)nzf_proxy_set_outstanding,
 #endif
     (any)0,
 };

@@ -506,11 +506,12 @@ static void bad_arguments(void) {
     uint8_t code = 0xee;
     look(&before);
     refuse_in = 0;
-    switch (below(5)) {
+    switch (below(6)) {
     case 0: SHOULD(nzf_device_on_datagram(&device, UINT64_C(1) << 63, &STRANGER, "", 0, &random) == NZF_BAD_ARGUMENT); break;
     case 1: SHOULD(nzf_device_on_tick(&device, UINT64_MAX, &random) == NZF_BAD_ARGUMENT); break;
     case 2: SHOULD(nzf_device_on_datagram(&device, now, &NOBODY, "", 0, &random) == NZF_BAD_ARGUMENT); break;
     case 3: SHOULD(nzf_device_remove(&device, now, TEXT("no path"), &draws, &code) == NZF_BAD_ARGUMENT && code == 0); break;
+    case 4: SHOULD(nzf_proxy_set_outstanding(&proxy, 17) == NZF_BAD_ARGUMENT); break;
     default: ANSWERS(nzf_proxy_add_target(&proxy, TEXT("late"), 1, &DEVICE), OR(NZF_DONE) | OR(NZF_NOT_NOW)); break;
     }
     look(&after);

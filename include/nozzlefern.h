@@ -498,6 +498,10 @@ int32_t nzf_proxy_new(nzf_proxy *proxy) NZF_CALL;
  * NZF_HOST_MAX bytes. Also NZF_NO_MEMORY. Heap: the host. */
 int32_t nzf_proxy_add_target(nzf_proxy *proxy, const void *host, size_t host_length, uint16_t port, const nzf_peer *to) NZF_CALL;
 
+/* Up to so many of its confirmable messages may be outstanding to a peer, 1 to 16, as long as none to it is lost; one at a time where this isn't said.
+ * Before its first datagram and tick only, else NZF_NOT_NOW. NZF_BAD_ARGUMENT for another number. Heap: then some 7 KiB more for each above 1. */
+int32_t nzf_proxy_set_outstanding(nzf_proxy *proxy, uint8_t most) NZF_CALL;
+
 /* These bytes came from there as one datagram, as for a device. Also NZF_BAD_ARGUMENT, NZF_NO_MEMORY. Heap: for the step, and for what is forwarded. */
 int32_t nzf_proxy_on_datagram(nzf_proxy *proxy, uint64_t now, const nzf_peer *from, const void *bytes, size_t length, const nzf_draw *draw) NZF_CALL;
 

@@ -11,6 +11,7 @@ pub mod Granted
 pub mod Requests
 pub mod Results
 pub mod Client
+pub mod Settings
 pub mod Proxy
 pub mod Tokens
 pub mod Told

@@ -1,9 +1,10 @@
 //! A forward proxy.
-ghost use Rattle.std.specs.Prelude.{◌≡◌, ◌⊎◌, [], pos};
+ghost use Rattle.std.specs.Prelude.{◌≡◌, ◌⊎◌, pos};
 ghost use Rattle.std.specs.declared.option.Option.TheVariants.{None, Some};
 ghost use Rattle.osc_c.specs.Last.{HandsOut, nothing};
 ghost use Rattle.osc_c.specs.Plain.{draw_of, peer_of};
-ghost use Rattle.osc_c.specs.Proxy.{AddsTarget, HeardBy, TellsDeadline, TickedBy, restarted_from};
+ghost use Rattle.osc_c.specs.Proxy.{AddsTarget, HeardBy, Paces, TellsDeadline, TickedBy, restarted_from};
+ghost use Rattle.osc_c.specs.Settings.{no_settings};
 ghost use Rattle.osc_c.specs.declared.calls.outcome.Outcome.TheVariants.{Done};
 ghost use Rattle.osc_c.specs.declared.calls.proxy.Forwarding.TheVariants.{Setting};
 ghost use Rattle.osc_c.specs.Calls.{Calls, Looks};
@@ -13,12 +14,12 @@ use crate::handle::{hold, taken, with};
 use crate::handles::ProxyHandle;
 use std::alloc::Global;
 
-/// Makes a proxy without targets, in the place of one that is held.
+/// Makes a proxy without targets, which sends one confirmable message at a time to a peer, in the place of one that is held.
 ///
 /// Answers 0; or 9 without memory: then what was held is held. Heap: some 750 bytes, and from the first event on some 137 KiB.
 #[unsafe(no_mangle)]
 pub extern "C" fn nzf_proxy_new(alloc: Global, proxy: &mut ProxyHandle) -> i32
-    ensures { ((result ≡ pos 0) × (proxy.new.held ≡ Some (record { forwarding = Setting []; last = nothing }))) ⊎ ((result ≡ pos 9) × (proxy.new.held ≡ proxy.old.held)) }
+    ensures { ((result ≡ pos 0) × (proxy.new.held ≡ Some (record { forwarding = Setting no_settings; last = nothing }))) ⊎ ((result ≡ pos 9) × (proxy.new.held ≡ proxy.old.held)) }
 {
     hold(alloc, proxy, Ok(ProxyNode::new(alloc))).number()
 }
@@ -43,6 +44,17 @@ pub extern "C" fn nzf_proxy_add_target(
         &mut |node| node.add_target(alloc, host, port, to),
     )
     .number()
+}
+
+/// Up to so many confirmable messages of the proxy's own may be outstanding to a peer, as long as none to it is lost.
+///
+/// Answers 0; or 34 where that isn't 1 to 16, 37 after the first event, and 33 where nothing is held: then what was held is held. Heap: none; at the
+/// first event some 7 KiB more for each above 1.
+#[unsafe(no_mangle)]
+pub extern "C" fn nzf_proxy_set_outstanding(alloc: Global, proxy: &mut ProxyHandle, most: u8) -> i32
+    ensures { Calls proxy.old.held result proxy.new.held (λ old outcome new. Paces most old outcome new) }
+{
+    with(alloc, proxy, &mut |node| node.pace(most)).number()
 }
 
 /// These bytes came from this peer at this moment as one datagram.

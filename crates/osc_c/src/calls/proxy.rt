@@ -1,9 +1,10 @@
 //! A proxy by calls of plain numbers and bytes.
-ghost use Rattle.std.specs.Prelude.{◌≡◌, [], IfOk, OnOk, OnErr};
+ghost use Rattle.std.specs.Prelude.{◌≡◌, ◌≤◌, IfOk, OnOk, OnErr};
 ghost use Rattle.osc_c.specs.Ends.{Ends};
 ghost use Rattle.osc_c.specs.Last.{HandsOut, nothing};
 ghost use Rattle.osc_c.specs.Plain.{draw_of, peer_of};
-ghost use Rattle.osc_c.specs.Proxy.{AddsTarget, AddsTargetTo, HeardAt, HeardBy, HearsInMemory, IsRunning, TellsDeadline, TickedBy, TicksInMemory, TicksOr, proxy_of, restarted_from};
+ghost use Rattle.osc_c.specs.Proxy.{AddsTarget, AddsTargetTo, HeardAt, HeardBy, HearsInMemory, IsRunning, Paces, PacesBy, TellsDeadline, TickedBy, TicksInMemory, TicksOr, proxy_of, restarted_from};
+ghost use Rattle.osc_c.specs.Settings.{no_settings};
 ghost use Rattle.osc_proxy.specs.{Hears};
 ghost use Rattle.osc_proxy.specs.Ticks.{Ticks};
 ghost use Rattle.osc_c.specs.declared.calls.proxy.Forwarding.TheVariants.{Setting};
@@ -19,7 +20,7 @@ use std::alloc::{AllocError, Global};
 
 /// A proxy before its first event, and after it.
 pub enum Forwarding {
-    /// Its targets, of which there may be more.
+    /// Its settings, which may change.
     Setting(Settings),
     /// The proxy.
     Running(Proxy),
@@ -28,7 +29,7 @@ pub enum Forwarding {
 impl Drop for Forwarding {
     fn drop(self) {
         match self {
-            Forwarding::Setting(targets) => drop(targets),
+            Forwarding::Setting(settings) => drop(settings),
             Forwarding::Running(proxy) => drop(proxy),
         }
     }
@@ -71,8 +72,8 @@ impl Forwarding {
             Forwarding::Running(proxy) => {
                 proxy.on_datagram(alloc, now, from, bytes, &draw.draw())
             }
-            Forwarding::Setting(targets) => {
-                let mut proxy = targets.started(alloc)?;
+            Forwarding::Setting(settings) => {
+                let mut proxy = settings.started(alloc)?;
                 let step = proxy.on_datagram(alloc, now, from, bytes, &draw.draw())?;
                 *self = Forwarding::Running(proxy);
                 Ok(step)
@@ -89,8 +90,8 @@ impl Forwarding {
     {
         match self {
             Forwarding::Running(proxy) => Ok(proxy.on_tick(alloc, now, &draw.draw())),
-            Forwarding::Setting(targets) => {
-                let mut proxy = targets.started(alloc)?;
+            Forwarding::Setting(settings) => {
+                let mut proxy = settings.started(alloc)?;
                 let step = proxy.on_tick(alloc, now, &draw.draw());
                 *self = Forwarding::Running(proxy);
                 Ok(step)
@@ -100,9 +101,9 @@ impl Forwarding {
 }
 
 impl ProxyNode {
-    /// A proxy without targets.
+    /// A proxy without targets, which sends one confirmable message at a time to a peer.
     pub fn new(alloc: Global) -> ProxyNode
-        ensures { result ≡ record { forwarding = Setting []; last = nothing } }
+        ensures { result ≡ record { forwarding = Setting no_settings; last = nothing } }
     {
         ProxyNode {
             forwarding: Forwarding::Setting(Settings::new(alloc)),
@@ -125,10 +126,35 @@ impl ProxyNode {
         ensures { AddsTargetTo (record { host = host.now; port = port; peer = peer_of to.now }) self.old.forwarding self.old result self.new }
     {
         match &mut self.forwarding {
-            Forwarding::Setting(targets) => match targets.add(alloc, host, port, to.peer()) {
+            Forwarding::Setting(settings) => match settings.add(alloc, host, port, to.peer()) {
                 Ok(()) => Outcome::Done,
                 Err(_) => Outcome::NoMemory,
             },
+            Forwarding::Running(_) => Outcome::NotNow,
+        }
+    }
+
+    /// Up to so many confirmable messages of the proxy's own may be outstanding to a peer: `NotNow` after its first event, and `BadArgument` where that
+    /// isn't 1 to 16.
+    pub fn pace(&mut self, most: u8) -> Outcome
+        ensures { Paces most self.old result self.new }
+    {
+        if 1 <= most && most <= 16 {
+            self.pace_by(most)
+        } else {
+            Outcome::BadArgument
+        }
+    }
+
+    fn pace_by(&mut self, most: u8) -> Outcome
+        requires { (1 ≤ most) × (most ≤ 16) }
+        ensures { PacesBy most self.old.forwarding self.old result self.new }
+    {
+        match &mut self.forwarding {
+            Forwarding::Setting(settings) => {
+                settings.pace(most);
+                Outcome::Done
+            }
             Forwarding::Running(_) => Outcome::NotNow,
         }
     }
