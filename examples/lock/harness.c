@@ -5,7 +5,11 @@
  *
  * It is linked with -Wl,--wrap=malloc,--wrap=realloc,--wrap=free, so the three functions below stand before those of the C library. A claim that doesn't
  * hold is a line on stderr, and makes the status 1. */
+#define _POSIX_C_SOURCE 200809L
+
 #include <nozzlefern.h>
+
+#include "moment.h"
 
 #include <inttypes.h>
 #include <stdio.h>
@@ -695,6 +699,7 @@ static void filled_sizes(world *w) {
     FILLED(nzf_served, served, SHORT_SERVED, token, NZF_TOO_SHORT, nzf_device_served(&w->device, &served, bytes, 1))
     FILLED(nzf_served, served, SHORT_SERVED, token, NZF_DONE, nzf_device_served(&w->device, &served, bytes, sizeof bytes))
     request.bytes[2] ^= 0x55;
+    request.bytes[request.length - 1] ^= 1;
     ANSWERS(NZF_DONE, nzf_device_on_datagram(&w->device, w->now, &request.from, request.bytes, request.length, &chosen));
     FILLED(nzf_refused, why, SHORT_REFUSED, has_token, NZF_DONE, nzf_device_refused(&w->device, &why))
 }
@@ -1031,6 +1036,19 @@ static void former_key(world *w) {
     CLAIM(exchange(w, 0) && exchange(w, 1) && asks(w, 0, 1, "/e", "", 0x45) && asks(w, 1, 1, "/e", "", 0x45));
 }
 
+/* The moments of a lock, over readings of its two clocks. */
+static void moments(void) {
+    static const uint64_t START = UINT64_C(1700000000000), MONTH = UINT64_C(30) * 86400000;
+    clocks it = {0};
+    CLAIM(moment_of(&it, START, 500) == START);
+    CLAIM(moment_of(&it, START + MONTH, 600) == START + 100 && moment_of(&it, START + 200, 700) == START + 200);
+    CLAIM(moment_of(&it, START - 3600000, 1500) == START + 1000 && moment_of(&it, START - 3500000, 101500) == START + 101000);
+    CLAIM(moment_of(&it, START + 106500, 102000) == START + 101500 && moment_of(&it, START + MONTH, 150000) == START + 149500);
+    CLAIM(moment_of(&it, START + 163500, 161999) == START + 161499);
+    CLAIM(moment_of(&it, START + 169500, 162000) == START + 163501);
+    CLAIM(moment_of(&it, START, 163000) == START + 164501);
+}
+
 /* Ten seconds after its post a context counts no more, the device's own neither; and that post, in a new message, is known. */
 static void ten_seconds(world *w) {
     uint8_t code = 0xee;
@@ -1273,7 +1291,8 @@ static void served_in_parts(world *w) {
     CLAIM(memcmp(bytes, "/eshutowner", 11) == 0 && bytes[11] == 0xee && is_id(&it.token, "\x01", 1));
 }
 
-/* The same datagram again is answered by the same bytes and not served; under another message ID it is refused. */
+/* The same datagram again is answered by the same bytes and not served; under another message ID by the same sealed payload, and not served either. With
+ * another byte sealed it is refused. */
 static void repeated(world *w, datagram request) {
     size_t served = w->served, refusals = w->refusals;
     datagram first = w->past[(w->sent - 1) % PAST];
@@ -1281,6 +1300,12 @@ static void repeated(world *w, datagram request) {
     datagram second = w->past[(w->sent - 1) % PAST];
     CLAIM(w->served == served && first.length == second.length && memcmp(first.bytes, second.bytes, first.length) == 0);
     request.bytes[2] ^= 0x55;
+    ANSWERS(NZF_DONE, deliver(w, &request));
+    datagram third = w->past[(w->sent - 1) % PAST];
+    CLAIM(w->served == served && w->refusals == refusals && third.length == first.length && third.bytes[2] != first.bytes[2]);
+    CLAIM(memcmp(first.bytes + 4, third.bytes + 4, first.length - 4) == 0);
+    request.bytes[3] ^= 0x55;
+    request.bytes[request.length - 1] ^= 1;
     ANSWERS(NZF_DONE, deliver(w, &request));
     CLAIM(w->served == served && w->refusals == refusals + 1 && w->why.code == 0x81 && w->why.reason == 23);
     w->waiting = 0;
@@ -1473,8 +1498,13 @@ static void targets(world *w) {
     ANSWERS(NZF_DONE, nzf_proxy_add_target(&w->proxy, host, 255, 5683, &to));
     IS_BAD(nzf_proxy_add_target(&w->proxy, host, 256, 5683, &to));
     IS_BAD(nzf_proxy_add_target(&w->proxy, host, 0, 5683, &to));
+    IS_BAD(nzf_proxy_set_outstanding(&w->proxy, 0));
+    IS_BAD(nzf_proxy_set_outstanding(&w->proxy, 17));
+    ANSWERS(NZF_DONE, nzf_proxy_set_outstanding(&w->proxy, 1));
+    ANSWERS(NZF_DONE, nzf_proxy_set_outstanding(&w->proxy, 16));
     CLAIM(exchange(w, 1));
     ANSWERS(NZF_NOT_NOW, nzf_proxy_add_target(&w->proxy, TEXT("yard"), 5683, &to));
+    ANSWERS(NZF_NOT_NOW, nzf_proxy_set_outstanding(&w->proxy, 1));
     ANSWERS(NZF_DONE, nzf_proxy_restart(&w->proxy));
     CLAIM(exchange(w, 1));
 }
@@ -1520,6 +1550,7 @@ static void all_claims(void) {
     in_a_world(not_revoked);
     in_a_world(former_key);
     in_a_world(no_subtrees);
+    moments();
     in_a_world(ten_seconds);
     in_a_world(reading);
     in_a_world(unprotected);

@@ -5,6 +5,7 @@
  * Holders of a token PUT `open` or `shut` at /lock/wanted. The lock moves its bolt, tells how it stands at /lock/actual, and writes each move to /log. */
 #define _POSIX_C_SOURCE 200809L
 #include "lock_settings.h"
+#include "moment.h"
 
 #include <arpa/inet.h>
 #include <errno.h>
@@ -16,7 +17,6 @@
 #include <string.h>
 #include <sys/random.h>
 #include <sys/socket.h>
-#include <time.h>
 #include <unistd.h>
 
 enum { SECOND = 1000, CREATED = 0x41, DELETED = 0x42, CHANGED = 0x44, TOO_LARGE = 0x8d };
@@ -52,14 +52,10 @@ static void complain(const char *what, int32_t number, uint8_t code) {
     fprintf(stderr, "lock: %s: %s, code %d.%02d\n", what, nzf_outcome_text(number), code >> 5, code & 31);
 }
 
-/* Milliseconds since 1970. Where the clock is set back, the last moment stands until the clock has come there again. */
 static uint64_t now(void) {
-    static uint64_t last;
-    struct timespec it;
-    if (clock_gettime(CLOCK_REALTIME, &it) != 0) fail("clock_gettime", strerror(errno));
-    uint64_t moment = it.tv_sec < 0 ? 0 : (uint64_t)it.tv_sec * 1000 + (uint64_t)it.tv_nsec / 1000000;
-    if (moment > last) last = moment;
-    return last;
+    uint64_t moment = 0;
+    if (!read_moment(&moment)) fail("clock_gettime", strerror(errno));
+    return moment;
 }
 
 /* 32 bytes that nobody can guess. Without them the lock stops: it must not go on with bytes that came before. */

@@ -38,7 +38,7 @@ static void add_target(const char *text) {
 
 int main(int count, char **words) {
     if (count < 4) fail("proxy", "say proxy PORT SECONDS HOST:PORT=ADDRESS:PORT ..");
-    if (nzf_proxy_new(&proxy) != NZF_DONE) fail("proxy", "there is no memory");
+    if (nzf_proxy_new(&proxy) != NZF_DONE || nzf_proxy_set_outstanding(&proxy, 16) != NZF_DONE) fail("proxy", "there is no memory");
     for (int at = 3; at < count; at++) add_target(words[at]);
     udp = socket_on((uint16_t)atoi(words[1]));
     printf("listening on port %s\n", words[1]);

@@ -5,6 +5,8 @@
 
 #include <nozzlefern.h>
 
+#include "moment.h"
+
 #include <arpa/inet.h>
 #include <errno.h>
 #include <netinet/in.h>
@@ -14,7 +16,6 @@
 #include <string.h>
 #include <sys/random.h>
 #include <sys/socket.h>
-#include <time.h>
 
 enum { SECOND = 1000 };
 
@@ -23,14 +24,10 @@ static inline void fail(const char *what, const char *why) {
     exit(1);
 }
 
-/* Milliseconds since 1970, which never fall. */
 static inline uint64_t now(void) {
-    static uint64_t last;
-    struct timespec it;
-    if (clock_gettime(CLOCK_REALTIME, &it) != 0) fail("clock_gettime", strerror(errno));
-    uint64_t read = it.tv_sec < 0 ? 0 : (uint64_t)it.tv_sec * 1000 + (uint64_t)it.tv_nsec / 1000000;
-    if (read > last) last = read;
-    return last;
+    uint64_t moment = 0;
+    if (!read_moment(&moment)) fail("clock_gettime", strerror(errno));
+    return moment;
 }
 
 /* Fills these bytes so that nobody can guess them. */
