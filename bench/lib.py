@@ -69,16 +69,16 @@ class Server:
 
 
 class Holder:
-    """Who holds the token of this id with this scope, and asks at this port."""
+    """Who holds the token of this id with this scope, and asks at this port, from a port of its own: any, where it is 0."""
 
-    def __init__(self, folder, port, scope, id="01", secret=SECRET):
+    def __init__(self, folder, port, scope, id="01", secret=SECRET, own=0):
         words = ["--key", KEY, "--aud", "door", "--id", id, "--secret", secret, "--scope", scope, "--for", "1d"]
         self.token = subprocess.run([osc(), "token", *words], capture_output=True, text=True, check=True).stdout.strip()
-        self.config, self.secret = folder / f"{id}.toml", secret
+        self.config, self.secret, self.own = folder / f"{id}.toml", secret, own
         self.asks_at(port)
 
     def asks_at(self, port):
-        self.config.write_text(f'bind = "{HOST}:0"\npeer = "{HOST}:{port}"\ntoken = "{self.token}"\nsecret = "{self.secret}"\n')
+        self.config.write_text(f'bind = "{HOST}:{self.own}"\npeer = "{HOST}:{port}"\ntoken = "{self.token}"\nsecret = "{self.secret}"\n')
 
     def words(self, method, path, *more, timeout=20):
         """The words of a request."""

@@ -590,7 +590,7 @@ static void proxy_worst(void) {
 }
 
 /* What each node may hold at the most, as docs/LIBRARY.md has it: this run comes to within a fiftieth of it, and doesn't pass it. */
-enum { DEVICE_LIMIT = 1730000, CLIENT_LIMIT = 33800, PROXY_LIMIT = 1500000 };
+enum { DEVICE_LIMIT = 1800000, CLIENT_LIMIT = 33800, PROXY_LIMIT = 1500000 };
 
 static void within(const char *who, const heap *of, size_t limit) {
     int holds = of->most <= limit && of->most >= limit - limit / 50;
