@@ -13,7 +13,7 @@ static nzf_device device;
 static nzf_client client;
 static nzf_proxy proxy;
 static uint8_t bytes[DATAGRAM], token[512];
-static size_t length, token_length;
+static nzf_size length, token_length;
 static uint8_t holder;
 static nzf_peer to, client_at = NZF_IPV4(127, 0, 0, 1, 5700);
 
@@ -160,7 +160,7 @@ static void many_contexts(void) {
         post();
         nzf_client_free(&client);
     }
-    printf("%-52s %8zu\n", "for each security context and what is heard of it", (live - before) / (HOLDERS - 3));
+    printf("%-52s %8lu\n", "for each security context and what is heard of it", (unsigned long)((live - before) / (HOLDERS - 3)));
 }
 
 int main(void) {

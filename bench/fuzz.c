@@ -44,7 +44,7 @@ void *__wrap_malloc(size_t size) {
 /* ---- the input */
 
 static const uint8_t *input;
-static size_t left;
+static nzf_size left;
 
 static uint8_t byte(void) {
     if (left == 0) return 0;
@@ -52,8 +52,8 @@ static uint8_t byte(void) {
     return *input++;
 }
 
-static size_t below(size_t bound) {
-    size_t it = byte();
+static nzf_size below(nzf_size bound) {
+    nzf_size it = byte();
     if (bound > 256) it = it << 8 | byte();
     return it % bound;
 }
@@ -82,13 +82,13 @@ enum { WIRE = 32, CLIENTS = 2, ASKED = 256, SERVED = NZF_PATH_MAX + NZF_DATAGRAM
 
 typedef struct datagram {
     nzf_peer from, to;
-    size_t length;
+    nzf_size length;
     uint8_t bytes[NZF_DATAGRAM_MAX];
 } datagram;
 
 typedef struct asked {
     uint8_t method, is_served, client;
-    size_t path_length, payload_length;
+    nzf_size path_length, payload_length;
     uint8_t path[NZF_PATH_MAX], payload[NZF_PAYLOAD_MAX];
 } asked;
 
@@ -97,9 +97,9 @@ static nzf_client clients[CLIENTS];
 static nzf_proxy proxy;
 static uint64_t now;
 static datagram wire[WIRE]; /* what was sent last; the newest is at `sent - 1` */
-static size_t sent;
+static nzf_size sent;
 static asked requests[ASKED];
-static size_t request_count;
+static nzf_size request_count;
 /* what each client has open: nothing, the exchange, or a request, and of a GET whether it may have an answer */
 static uint8_t open_at[CLIENTS];
 
@@ -138,7 +138,7 @@ static void look(view *it) {
     it->numbers[1] = nzf_device_learnt(&device, &it->code);
     it->numbers[2] = nzf_device_served(&device, &it->served, bytes, sizeof bytes);
     it->numbers[3] = nzf_device_refused(&device, &it->refused);
-    for (size_t at = 0; at < 3; at++) {
+    for (nzf_size at = 0; at < 3; at++) {
         it->values[at].size = sizeof it->values[at];
         it->numbers[4 + at] = nzf_device_get(&device, TEXT(PATHS[at]), it->bytes[at], sizeof it->bytes[at], &it->values[at]);
     }
@@ -149,7 +149,7 @@ static int is_etag(const nzf_etag *one, const nzf_etag *other) { return memcmp(o
 
 static int is_same(const view *one, const view *other) {
     int same = memcmp(one->numbers, other->numbers, sizeof one->numbers) == 0 && one->deadline == other->deadline && one->code == other->code;
-    for (size_t at = 0; at < 3; at++)
+    for (nzf_size at = 0; at < 3; at++)
         same = same && one->values[at].format == other->values[at].format && one->values[at].length == other->values[at].length &&
                is_etag(&one->values[at].etag, &other->values[at].etag) && memcmp(one->bytes[at], other->bytes[at], sizeof one->bytes[at]) == 0;
     return same && one->served.number == other->served.number && one->served.method == other->served.method && one->refused.code == other->refused.code;
@@ -159,7 +159,7 @@ static int is_refusal(int32_t number) { return number != NZF_DONE && number != N
 
 /* ---- the wire */
 
-static void put_on_wire(const nzf_peer *from, const nzf_peer *to, const uint8_t *bytes, size_t length) {
+static void put_on_wire(const nzf_peer *from, const nzf_peer *to, const uint8_t *bytes, nzf_size length) {
     datagram *it = &wire[sent++ % WIRE];
     it->from = *from;
     it->to = *to;
@@ -168,16 +168,16 @@ static void put_on_wire(const nzf_peer *from, const nzf_peer *to, const uint8_t 
 }
 
 /* Takes what a node sends. A room that is too short takes nothing, and nothing is written beyond it. */
-static void take_all(int32_t (*next)(void *, nzf_peer *, uint8_t *, size_t, size_t *), void *node, const nzf_peer *from) {
+static void take_all(int32_t (*next)(void *, nzf_peer *, uint8_t *, nzf_size, nzf_size *), void *node, const nzf_peer *from) {
     uint8_t bytes[NZF_DATAGRAM_MAX + 8];
     nzf_peer to;
-    size_t length, count = 0;
+    nzf_size length, count = 0;
     for (;;) {
-        size_t room = byte() % 8 == 1 ? below(NZF_DATAGRAM_MAX) : NZF_DATAGRAM_MAX;
+        nzf_size room = byte() % 8 == 1 ? below(NZF_DATAGRAM_MAX) : NZF_DATAGRAM_MAX;
         memset(bytes, 0xee, sizeof bytes);
         int32_t number = next(node, &to, bytes, room, &length);
         ANSWERS(number, OR(NZF_DONE) | OR(NZF_NOTHING) | OR(NZF_TOO_SHORT));
-        for (size_t at = room; at < sizeof bytes; at++) SHOULD(bytes[at] == 0xee);
+        for (nzf_size at = room; at < sizeof bytes; at++) SHOULD(bytes[at] == 0xee);
         if (number == NZF_NOTHING) return;
         SHOULD(length <= NZF_DATAGRAM_MAX);
         if (number == NZF_TOO_SHORT) {
@@ -190,26 +190,26 @@ static void take_all(int32_t (*next)(void *, nzf_peer *, uint8_t *, size_t, size
     }
 }
 
-static int32_t next_of_device(void *it, nzf_peer *to, uint8_t *bytes, size_t room, size_t *length) {
+static int32_t next_of_device(void *it, nzf_peer *to, uint8_t *bytes, nzf_size room, nzf_size *length) {
     return nzf_device_next((nzf_device *)it, to, bytes, room, length);
 }
 
-static int32_t next_of_client(void *it, nzf_peer *to, uint8_t *bytes, size_t room, size_t *length) {
+static int32_t next_of_client(void *it, nzf_peer *to, uint8_t *bytes, nzf_size room, nzf_size *length) {
     return nzf_client_next((nzf_client *)it, to, bytes, room, length);
 }
 
-static int32_t next_of_proxy(void *it, nzf_peer *to, uint8_t *bytes, size_t room, size_t *length) {
+static int32_t next_of_proxy(void *it, nzf_peer *to, uint8_t *bytes, nzf_size room, nzf_size *length) {
     return nzf_proxy_next((nzf_proxy *)it, to, bytes, room, length);
 }
 
 /* ---- what the device tells of a step */
 
-/* The size of an answer's struct whose last members are left out: `end` is where they begin, and a size_t its alignment. */
-#define SHORT(type, end) ((offsetof(type, end) + sizeof(size_t) - 1) / sizeof(size_t) * sizeof(size_t))
+/* The size of an answer's struct whose last members are left out: `end` is where they begin, and 8 its alignment. */
+#define SHORT(type, end) ((offsetof(type, end) + sizeof(uint64_t) - 1) / sizeof(uint64_t) * sizeof(uint64_t))
 
 /* The same is told to a shorter struct, and what that leaves out is not written; one of another size gets nothing. */
-static void served_in_short(const nzf_served *told, uint8_t *bytes, size_t room) {
-    static const size_t SHORTER = SHORT(nzf_served, token);
+static void served_in_short(const nzf_served *told, uint8_t *bytes, nzf_size room) {
+    static const nzf_size SHORTER = SHORT(nzf_served, token);
     nzf_served it, before, *alone = (nzf_served *)malloc(SHORTER);
     memset(&it, 0xee, sizeof it);
     it.size = SHORTER;
@@ -252,7 +252,7 @@ static void act_on_served(void) {
     int32_t number = nzf_device_served(&device, &it, bytes, sizeof bytes);
     ANSWERS(number, OR(NZF_DONE) | OR(NZF_NOTHING));
     if (number == NZF_DONE) {
-        size_t at = 0, whole = it.path_length + it.payload_length + it.context_length;
+        nzf_size at = 0, whole = it.path_length + it.payload_length + it.context_length;
         SHOULD(it.method <= 4 && it.path_length <= NZF_PATH_MAX && it.payload_length <= NZF_DATAGRAM_MAX && it.context_length <= NZF_CONTEXT_MAX);
         while (at < request_count && !is_of(&requests[at], &it, bytes)) at++;
         SHOULD(at < request_count);
@@ -279,7 +279,7 @@ static void act_on_served(void) {
 }
 
 /* What a client learns: only what it has open can end. */
-static void act_on_client(size_t at) {
+static void act_on_client(nzf_size at) {
     nzf_result it = NZF_RESULT;
     uint8_t payload[NZF_DATAGRAM_MAX];
     unsigned kept = refuse_in;
@@ -319,7 +319,7 @@ static void to_proxy(const datagram *it) {
     if (number == NZF_DONE) take_all(next_of_proxy, &proxy, &PROXY);
 }
 
-static void to_client(size_t at, const datagram *it) {
+static void to_client(nzf_size at, const datagram *it) {
     int32_t number = nzf_client_on_datagram(&clients[at], now, &it->from, it->bytes, it->length);
     ANSWERS(number, OR(NZF_DONE) | (has_refused ? OR(NZF_NO_MEMORY) : 0));
     if (number != NZF_DONE) return;
@@ -336,11 +336,11 @@ static void deliver(const datagram *it) {
     if (is_at(&it->to, &DEVICE)) to_device(it);
     else if (is_at(&it->to, &PROXY)) to_proxy(it);
     else
-        for (size_t at = 0; at < CLIENTS; at++)
+        for (nzf_size at = 0; at < CLIENTS; at++)
             if (is_at(&it->to, &AT[at])) to_client(at, it);
 }
 
-static datagram of_wire(size_t back) {
+static datagram of_wire(nzf_size back) {
     datagram it;
     memset(&it, 0, sizeof it);
     it.from = STRANGER;
@@ -363,18 +363,18 @@ static void deliver_altered(void) {
 static void deliver_raw(void) {
     datagram it;
     memset(&it, 0, sizeof it);
-    size_t who = below(5);
+    nzf_size who = below(5);
     it.from = who == 0 ? STRANGER : who == 1 ? DEVICE : who == 2 ? PROXY : AT[who - 3];
     who = below(4);
     it.to = who == 0 ? DEVICE : who == 1 ? PROXY : AT[who - 2];
     it.length = below(byte() == 0 ? NZF_DATAGRAM_MAX + 1 : 64);
-    for (size_t at = 0; at < it.length; at++) it.bytes[at] = byte();
+    for (nzf_size at = 0; at < it.length; at++) it.bytes[at] = byte();
     deliver(&it);
 }
 
 /* ---- what clients begin */
 
-static void exchange(size_t at) {
+static void exchange(nzf_size at) {
     nzf_draw random = draw();
     has_refused = 0;
     int32_t number = nzf_client_exchange(&clients[at], now, &random);
@@ -387,7 +387,7 @@ static void exchange(size_t at) {
     take_all(next_of_client, &clients[at], &AT[at]);
 }
 
-static void ask(size_t at) {
+static void ask(nzf_size at) {
     nzf_draw random = draw();
     nzf_request request = NZF_REQUEST;
     asked *it = &requests[request_count % ASKED];
@@ -404,7 +404,7 @@ static void ask(size_t at) {
     it->path_length = strlen(path);
     memcpy(it->path, path, it->path_length);
     it->payload_length = below(byte() % 8 == 0 ? sizeof it->payload + 1 : 16);
-    for (size_t next = 0; next < it->payload_length; next++) it->payload[next] = byte();
+    for (nzf_size next = 0; next < it->payload_length; next++) it->payload[next] = byte();
     request.method = it->method;
     request.path = nzf_text(path);
     request.payload = nzf_bytes_of(it->payload, it->payload_length);
@@ -428,7 +428,7 @@ static void own_call(void) {
     nzf_draws draws = two_draws();
     const char *path = PATHS[below(sizeof PATHS / sizeof *PATHS)];
     uint8_t payload[600], code = 0xee, id[80];
-    size_t length = below(byte() % 8 == 0 ? sizeof payload : 16), id_length = byte() % 16 == 0 ? below(sizeof id) : below(3);
+    nzf_size length = below(byte() % 8 == 0 ? sizeof payload : 16), id_length = byte() % 16 == 0 ? below(sizeof id) : below(3);
     int32_t number = 0;
     nzf_resource resource = NZF_RESOURCE;
     uint64_t set = OR(NZF_DONE) | OR(NZF_UNVERIFIED) | OR(NZF_BUSY) | OR(NZF_BAD_ARGUMENT);
@@ -463,7 +463,7 @@ static void own_call(void) {
 
 static void pass(void) {
     static const uint64_t BY[] = {1, 250, 1000, 3000, 10000, 100000, 300000, 4000000};
-    size_t who = below(4);
+    nzf_size who = below(4);
     nzf_draw random = draw();
     uint64_t due = 0;
     int32_t number;
@@ -490,7 +490,7 @@ static void pass(void) {
 }
 
 static void restart(void) {
-    size_t who = below(4);
+    nzf_size who = below(4);
     has_refused = 0;
     if (who == 0) ANSWERS(nzf_device_restart(&device), OR(NZF_DONE) | (has_refused ? OR(NZF_NO_MEMORY) : 0));
     else if (who == 1) ANSWERS(nzf_proxy_restart(&proxy), OR(NZF_DONE) | (has_refused ? OR(NZF_NO_MEMORY) : 0));
@@ -534,9 +534,9 @@ static void make_device(void) {
     SHOULD(nzf_device_new(&device, &settings, &random) == NZF_DONE);
 }
 
-static void make_client(size_t at) {
+static void make_client(nzf_size at) {
     uint8_t token[NZF_DATAGRAM_MAX], secret[16], id = (uint8_t)('a' + at);
-    size_t length = 0;
+    nzf_size length = 0;
     nzf_claims claims = NZF_CLAIMS;
     nzf_client_settings settings = NZF_CLIENT_SETTINGS;
     memset(secret, (int)at + 1, sizeof secret);
@@ -566,7 +566,7 @@ static void make(void) {
     refuse_in = 0;
     memset(open_at, 0, sizeof open_at);
     make_device();
-    for (size_t at = 0; at < CLIENTS; at++) make_client(at);
+    for (nzf_size at = 0; at < CLIENTS; at++) make_client(at);
     SHOULD(nzf_proxy_new(&proxy) == NZF_DONE);
     SHOULD(nzf_proxy_add_target(&proxy, TEXT("fuzz"), 5683, &DEVICE) == NZF_DONE);
 }
@@ -600,15 +600,15 @@ static void one_call(void) {
     }
 }
 
-int LLVMFuzzerTestOneInput(const uint8_t *data, size_t size);
+int LLVMFuzzerTestOneInput(const uint8_t *data, nzf_size size);
 
-int LLVMFuzzerTestOneInput(const uint8_t *data, size_t size) {
+int LLVMFuzzerTestOneInput(const uint8_t *data, nzf_size size) {
     input = data;
     left = size;
     make();
     while (left > 0) one_call();
     nzf_device_free(&device);
-    for (size_t at = 0; at < CLIENTS; at++) nzf_client_free(&clients[at]);
+    for (nzf_size at = 0; at < CLIENTS; at++) nzf_client_free(&clients[at]);
     nzf_proxy_free(&proxy);
     SHOULD(nzf_heap_used() == 0);
     return 0;
@@ -622,7 +622,7 @@ int main(int count, char **words) {
     uint64_t runs = count > 1 ? strtoull(words[1], NULL, 10) : 1000, state = count > 2 ? strtoull(words[2], NULL, 10) : 1, served = 0, asked_for = 0;
     if (state == 0) state = 1;
     for (uint64_t run = 0; run < runs; run++) {
-        size_t length = 0;
+        nzf_size length = 0;
         if (run % 4 != 0) memcpy(bytes, FIRST, length = sizeof FIRST);
         do {
             state ^= state >> 12, state ^= state << 25, state ^= state >> 27;
@@ -630,7 +630,7 @@ int main(int count, char **words) {
         } while (length < sizeof bytes && (state & 511) != 0);
         LLVMFuzzerTestOneInput(bytes, length);
         asked_for += request_count;
-        for (size_t at = 0; at < request_count; at++) served += requests[at].is_served;
+        for (nzf_size at = 0; at < request_count; at++) served += requests[at].is_served;
     }
     printf("fuzz: %llu runs, %llu requests asked, %llu of them served\n", (unsigned long long)runs, (unsigned long long)asked_for, (unsigned long long)served);
     return 0;

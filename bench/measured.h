@@ -5,7 +5,12 @@
 #include <stdio.h>
 #include <stdlib.h>
 #include <string.h>
+
+#if defined(__ARM_ARCH_PROFILE) && __ARM_ARCH_PROFILE == 'M'
+#define IS_BARE
+#else
 #include <ucontext.h>
+#endif
 
 void *__real_malloc(size_t size);
 void *__real_realloc(void *block, size_t size);
@@ -33,7 +38,13 @@ static max_align_t mark_block[MARK / sizeof(max_align_t) + 1];
 static void *at_mark(void);
 #endif
 
-enum { STACK = 4 << 20, PAINT = 0xa5 };
+#ifdef IS_BARE
+enum { STACK = 1 << 20 };
+#else
+enum { STACK = 4 << 20 };
+#endif
+
+enum { PAINT = 0xa5 };
 static uint8_t stack[STACK] __attribute__((aligned(64)));
 
 /* How many blocks are taken when the stack is painted again, where that is asked. */
@@ -90,10 +101,33 @@ void *__wrap_realloc(void *bytes, size_t size) {
     return block + 1;
 }
 
+#ifdef IS_BARE
+
+/* Calls it on the stack that ends there; no interrupt writes to it meanwhile. */
+static __attribute__((naked, noinline)) void call_on(void *top, void (*of)(void)) {
+    (void)top;
+    (void)of;
+    __asm__ volatile("push {r4, lr}\n mov r4, sp\n cpsid i\n mov sp, r0\n blx r1\n mov sp, r4\n cpsie i\n pop {r4, pc}");
+}
+
+#else
+
 static ucontext_t outside, inside;
 static void (*called)(void);
 
 static void call(void) { called(); }
+
+static void call_on(void *top, void (*of)(void)) {
+    called = of;
+    getcontext(&inside);
+    inside.uc_stack.ss_sp = stack;
+    inside.uc_stack.ss_size = (size_t)((uint8_t *)top - stack);
+    inside.uc_link = &outside;
+    makecontext(&inside, call, 0);
+    swapcontext(&outside, &inside);
+}
+
+#endif
 
 /* What a call left held, what it held at the most beyond what was held before, and how much of the stack it wrote. */
 typedef struct {
@@ -102,15 +136,9 @@ typedef struct {
 
 static need need_of(void (*of)(void)) {
     memset(stack, PAINT, STACK);
-    called = of;
     size_t before = live;
     peak = live;
-    getcontext(&inside);
-    inside.uc_stack.ss_sp = stack;
-    inside.uc_stack.ss_size = STACK;
-    inside.uc_link = &outside;
-    makecontext(&inside, call, 0);
-    swapcontext(&outside, &inside);
+    call_on(stack + STACK, of);
     size_t clean = 0;
     while (clean < STACK && stack[clean] == PAINT) clean++;
     need it = {live - before, peak - before, STACK - clean};
@@ -123,6 +151,6 @@ static void nothing(void) {}
 static need row(const char *what, void (*of)(void)) {
     size_t empty = need_of(nothing).deep;
     need it = need_of(of);
-    printf("%-52s %8td %8zu %8zu\n", what, (ptrdiff_t)it.left, it.most, it.deep - empty);
+    printf("%-52s %8ld %8lu %8lu\n", what, (long)it.left, (unsigned long)it.most, (unsigned long)(it.deep - empty));
     return it;
 }

@@ -7,13 +7,13 @@
 
 void osc_secrets_encrypt(const uint8_t *key, uint8_t *block);
 void osc_secrets_encrypt_two(const uint8_t *key, uint8_t *one, uint8_t *other);
-size_t osc_secrets_seal(const uint8_t *key, const uint8_t *nonce, const uint8_t *aad, size_t aad_length, const uint8_t *text,
-                        size_t text_length, uint8_t *out, size_t room);
-size_t osc_secrets_open(const uint8_t *key, const uint8_t *nonce, const uint8_t *aad, size_t aad_length,
-                        const uint8_t *sealed, size_t sealed_length, uint8_t *out, size_t room);
-void osc_secrets_hmac(const uint8_t *key, size_t key_length, const uint8_t *text, size_t text_length, uint8_t *out);
-uint8_t osc_secrets_hkdf(const uint8_t *salt, size_t salt_length, const uint8_t *ikm, size_t ikm_length,
-                         const uint8_t *info, size_t info_length, uint8_t *out, size_t out_length);
+uint64_t osc_secrets_seal(const uint8_t *key, const uint8_t *nonce, const uint8_t *aad, uint64_t aad_length, const uint8_t *text,
+                        uint64_t text_length, uint8_t *out, uint64_t room);
+uint64_t osc_secrets_open(const uint8_t *key, const uint8_t *nonce, const uint8_t *aad, uint64_t aad_length,
+                        const uint8_t *sealed, uint64_t sealed_length, uint8_t *out, uint64_t room);
+void osc_secrets_hmac(const uint8_t *key, uint64_t key_length, const uint8_t *text, uint64_t text_length, uint8_t *out);
+uint8_t osc_secrets_hkdf(const uint8_t *salt, uint64_t salt_length, const uint8_t *ikm, uint64_t ikm_length,
+                         const uint8_t *info, uint64_t info_length, uint8_t *out, uint64_t out_length);
 
 typedef struct bytes {
     uint8_t at[192];

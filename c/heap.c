@@ -15,21 +15,21 @@
 #include "nozzlefern_heap.h"
 
 /* What the first two functions answer: whether there is memory, and the block. Where there is none the pointer points to a byte that is kept
- * here, and nothing may be read or written there. */
+ * here, and nothing may be read or written there. The nodes' sizes have 64 bits on each machine. */
 typedef struct tried {
     bool ok;
     void *block;
 } tried;
 
-tried rattle_alloc(size_t size, size_t align);
-tried rattle_realloc(void *block, size_t kept, size_t size, size_t align);
+tried rattle_alloc(uint64_t size, uint64_t align);
+tried rattle_realloc(void *block, uint64_t kept, uint64_t size, uint64_t align);
 void rattle_dealloc(void *block);
 
 #define HEAD 16
 
 typedef struct head {
     size_t size; /* of the block, without its head */
-    size_t used; /* of a pool: whether it is in use */
+    size_t used; /* of a pool: whether it is in use; else what malloc gave */
 } head;
 
 static char nowhere;
@@ -135,32 +135,38 @@ static bool is_resized(head *it, size_t size) {
 
 #include <stdlib.h>
 
+/* How far malloc's blocks may be from an alignment of 16: with 32 bits by 8, else not at all. */
+#define SLACK ((HEAD - _Alignof(max_align_t) % HEAD) % HEAD)
+
 static head *take(size_t size) {
-    head *it = malloc(HEAD + size);
-    if (it != NULL) it->size = size;
+    unsigned char *given = malloc(HEAD + size + SLACK);
+    if (given == NULL) return NULL;
+    head *it = (head *)(void *)(given + (SLACK == 0 ? 0 : (HEAD - (uintptr_t)given % HEAD) % HEAD));
+    it->size = size;
+    if (SLACK != 0) it->used = (size_t)given;
     return it;
 }
 
-static void give_back(head *it) { free(it); }
+static void give_back(head *it) { free(SLACK == 0 ? (void *)it : (void *)it->used); }
 
 static bool is_resized(head *it, size_t size) { return it->size == size; }
 
 #endif
 
-tried rattle_alloc(size_t size, size_t align) {
+tried rattle_alloc(uint64_t size, uint64_t align) {
     (void)align;
     if (size > SIZE_MAX / 2) return no_memory();
-    head *it = take(rounded(size));
+    head *it = take(rounded((size_t)size));
     if (it == NULL) return no_memory();
     count(it->size, 0);
     tried made = {true, block_of(it)};
     return made;
 }
 
-tried rattle_realloc(void *block, size_t kept, size_t size, size_t align) {
+tried rattle_realloc(void *block, uint64_t kept, uint64_t size, uint64_t align) {
     head *it = head_of(block);
     size_t before = it->size;
-    size_t wanted = rounded(size);
+    size_t wanted = rounded((size_t)size);
     (void)align;
     if (size > SIZE_MAX / 2) return no_memory();
     if (wanted < before) clear((unsigned char *)block + wanted, before - wanted);
@@ -175,7 +181,7 @@ tried rattle_realloc(void *block, size_t kept, size_t size, size_t align) {
         tried same = {wanted <= before, wanted <= before ? block : &nowhere};
         return same;
     }
-    memcpy(block_of(moved), block, kept);
+    memcpy(block_of(moved), block, (size_t)kept);
     count(moved->size, before);
     clear(block, before);
     give_back(it);

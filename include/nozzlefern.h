@@ -69,6 +69,17 @@ uint32_t nzf_version(void);
 
 #define NZF_ABI 1
 
+/* ---- how wide an address is for the library: a header of another library is refused; and a size, as each call takes it. The library for 32 bits has sizes of
+ * 64 bits, too: then nzf_size is uint64_t. */
+
+#define NZF_BITS 64
+
+#if UINTPTR_MAX >> (NZF_BITS - 1) != 1
+#error "nozzlefern.h is for another width of addresses: take the header of the library that is linked"
+#endif
+
+typedef size_t nzf_size;
+
 /* ---- what calls answer */
 
 typedef enum nzf_outcome {

@@ -16,13 +16,13 @@ void *__wrap_malloc(size_t size) {
     return NULL;
 }
 
-int32_t __real_nzf_device_served(const nzf_device *of, nzf_served *served, void *bytes, size_t room);
-int32_t __wrap_nzf_device_served(const nzf_device *of, nzf_served *served, void *bytes, size_t room);
+int32_t __real_nzf_device_served(const nzf_device *of, nzf_served *served, void *bytes, nzf_size room);
+int32_t __wrap_nzf_device_served(const nzf_device *of, nzf_served *served, void *bytes, nzf_size room);
 
 /* Whether the lock is told nothing. */
 static int is_mute;
 
-int32_t __wrap_nzf_device_served(const nzf_device *of, nzf_served *served, void *bytes, size_t room) {
+int32_t __wrap_nzf_device_served(const nzf_device *of, nzf_served *served, void *bytes, nzf_size room) {
     return is_mute ? NZF_TOO_SHORT : __real_nzf_device_served(of, served, bytes, room);
 }
 
@@ -44,7 +44,7 @@ static nzf_client holder;
 
 static int is_granted(void) {
     uint8_t token[512];
-    size_t length;
+    nzf_size length;
     nzf_claims claims = NZF_CLAIMS;
     nzf_client_settings it = NZF_CLIENT_SETTINGS;
     claims.key = LOCK_KEY;
@@ -63,7 +63,7 @@ static int is_granted(void) {
 static int32_t arrives(void) {
     nzf_peer to;
     uint8_t bytes[NZF_DATAGRAM_MAX];
-    size_t length;
+    nzf_size length;
     nzf_draw it = draw();
     if (nzf_client_next(&holder, &to, bytes, sizeof bytes, &length) != NZF_DONE) return NZF_NOTHING;
     return nzf_device_on_datagram(&device, now(), &HERE, bytes, length, &it);
@@ -73,7 +73,7 @@ static int32_t arrives(void) {
 static int is_answered(void) {
     nzf_peer to;
     uint8_t bytes[NZF_DATAGRAM_MAX];
-    size_t length;
+    nzf_size length;
     return nzf_device_next(&device, &to, bytes, sizeof bytes, &length) == NZF_DONE
         && nzf_client_on_datagram(&holder, now(), &DOOR, bytes, length) == NZF_DONE;
 }

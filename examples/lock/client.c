@@ -17,7 +17,7 @@ static int udp;
 static void send_all(void) {
     nzf_peer to;
     uint8_t bytes[NZF_DATAGRAM_MAX];
-    size_t length;
+    nzf_size length;
     while (nzf_client_next(&client, &to, bytes, sizeof bytes, &length) == NZF_DONE) send_to(udp, &to, bytes, length);
 }
 
@@ -28,7 +28,7 @@ static nzf_result result(uint8_t payload[NZF_DATAGRAM_MAX]) {
     send_all();
     while ((number = nzf_client_result(&client, &it, payload, NZF_DATAGRAM_MAX)) == NZF_NOTHING) {
         uint8_t bytes[NZF_DATAGRAM_MAX + 1];
-        size_t length;
+        nzf_size length;
         nzf_peer from;
         uint64_t due;
         uint64_t until = nzf_client_next_deadline(&client, &due) == NZF_DONE && due < now() + SECOND ? due : now() + SECOND;
@@ -46,7 +46,7 @@ static void make(const char *hop, const char *scope) {
     const char *equals = strchr(hop, '=');
     uint8_t secret[16], token[NZF_DATAGRAM_MAX];
     char next[64] = "";
-    size_t length = 0, host_length = 0, hop_length = equals == NULL ? strlen(hop) : (size_t)(equals - hop);
+    nzf_size length = 0, host_length = 0, hop_length = equals == NULL ? strlen(hop) : (nzf_size)(equals - hop);
     nzf_claims claims = NZF_CLAIMS;
     nzf_client_settings settings = NZF_CLIENT_SETTINGS;
     fill(secret, sizeof secret);

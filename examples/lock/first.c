@@ -10,7 +10,7 @@ int main(void) {
     nzf_peer from = nzf_ipv4(127, 0, 0, 1, 5700), to;
     const uint8_t get[] = {0x40, 0x01, 0x00, 0x01, 0xb1, 'e'}; /* a confirmable GET of /e */
     uint8_t bytes[NZF_DATAGRAM_MAX], four[4], code;
-    size_t length;
+    nzf_size length;
 
     settings.key.bytes[0] = 1;
     settings.audience = nzf_text("door");

@@ -28,7 +28,7 @@ void *__wrap_realloc(void *block, size_t size);
 void __wrap_free(void *block);
 
 /* `taken` counts what was asked for since the plan was made: the block of the number `refuse` is refused, and with `again` each multiple of it, too. */
-static size_t held, taken, refuse, again, refused;
+static nzf_size held, taken, refuse, again, refused;
 
 static int is_refused(void) {
     taken++;
@@ -55,7 +55,7 @@ void __wrap_free(void *block) {
     __real_free(block);
 }
 
-static void plan(size_t at, size_t always) {
+static void plan(nzf_size at, nzf_size always) {
     refuse = at;
     again = always;
     taken = refused = 0;
@@ -63,7 +63,7 @@ static void plan(size_t at, size_t always) {
 
 /* ---- claims */
 
-static size_t claims, broken;
+static nzf_size claims, broken;
 
 static void claim_at(int holds, const char *what, int line) {
     claims++;
@@ -103,8 +103,8 @@ static const int32_t NUMBERS[] = {NZF_DONE,      NZF_TOO_SHORT, NZF_NO_MEMORY, N
                                   NZF_BAD_SCOPE, NZF_NOTHING,   NZF_LOST,      NZF_BAD_ARGUMENT, NZF_NOT_NOW, NZF_UNVERIFIED,
                                   NZF_REFUSED};
 
-/* The size of a struct without its last members: `first` is the first of these, and a size_t is what the struct is aligned for. */
-#define SHORT(type, first) ((offsetof(type, first) + sizeof(size_t) - 1) / sizeof(size_t) * sizeof(size_t))
+/* The size of a struct without its last members: `first` is the first of these, and a nzf_size is what the struct is aligned for. */
+#define SHORT(type, first) ((offsetof(type, first) + sizeof(nzf_size) - 1) / sizeof(nzf_size) * sizeof(nzf_size))
 
 enum {
     SHORT_VALUE = SHORT(nzf_value, etag),
@@ -114,7 +114,7 @@ enum {
 };
 
 static int is_a_number(int32_t number) {
-    for (size_t at = 0; at < sizeof NUMBERS / sizeof NUMBERS[0]; at++)
+    for (nzf_size at = 0; at < sizeof NUMBERS / sizeof NUMBERS[0]; at++)
         if (NUMBERS[at] == number) return 1;
     return 0;
 }
@@ -130,11 +130,11 @@ static uint64_t chance(void) {
     return state * UINT64_C(2685821657736338717);
 }
 
-static size_t below(size_t bound) { return (size_t)(chance() >> 33) % bound; }
+static nzf_size below(nzf_size bound) { return (nzf_size)(chance() >> 33) % bound; }
 
 static nzf_draw draw(void) {
     nzf_draw it;
-    for (size_t at = 0; at < sizeof it.bytes; at++) it.bytes[at] = (uint8_t)below(256);
+    for (nzf_size at = 0; at < sizeof it.bytes; at++) it.bytes[at] = (uint8_t)below(256);
     return it;
 }
 
@@ -146,8 +146,8 @@ static nzf_draws two_draws(void) {
 }
 
 /* A struct's size, or a shorter one that it may have, or one that it may not. */
-static size_t some_size(size_t whole, size_t shorter) {
-    size_t which = below(8), other = below(2 * whole);
+static nzf_size some_size(nzf_size whole, nzf_size shorter) {
+    nzf_size which = below(8), other = below(2 * whole);
     return which == 0 ? other : which < 3 ? shorter : whole;
 }
 
@@ -158,7 +158,7 @@ enum { DEVICE_PORT = 5683, PROXY_PORT = 5690, CLIENT_PORT = 5700, STRANGER_PORT 
 
 typedef struct datagram {
     nzf_peer from, to;
-    size_t length;
+    nzf_size length;
     uint8_t bytes[ROOM];
 } datagram;
 
@@ -169,14 +169,14 @@ typedef struct world {
     uint64_t now;
     nzf_result results[CLIENTS]; /* what each client learnt last, and its payload; `what` is 0 for nothing */
     uint8_t learnt[CLIENTS][ROOM];
-    size_t served, refusals; /* how many requests the device told of; the last one: */
+    nzf_size served, refusals; /* how many requests the device told of; the last one: */
     nzf_served last;
     nzf_refused why;
     uint8_t path[300], payload[ROOM], context[64];
     datagram queue[QUEUE]; /* what is on its way */
-    size_t waiting;
+    nzf_size waiting;
     datagram past[PAST]; /* what was sent, by turns */
-    size_t sent;
+    nzf_size sent;
 } world;
 
 static const nzf_key KEY = {{1, 2, 3, 4, 5, 6, 7, 8, 9, 10, 11, 12, 13, 14, 15, 16}};
@@ -251,7 +251,7 @@ static int32_t new_device_with(nzf_device *device) {
     return device_with(device, &its, "/gone", "/e:GET+PUT,/gone:PUT+DELETE+SUB");
 }
 
-static int is_id(const nzf_id *it, const void *bytes, size_t length) {
+static int is_id(const nzf_id *it, const void *bytes, nzf_size length) {
     static const uint8_t none[NZF_ID_MAX] = {0};
     return it->length == length && memcmp(it->bytes, bytes, length) == 0 && memcmp(it->bytes + length, none, sizeof it->bytes - length) == 0;
 }
@@ -270,7 +270,7 @@ static const char SCOPE[] = "/e:GET+PUT,/log:GET+POST+DELETE";
 static const char *granted = SCOPE;
 
 /* Mints the token of one of the clients. */
-static int32_t mint_under(const nzf_key *key, size_t client, uint8_t *token, size_t room, size_t *length) {
+static int32_t mint_under(const nzf_key *key, nzf_size client, uint8_t *token, nzf_size room, nzf_size *length) {
     nzf_claims it = NZF_CLAIMS;
     uint8_t id = (uint8_t)(client + 1);
     it.key = *key;
@@ -285,11 +285,11 @@ static int32_t mint_under(const nzf_key *key, size_t client, uint8_t *token, siz
     return nzf_token_mint(&it, token, room, length);
 }
 
-static int32_t mint(size_t client, uint8_t *token, size_t room, size_t *length) { return mint_under(&KEY, client, token, room, length); }
+static int32_t mint(nzf_size client, uint8_t *token, nzf_size room, nzf_size *length) { return mint_under(&KEY, client, token, room, length); }
 
-static int32_t new_client_under(const nzf_key *key, nzf_client *client, size_t which) {
+static int32_t new_client_under(const nzf_key *key, nzf_client *client, nzf_size which) {
     uint8_t token[512];
-    size_t length = 0;
+    nzf_size length = 0;
     nzf_client_settings it = NZF_CLIENT_SETTINGS;
     int32_t number = mint_under(key, which, token, sizeof token, &length);
     if (number != NZF_DONE) return number;
@@ -304,7 +304,7 @@ static int32_t new_client_under(const nzf_key *key, nzf_client *client, size_t w
     return nzf_client_new(client, &it);
 }
 
-static int32_t new_client(nzf_client *client, size_t which) { return new_client_under(&KEY, client, which); }
+static int32_t new_client(nzf_client *client, nzf_size which) { return new_client_under(&KEY, client, which); }
 
 static int32_t new_proxy(nzf_proxy *proxy) {
     nzf_peer to = peer(DEVICE_PORT);
@@ -315,7 +315,7 @@ static int32_t new_proxy(nzf_proxy *proxy) {
 static void free_world(world *w) {
     nzf_device_free(&w->device);
     nzf_proxy_free(&w->proxy);
-    for (size_t at = 0; at < CLIENTS; at++) nzf_client_free(&w->clients[at]);
+    for (nzf_size at = 0; at < CLIENTS; at++) nzf_client_free(&w->clients[at]);
 }
 
 static int make_world(world *w) {
@@ -323,7 +323,7 @@ static int make_world(world *w) {
     w->now = UINT64_C(1700000000000);
     NEEDS(new_device(&w->device) == NZF_DONE);
     NEEDS(new_proxy(&w->proxy) == NZF_DONE);
-    for (size_t at = 0; at < CLIENTS; at++) NEEDS(new_client(&w->clients[at], at) == NZF_DONE);
+    for (nzf_size at = 0; at < CLIENTS; at++) NEEDS(new_client(&w->clients[at], at) == NZF_DONE);
     return 1;
 }
 
@@ -360,7 +360,7 @@ static void act_on_proxy(world *w) {
     while (nzf_proxy_next(&w->proxy, &it.to, it.bytes, sizeof it.bytes, &it.length) == NZF_DONE) keep(w, PROXY_PORT, &it);
 }
 
-static void act_on_client(world *w, size_t at) {
+static void act_on_client(world *w, nzf_size at) {
     datagram it;
     nzf_client *client = &w->clients[at];
     while (nzf_client_next(client, &it.to, it.bytes, sizeof it.bytes, &it.length) == NZF_DONE) keep(w, (uint16_t)(CLIENT_PORT + at), &it);
@@ -379,7 +379,7 @@ static int32_t deliver(world *w, const datagram *it) {
         number = nzf_proxy_on_datagram(&w->proxy, w->now, &it->from, it->bytes, it->length, &chosen);
         act_on_proxy(w);
     } else if (to >= CLIENT_PORT && to < CLIENT_PORT + CLIENTS) {
-        size_t at = to - CLIENT_PORT;
+        nzf_size at = to - CLIENT_PORT;
         number = nzf_client_on_datagram(&w->clients[at], w->now, &it->from, it->bytes, it->length);
         act_on_client(w, at);
     }
@@ -388,7 +388,7 @@ static int32_t deliver(world *w, const datagram *it) {
 
 /* Delivers what is on its way until nothing is. Whether each step was done. */
 static int quiet(world *w) {
-    for (size_t turn = 0; w->waiting > 0 && turn < 100; turn++) {
+    for (nzf_size turn = 0; w->waiting > 0 && turn < 100; turn++) {
         datagram first = w->queue[0];
         memmove(w->queue, w->queue + 1, --w->waiting * sizeof(datagram));
         int32_t number = deliver(w, &first);
@@ -400,7 +400,7 @@ static int quiet(world *w) {
 
 /* ---- calls in that world */
 
-static int exchange(world *w, size_t at) {
+static int exchange(world *w, nzf_size at) {
     nzf_draw it = draw();
     w->results[at].what = 0;
     NEEDS(nzf_client_exchange(&w->clients[at], w->now, &it) == NZF_DONE);
@@ -410,7 +410,7 @@ static int exchange(world *w, size_t at) {
     return 1;
 }
 
-static int32_t ask(world *w, size_t at, uint8_t method, const char *path, const char *payload) {
+static int32_t ask(world *w, nzf_size at, uint8_t method, const char *path, const char *payload) {
     nzf_draw it = draw();
     nzf_request asked = NZF_REQUEST;
     asked.method = method;
@@ -423,7 +423,7 @@ static int32_t ask(world *w, size_t at, uint8_t method, const char *path, const 
 }
 
 /* Asks, and is answered this. */
-static int asks(world *w, size_t at, uint8_t method, const char *path, const char *payload, uint8_t code) {
+static int asks(world *w, nzf_size at, uint8_t method, const char *path, const char *payload, uint8_t code) {
     NEEDS(ask(w, at, method, path, payload) == NZF_DONE);
     NEEDS(quiet(w));
     NEEDS(w->results[at].what == NZF_RESULT_ANSWER);
@@ -459,13 +459,13 @@ static int written(world *w, uint8_t method, const char *path, const char *paylo
 }
 
 /* `revoke`, and else `allow`. */
-static int32_t revokes(world *w, int revoke, const void *id, size_t length, uint8_t *code) {
+static int32_t revokes(world *w, int revoke, const void *id, nzf_size length, uint8_t *code) {
     nzf_draws draws = two_draws();
     return (revoke ? nzf_device_revoke : nzf_device_allow)(&w->device, w->now, id, length, &draws, code);
 }
 
 /* The device revokes the token of one of the clients, or lets it in again, and is answered this. */
-static int revoked(world *w, int revoke, size_t client, uint8_t wanted) {
+static int revoked(world *w, int revoke, nzf_size client, uint8_t wanted) {
     uint8_t id = (uint8_t)(client + 1), code = 0;
     int32_t number = revokes(w, revoke, &id, 1, &code);
     if (refused) CLAIM(number == NZF_DONE || number == NZF_NO_MEMORY || number == NZF_LOST || (number == NZF_REFUSED && code == 0xa0));
@@ -475,7 +475,7 @@ static int revoked(world *w, int revoke, size_t client, uint8_t wanted) {
 }
 
 /* Posts its token, and is refused by this. */
-static int is_refused_by(world *w, size_t at, uint8_t code) {
+static int is_refused_by(world *w, nzf_size at, uint8_t code) {
     nzf_draw it = draw();
     w->results[at].what = 0;
     NEEDS(nzf_client_exchange(&w->clients[at], w->now, &it) == NZF_DONE);
@@ -486,7 +486,7 @@ static int is_refused_by(world *w, size_t at, uint8_t code) {
 }
 
 /* The same by 4.01. */
-static int is_shut_out(world *w, size_t at) { return is_refused_by(w, at, 0x81); }
+static int is_shut_out(world *w, nzf_size at) { return is_refused_by(w, at, 0x81); }
 
 static int reads(world *w, const char *path, const char *wanted) {
     uint8_t payload[ROOM];
@@ -527,7 +527,7 @@ static void nothing_of_a_device(void) {
     nzf_served served = NZF_SERVED;
     nzf_refused why = NZF_REFUSAL;
     uint8_t bytes[ROOM], code;
-    size_t length;
+    nzf_size length;
     uint64_t moment;
     ANSWERS(NZF_NOTHING, nzf_device_open(&none, 0, &draws, &code));
     ANSWERS(NZF_NOTHING, nzf_device_put(&none, 0, &resource, &draws, &code));
@@ -554,7 +554,7 @@ static void nothing_of_a_client(void) {
     nzf_request request = NZF_REQUEST;
     nzf_result result = NZF_RESULT;
     uint8_t bytes[ROOM];
-    size_t length;
+    nzf_size length;
     uint64_t moment;
     ANSWERS(NZF_NOTHING, nzf_client_exchange(&none, 0, &it));
     ANSWERS(NZF_NOTHING, nzf_client_ask(&none, 0, &request, &it));
@@ -573,7 +573,7 @@ static void nothing_of_a_proxy(void) {
     nzf_draw it = draw();
     nzf_peer from = peer(STRANGER_PORT);
     uint8_t bytes[ROOM];
-    size_t length;
+    nzf_size length;
     uint64_t moment;
     ANSWERS(NZF_NOTHING, nzf_proxy_add_target(&none, TEXT("door"), 5683, &from));
     ANSWERS(NZF_NOTHING, nzf_proxy_on_datagram(&none, 0, &from, TEXT("x"), &it));
@@ -593,7 +593,7 @@ static void handles(void) {
     ANSWERS(NZF_DONE, new_proxy(&w.proxy));
     free_world(&w);
     free_world(&w);
-    CLAIM(w.device.held == NULL && w.proxy.held == NULL && w.clients[0].held == NULL);
+    CLAIM(!w.device.held && !w.proxy.held && !w.clients[0].held);
     CLAIM(held == 0);
 }
 
@@ -613,29 +613,30 @@ static void bad_devices(void) {
     ANSWERS(NZF_BAD_SCOPE, device_named(&it, "door", "/e:GET", "/e:get"));
     ANSWERS(NZF_BAD_SCOPE, device_named(&it, "door", "/e:GET", "/e:GET,"));
     IS_BAD(device_named(&it, "\xff", "", "/e:GET"));
-    CLAIM(it.held == NULL && held == 0);
+    CLAIM(!it.held && held == 0);
     ANSWERS(NZF_BAD_SCOPE, device_named(&it, "door", "", ""));
     ANSWERS(NZF_DONE, device_named(&it, "", "", "/e:GET"));
-    void *before = it.held;
+    nzf_device before;
+    memcpy(&before, &it, sizeof it);
     ANSWERS(NZF_BAD_SCOPE, device_named(&it, "door", "e:GET", "/e:GET"));
-    CLAIM(it.held == before);
+    CLAIM(memcmp(&before, &it, sizeof it) == 0);
     nzf_device_free(&it);
 }
 
 /* Structs that say another size than theirs. */
 static void bad_sizes(world *w) {
-    static const size_t OFF[] = {0, 1, SIZE_MAX};
+    static const nzf_size OFF[] = {0, 1, SIZE_MAX};
     nzf_draw it = draw();
     nzf_draws draws = two_draws();
     nzf_resource resource = value_at("/e", NZF_NO_FORMAT, "x");
     nzf_request request = NZF_REQUEST;
     nzf_claims claim = NZF_CLAIMS;
     uint8_t token[512], code;
-    size_t length;
+    nzf_size length;
     request.path = nzf_text("/e");
     claim.secret = nzf_text("s");
     claim.scope = nzf_text("/e:GET");
-    for (size_t at = 0; at < sizeof OFF / sizeof OFF[0]; at++) {
+    for (nzf_size at = 0; at < sizeof OFF / sizeof OFF[0]; at++) {
         nzf_device_settings device = settings_for("/e:GET");
         nzf_client_settings client = NZF_CLIENT_SETTINGS;
         client.secret = nzf_text("s");
@@ -658,8 +659,8 @@ static void bad_sizes(world *w) {
 /* A struct that a call fills, of each size up to twice its own: two are taken, and of the shorter one the members from `first` on stay as they were. With
  * another size nothing is written. */
 #define FILLED(type, it, shorter, first, wanted, call)                                                               \
-    for (size_t size = 0; size <= 2 * sizeof(it); size++) {                                                          \
-        size_t from = size == (shorter) ? offsetof(type, first) : 0;                                                 \
+    for (nzf_size size = 0; size <= 2 * sizeof(it); size++) {                                                          \
+        nzf_size from = size == (shorter) ? offsetof(type, first) : 0;                                                 \
         type before;                                                                                                 \
         memset(&(it), 0xee, sizeof(it));                                                                             \
         (it).size = size;                                                                                            \
@@ -707,7 +708,7 @@ static void filled_sizes(world *w) {
 /* A shorter struct may be all that there is: nothing is read or written after its end, which valgrind sees. */
 static void at_the_end(world *w) {
     uint8_t bytes[ROOM], code;
-    size_t size = SHORT_SERVED;
+    nzf_size size = SHORT_SERVED;
     nzf_served *it = malloc(SHORT_SERVED);
     CLAIM(it != NULL && opens(w) && writes(w, 3, "/e", "open", &code) == NZF_DONE && exchange(w, 0));
     if (!it) return;
@@ -743,9 +744,9 @@ static void told_in_short(world *w) {
 static void words(void) {
     const char *none = nzf_outcome_text(-1);
     CLAIM(nzf_version() == NZF_VERSION);
-    for (size_t at = 0; at < sizeof NUMBERS / sizeof NUMBERS[0]; at++) {
+    for (nzf_size at = 0; at < sizeof NUMBERS / sizeof NUMBERS[0]; at++) {
         CLAIM(strcmp(nzf_outcome_text(NUMBERS[at]), none) != 0);
-        for (size_t other = 0; other < at; other++) CLAIM(strcmp(nzf_outcome_text(NUMBERS[at]), nzf_outcome_text(NUMBERS[other])) != 0);
+        for (nzf_size other = 0; other < at; other++) CLAIM(strcmp(nzf_outcome_text(NUMBERS[at]), nzf_outcome_text(NUMBERS[other])) != 0);
     }
     CLAIM(strcmp(nzf_outcome_text(1), none) == 0 && strcmp(nzf_outcome_text(INT32_MAX), none) == 0);
 }
@@ -755,28 +756,29 @@ static void bad_rules(void) {
     static const char *const BAD_ROOTS[] = {"/", "gone", "//", "/a/b/c/d/e", "/a/b/c/d/", "/123456789012345678901234567890123", "/\xff"};
     nzf_device it = {0};
     rules its = {KEY, 0, 0};
-    for (size_t at = 0; at < sizeof BAD_ROOTS / sizeof BAD_ROOTS[0]; at++) IS_BAD(device_with(&it, &its, BAD_ROOTS[at], "/e:GET"));
+    for (nzf_size at = 0; at < sizeof BAD_ROOTS / sizeof BAD_ROOTS[0]; at++) IS_BAD(device_with(&it, &its, BAD_ROOTS[at], "/e:GET"));
     its.has_old_key = 2;
     IS_BAD(device_with(&it, &its, "", "/e:GET"));
-    CLAIM(it.held == NULL && held == 0);
+    CLAIM(!it.held && held == 0);
     its.has_old_key = 1;
     its.context_seconds = UINT32_MAX;
     ANSWERS(NZF_BAD_SCOPE, device_with(&it, &its, "/gone", "/e:get"));
     ANSWERS(NZF_DONE, device_with(&it, &its, "", "/e:GET"));
     ANSWERS(NZF_DONE, device_with(&it, &its, "/a/b/c/d", "/e:GET"));
-    void *before = it.held;
+    nzf_device before;
+    memcpy(&before, &it, sizeof it);
     IS_BAD(device_with(&it, &its, "gone", "/e:GET"));
-    CLAIM(it.held == before);
+    CLAIM(memcmp(&before, &it, sizeof it) == 0);
     nzf_device_free(&it);
 }
 
 enum { MOST_ENTRIES = 4000, ENTRY = 20 };
 
 /* A device whose own scope has so many entries. */
-static int32_t of_long_scope(nzf_device *it, size_t entries) {
+static int32_t of_long_scope(nzf_device *it, nzf_size entries) {
     static char scope[MOST_ENTRIES * ENTRY + 1];
     nzf_device_settings its = settings_for("");
-    for (size_t at = 0; at < entries; at++) snprintf(scope + at * ENTRY, ENTRY + 1, "/aaaaaaaaaa%04u:GET,", (unsigned)(at % 10000));
+    for (nzf_size at = 0; at < entries; at++) snprintf(scope + at * ENTRY, ENTRY + 1, "/aaaaaaaaaa%04u:GET,", (unsigned)(at % 10000));
     its.unprotected = nzf_text("");
     its.own = nzf_bytes_of(scope, entries * ENTRY - 1);
     return device_of(it, &its);
@@ -789,7 +791,7 @@ static void a_long_scope(void) {
     uint8_t code;
     ANSWERS(NZF_TOO_LONG, of_long_scope(&it, MOST_ENTRIES));
     ANSWERS(NZF_TOO_LONG, of_long_scope(&it, 58));
-    CLAIM(it.held == NULL && held == 0);
+    CLAIM(!it.held && held == 0);
     ANSWERS(NZF_DONE, of_long_scope(&it, 57));
     ANSWERS(NZF_DONE, nzf_device_open(&it, 0, &draws, &code));
     nzf_device_free(&it);
@@ -800,7 +802,7 @@ static const char *const BAD_PATHS[] = {"", "/", "e", "//", "/e/", "/a/b/c/d/e/f
 static void bad_paths(world *w) {
     nzf_value value = NZF_VALUE;
     uint8_t bytes[ROOM], code;
-    for (size_t at = 0; at < sizeof BAD_PATHS / sizeof BAD_PATHS[0]; at++) {
+    for (nzf_size at = 0; at < sizeof BAD_PATHS / sizeof BAD_PATHS[0]; at++) {
         const char *path = BAD_PATHS[at];
         for (uint8_t method = 2; method <= 4; method++) IS_BAD(writes(w, method, path, "x", &code));
         IS_BAD(nzf_device_get(&w->device, path, strlen(path), bytes, sizeof bytes, &value));
@@ -866,7 +868,7 @@ static void bad_requests(world *w) {
     ANSWERS(NZF_DONE, asks_with(w, 1, 65535, 0, 8, 0, 1));
 }
 
-static int32_t client_of(size_t host, size_t secret, size_t salt, size_t context, uint8_t has_context, uint8_t algorithm) {
+static int32_t client_of(nzf_size host, nzf_size secret, nzf_size salt, nzf_size context, uint8_t has_context, uint8_t algorithm) {
     static const uint8_t bytes[300] = {1};
     nzf_client it = {0};
     nzf_client_settings its = NZF_CLIENT_SETTINGS;
@@ -897,11 +899,11 @@ static void bad_clients(void) {
     CLAIM(held == 0);
 }
 
-static int32_t token_of(size_t id, size_t secret, size_t context, uint8_t has_context, const char *scope, uint8_t algorithm) {
+static int32_t token_of(nzf_size id, nzf_size secret, nzf_size context, uint8_t has_context, const char *scope, uint8_t algorithm) {
     static const uint8_t bytes[100] = {1};
     nzf_claims it = NZF_CLAIMS;
     uint8_t token[512];
-    size_t length = 0;
+    nzf_size length = 0;
     it.key = KEY;
     it.iv.bytes[0] = 1;
     it.audience = nzf_text("door");
@@ -916,7 +918,7 @@ static int32_t token_of(size_t id, size_t secret, size_t context, uint8_t has_co
 
 static void tokens(void) {
     uint8_t one[512], other[512];
-    size_t needed = 0, length = 0;
+    nzf_size needed = 0, length = 0;
     ANSWERS(NZF_TOO_SHORT, mint(0, one, 0, &needed));
     CLAIM(needed > 0 && needed <= sizeof one);
     ANSWERS(NZF_TOO_SHORT, mint(0, one, needed - 1, &length));
@@ -1052,7 +1054,7 @@ static void moments(void) {
 /* Ten seconds after its post a context counts no more, the device's own neither; and that post, in a new message, is known. */
 static void ten_seconds(world *w) {
     uint8_t code = 0xee;
-    size_t made;
+    nzf_size made;
     ANSWERS(NZF_DONE, new_device_with(&w->device));
     CLAIM(opens(w) && written(w, 3, "/e", "open", 0x41));
     made = w->sent;
@@ -1092,7 +1094,7 @@ static void unprotected(world *w) {
     uint8_t bytes[ROOM], code = 0;
     nzf_peer from = peer(STRANGER_PORT), to;
     nzf_draw it = draw();
-    size_t length = 0, told = 0;
+    nzf_size length = 0, told = 0;
     nzf_served served = NZF_SERVED;
     nzf_refused why = NZF_REFUSAL;
     if (!opens(w) || writes(w, 3, "/e", "four", &code) != NZF_DONE) return;
@@ -1122,7 +1124,7 @@ static uint8_t got_from(world *w, const nzf_peer *from, uint8_t id) {
     uint8_t bytes[ROOM];
     nzf_draw it = draw();
     nzf_peer to;
-    size_t length;
+    nzf_size length;
     if (nzf_device_on_datagram(&w->device, w->now, from, get, sizeof get, &it) != NZF_DONE) return 0;
     if (nzf_device_next(&w->device, &to, bytes, sizeof bytes, &length) != NZF_DONE) return 0;
     return is_peer(&to, from) && bytes[1] == 0x45 ? bytes[length - 4] : 0;
@@ -1154,7 +1156,7 @@ static void peers(world *w) {
                          nzf_ipv6(zero, UINT32_MAX, 0),
                          nzf_ipv6(most, UINT32_MAX, UINT16_MAX)};
     CLAIM(opens(w) && writes(w, 3, "/e", "four", &code) == NZF_DONE);
-    for (size_t at = 0; at < sizeof others / sizeof others[0]; at++) CLAIM(got_from(w, &others[at], 1) == 'f');
+    for (nzf_size at = 0; at < sizeof others / sizeof others[0]; at++) CLAIM(got_from(w, &others[at], 1) == 'f');
     for (uint32_t scope = 0; scope < 2; scope++) {
         nowhere.scope = scope;
         nowhere.port = (uint16_t)scope;
@@ -1210,11 +1212,11 @@ static void etags(world *w) {
 }
 
 /* A client whose token has this id, and is for this audience. */
-static int32_t client_named(nzf_client *client, const void *id, size_t length, const char *audience) {
+static int32_t client_named(nzf_client *client, const void *id, nzf_size length, const char *audience) {
     nzf_claims its = NZF_CLAIMS;
     nzf_client_settings it = NZF_CLIENT_SETTINGS;
     uint8_t token[512];
-    size_t size = 0;
+    nzf_size size = 0;
     its.key = KEY;
     its.iv.bytes[0] = 9;
     its.audience = nzf_text(audience);
@@ -1228,19 +1230,19 @@ static int32_t client_named(nzf_client *client, const void *id, size_t length, c
     return nzf_client_new(client, &it);
 }
 
-static const size_t ID_LENGTHS[] = {0, 1, 6, NZF_ID_MAX};
+static const nzf_size ID_LENGTHS[] = {0, 1, 6, NZF_ID_MAX};
 
-static nzf_id some_id(size_t length) {
+static nzf_id some_id(nzf_size length) {
     nzf_id it = NZF_ID;
     it.length = (uint8_t)length;
-    for (size_t at = 0; at < length; at++) it.bytes[at] = (uint8_t)(0xff - at);
+    for (nzf_size at = 0; at < length; at++) it.bytes[at] = (uint8_t)(0xff - at);
     return it;
 }
 
 /* Who was served is told by the id that was minted, of each length, whatever the answer is. */
 static void ids(world *w) {
     CLAIM(opens(w) && written(w, 3, "/e", "open", 0x41));
-    for (size_t at = 0; at < sizeof ID_LENGTHS / sizeof ID_LENGTHS[0]; at++) {
+    for (nzf_size at = 0; at < sizeof ID_LENGTHS / sizeof ID_LENGTHS[0]; at++) {
         nzf_id id = some_id(ID_LENGTHS[at]);
         ANSWERS(NZF_DONE, client_named(&w->clients[0], id.bytes, id.length, "door"));
         CLAIM(exchange(w, 0) && asks(w, 0, 1, "/e", "", 0x45) && is_id(&w->last.token, id.bytes, id.length));
@@ -1252,7 +1254,7 @@ static void ids(world *w) {
 /* A genuine token that is refused tells its id; a post of another one doesn't. */
 static void ids_of_refused(world *w) {
     CLAIM(opens(w));
-    for (size_t at = 0; at < sizeof ID_LENGTHS / sizeof ID_LENGTHS[0]; at++) {
+    for (nzf_size at = 0; at < sizeof ID_LENGTHS / sizeof ID_LENGTHS[0]; at++) {
         nzf_id id = some_id(ID_LENGTHS[at]);
         ANSWERS(NZF_DONE, client_named(&w->clients[0], id.bytes, id.length, "gate"));
         CLAIM(is_refused_by(w, 0, 0x83) && w->why.reason == NZF_REASON_AUDIENCE && w->why.has_token == 1 && is_id(&w->why.token, id.bytes, id.length));
@@ -1294,7 +1296,7 @@ static void served_in_parts(world *w) {
 /* The same datagram again is answered by the same bytes and not served; under another message ID by the same sealed payload, and not served either. With
  * another byte sealed it is refused. */
 static void repeated(world *w, datagram request) {
-    size_t served = w->served, refusals = w->refusals;
+    nzf_size served = w->served, refusals = w->refusals;
     datagram first = w->past[(w->sent - 1) % PAST];
     ANSWERS(NZF_DONE, deliver(w, &request));
     datagram second = w->past[(w->sent - 1) % PAST];
@@ -1388,7 +1390,7 @@ static void as_before(world *w) {
 static void without_heap(world *w) {
     uint8_t bytes[ROOM], code;
     uint64_t moment;
-    size_t length;
+    nzf_size length;
     nzf_peer to;
     nzf_refused why = NZF_REFUSAL;
     nzf_result result = NZF_RESULT;
@@ -1417,13 +1419,13 @@ static void without_heap(world *w) {
 static void timed_out(world *w) {
     nzf_draw it = draw();
     uint64_t moment = 0;
-    size_t sent;
+    nzf_size sent;
     ANSWERS(NZF_NOTHING, nzf_client_next_deadline(&w->clients[0], &moment));
     ANSWERS(NZF_DONE, nzf_client_exchange(&w->clients[0], w->now, &it));
     act_on_client(w, 0);
     sent = w->sent;
     w->results[0].what = 0;
-    for (size_t turn = 0; turn < 10 && nzf_client_next_deadline(&w->clients[0], &moment) == NZF_DONE; turn++) {
+    for (nzf_size turn = 0; turn < 10 && nzf_client_next_deadline(&w->clients[0], &moment) == NZF_DONE; turn++) {
         CLAIM(moment > w->now);
         w->now = moment;
         ANSWERS(NZF_DONE, nzf_client_on_tick(&w->clients[0], w->now));
@@ -1452,13 +1454,13 @@ static void restarted(world *w) {
 
 /* With block `at` refused a write is left open, or isn't: where it is, the next tick that is due ends it, and tells what the write would have told. Nothing is
  * appended twice. Whether that block was asked for; `lost` counts. */
-static size_t one_lost(world *w, size_t at, size_t *lost) {
+static nzf_size one_lost(world *w, nzf_size at, nzf_size *lost) {
     uint8_t code = 0xee;
     nzf_draw it = draw();
     CLAIM(opens(w));
     plan(at, 0);
     int32_t number = writes(w, 2, "/d", "a", &code);
-    size_t reached = refused;
+    nzf_size reached = refused;
     plan(0, 0);
     if (number != NZF_LOST) return reached;
     (*lost)++;
@@ -1480,8 +1482,8 @@ static size_t one_lost(world *w, size_t at, size_t *lost) {
 
 static void learnt_later(void) {
     static world w;
-    size_t lost = 0, reached = 1;
-    for (size_t at = 1; reached > 0; at++) {
+    nzf_size lost = 0, reached = 1;
+    for (nzf_size at = 1; reached > 0; at++) {
         if (!make_world(&w)) return;
         reached = one_lost(&w, at, &lost);
         free_world(&w);
@@ -1566,17 +1568,17 @@ static void all_claims(void) {
 
 /* ---- a day with each block refused in turn */
 
-static size_t refuse_in_turn(size_t apart) {
+static nzf_size refuse_in_turn(nzf_size apart) {
     static world w;
-    for (size_t at = 1;; at += apart) {
+    for (nzf_size at = 1;; at += apart) {
         plan(at, 0);
         state = 7;
         int done = play(&w);
-        size_t reached = refused;
+        nzf_size reached = refused;
         free_world(&w);
         CLAIM(held == 0);
         if (!reached) {
-            size_t blocks = taken;
+            nzf_size blocks = taken;
             CLAIM(done);
             plan(0, 0);
             return blocks;
@@ -1599,15 +1601,15 @@ static void some_datagram(world *w, datagram *it) {
     static const uint16_t PORTS[] = {DEVICE_PORT, PROXY_PORT, CLIENT_PORT, CLIENT_PORT + 1, STRANGER_PORT};
     if (w->sent == 0 || below(4) == 0) {
         it->length = below(4) ? below(64) : below(ROOM);
-        for (size_t at = 0; at < it->length; at++) it->bytes[at] = (uint8_t)below(256);
+        for (nzf_size at = 0; at < it->length; at++) it->bytes[at] = (uint8_t)below(256);
         if (it->length > 0) it->bytes[0] = (uint8_t)(0x40 | (it->bytes[0] & 0x38));
         it->from = peer(PORTS[below(5)]);
         it->to = peer(PORTS[below(4)]);
         return;
     }
     *it = w->past[below(w->sent < PAST ? w->sent : PAST)];
-    for (size_t change = below(3); change > 0 && it->length > 0; change--) {
-        size_t at = below(it->length);
+    for (nzf_size change = below(3); change > 0 && it->length > 0; change--) {
+        nzf_size at = below(it->length);
         it->bytes[at] ^= (uint8_t)(1 + below(255));
     }
     if (below(8) == 0) it->length = below(it->length + 1);
@@ -1635,18 +1637,18 @@ static const char *some_path(void) {
 
 static const char *some_payload(void) {
     static char text[ROOM + 1];
-    size_t length = below(8) ? below(20) : below(ROOM);
+    nzf_size length = below(8) ? below(20) : below(ROOM);
     memset(text, 'a' + (int)below(26), length);
     text[length] = '\0';
     return text;
 }
 
 /* Chance is asked in the same order by each compiler: not within the arguments of a call. */
-static void some_call_of_a_client(world *w, size_t at) {
+static void some_call_of_a_client(world *w, nzf_size at) {
     nzf_draw it = draw();
     uint8_t method = (uint8_t)below(6);
     const char *path = some_path(), *payload = some_payload();
-    size_t room = below(ROOM);
+    nzf_size room = below(ROOM);
     nzf_result result = NZF_RESULT;
     result.size = some_size(sizeof result, SHORT_RESULT);
     uint8_t bytes[ROOM];
@@ -1668,10 +1670,10 @@ static void some_call_of_a_device(world *w) {
     nzf_served served = NZF_SERVED;
     nzf_refused why = NZF_REFUSAL;
     nzf_peer to;
-    size_t length;
+    nzf_size length;
     uint8_t bytes[ROOM], code = 0, method = (uint8_t)(2 + below(3));
     const char *path = some_path(), *payload = some_payload();
-    size_t room = below(600), small = below(20);
+    nzf_size room = below(600), small = below(20);
     value.size = some_size(sizeof value, SHORT_VALUE);
     served.size = some_size(sizeof served, SHORT_SERVED);
     why.size = some_size(sizeof why, SHORT_REFUSED);
@@ -1704,7 +1706,7 @@ static void some_call_of_a_proxy(world *w) {
 
 /* A node starts again, is let go, or is made anew; every other time with a heap that refuses nothing, since a node takes many blocks. */
 static void some_end(world *w) {
-    size_t at = below(CLIENTS), kept = refuse;
+    nzf_size at = below(CLIENTS), kept = refuse;
     if (below(2)) refuse = 0;
     switch (below(8)) {
     case 0: nzf_device_free(&w->device); break;
@@ -1721,15 +1723,15 @@ static void some_end(world *w) {
     refuse = kept;
 }
 
-static void some_calls(size_t count, size_t each) {
+static void some_calls(nzf_size count, nzf_size each) {
     static world w;
     plan(0, 0);
     digest = 0;
     state = 42;
     if (!make_world(&w)) return;
     plan(each, 1);
-    for (size_t at = 0; at < count; at++) {
-        size_t what = below(100);
+    for (nzf_size at = 0; at < count; at++) {
+        nzf_size what = below(100);
         w.now += below(4) ? below(50) : below(3000);
         if (what < 60) some_way(&w);
         else if (what < 80) some_call_of_a_client(&w, below(CLIENTS));
@@ -1738,34 +1740,34 @@ static void some_calls(size_t count, size_t each) {
         else some_end(&w);
     }
     plan(0, 0);
-    printf("served %zu, refused %zu, sent %zu", w.served, w.refusals, w.sent);
+    printf("served %lu, refused %lu, sent %lu", (unsigned long)w.served, (unsigned long)w.refusals, (unsigned long)w.sent);
     free_world(&w);
     CLAIM(held == 0);
 }
 
-static size_t count_of(const char *text) {
+static nzf_size count_of(const char *text) {
     char *end;
     unsigned long long it = strtoull(text, &end, 10);
     if (text[0] < '0' || text[0] > '9' || *end != '\0') {
         fprintf(stderr, "harness: say harness [COUNT]\n");
         exit(2);
     }
-    return (size_t)it;
+    return (nzf_size)it;
 }
 
 int main(int words, char **word) {
-    static const size_t EACH[] = {0, 2, 7, 50};
-    size_t count = words > 1 ? count_of(word[1]) : 1000;
+    static const nzf_size EACH[] = {0, 2, 7, 50};
+    nzf_size count = words > 1 ? count_of(word[1]) : 1000;
     state = 1;
     all_claims();
-    printf("claims: %zu tried\n", claims);
-    size_t apart = count < 1000 ? 10 : 1, blocks = refuse_in_turn(apart);
-    printf("a day of %zu blocks of the heap, each of them refused in turn, %zu apart\n", blocks, apart);
-    for (size_t at = 0; at < sizeof EACH / sizeof EACH[0]; at++) {
-        printf("%zu random calls, of the heap each block of %zu refused: ", count, EACH[at]);
+    printf("claims: %lu tried\n", (unsigned long)claims);
+    nzf_size apart = count < 1000 ? 10 : 1, blocks = refuse_in_turn(apart);
+    printf("a day of %lu blocks of the heap, each of them refused in turn, %lu apart\n", (unsigned long)blocks, (unsigned long)apart);
+    for (nzf_size at = 0; at < sizeof EACH / sizeof EACH[0]; at++) {
+        printf("%lu random calls, of the heap each block of %lu refused: ", (unsigned long)count, (unsigned long)EACH[at]);
         some_calls(count, EACH[at]);
-        printf(", digest %016" PRIx64 "\n", digest);
+        printf(", digest %08" PRIx32 "%08" PRIx32 "\n", (uint32_t)(digest >> 32), (uint32_t)digest);
     }
-    printf("%zu claims, %zu don't hold\n", claims, broken);
+    printf("%lu claims, %lu don't hold\n", (unsigned long)claims, (unsigned long)broken);
     return broken ? 1 : 0;
 }

@@ -3,28 +3,21 @@
  *   lock [--port N] [--seconds N]
  *
  * Holders of a token PUT `open` or `shut` at /lock/wanted. The lock moves its bolt, tells how it stands at /lock/actual, and writes each move to /log. */
+#ifndef LOCK_BOARD
 #define _POSIX_C_SOURCE 200809L
+#endif
 #include "lock_settings.h"
-#include "moment.h"
 
-#include <arpa/inet.h>
 #include <errno.h>
-#include <inttypes.h>
-#include <netinet/in.h>
-#include <poll.h>
 #include <stdio.h>
 #include <stdlib.h>
 #include <string.h>
-#include <sys/random.h>
-#include <sys/socket.h>
-#include <unistd.h>
 
 enum { SECOND = 1000, CREATED = 0x41, DELETED = 0x42, CHANGED = 0x44, TOO_LARGE = 0x8d };
 
 static const char WANTED[] = "/lock/wanted", ACTUAL[] = "/lock/actual", LOG[] = "/log";
 
 static nzf_device device;
-static int udp = -1;
 
 /* How the bolt stands, whether /lock/actual says so by now, and the newest line, where /log hasn't got it yet. And whether a request was served of which the
  * lock wasn't told: then it looks at /lock/wanted. */
@@ -40,7 +33,7 @@ static int has_moved; /* since then */
 /* When the lock's own context was opened: it ends, as each does. */
 static uint64_t opened;
 
-/* ---- what is the maker's: errors, moments, draws */
+/* ---- what is the maker's: errors, moments, draws, datagrams. LOCK_BOARD names a file that has these for a board without a system (m4/board.h). */
 
 static void fail(const char *what, const char *why) {
     fprintf(stderr, "lock: %s: %s\n", what, why);
@@ -51,6 +44,21 @@ static void fail(const char *what, const char *why) {
 static void complain(const char *what, int32_t number, uint8_t code) {
     fprintf(stderr, "lock: %s: %s, code %d.%02d\n", what, nzf_outcome_text(number), code >> 5, code & 31);
 }
+
+#ifdef LOCK_BOARD
+#include LOCK_BOARD
+#else
+
+#include "moment.h"
+
+#include <arpa/inet.h>
+#include <netinet/in.h>
+#include <poll.h>
+#include <sys/random.h>
+#include <sys/socket.h>
+#include <unistd.h>
+
+static int udp = -1;
 
 static uint64_t now(void) {
     uint64_t moment = 0;
@@ -70,13 +78,6 @@ static nzf_draw draw(void) {
     return it;
 }
 
-static nzf_draws two_draws(void) {
-    nzf_draws it = {draw(), draw()};
-    return it;
-}
-
-/* ---- the socket */
-
 /* On each address, of IPv6 and of IPv4: one of IPv4 is ::ffff:a.b.c.d there, as it is in an nzf_peer. */
 static void listen_on(uint16_t port) {
     struct sockaddr_in6 here = {0};
@@ -90,19 +91,50 @@ static void listen_on(uint16_t port) {
 }
 
 /* What can't be sent is lost, as on the way: the client asks again. */
+static void send_one(const nzf_peer *to, const uint8_t *bytes, nzf_size length) {
+    struct sockaddr_in6 there = {0};
+    there.sin6_family = AF_INET6;
+    there.sin6_port = htons(to->port);
+    there.sin6_scope_id = to->scope;
+    memcpy(&there.sin6_addr, to->bytes, sizeof to->bytes);
+    if (sendto(udp, bytes, length, 0, (struct sockaddr *)&there, sizeof there) < 0) fprintf(stderr, "lock: sendto: %s\n", strerror(errno));
+}
+
+/* Waits for a datagram, so many milliseconds at most: 1 where there may be one. */
+static int wait_for_one(uint64_t most) {
+    struct pollfd it = {udp, POLLIN, 0};
+    int ready = poll(&it, 1, (int)most);
+    if (ready < 0 && errno != EINTR) fail("poll", strerror(errno));
+    return ready;
+}
+
+/* A datagram that came: 1, its bytes, its length and whom it comes from; or 0. */
+static int take_one(uint8_t *bytes, size_t room, nzf_size *length, nzf_peer *from) {
+    struct sockaddr_in6 there;
+    socklen_t size = sizeof there;
+    ssize_t came = recvfrom(udp, bytes, room, MSG_DONTWAIT, (struct sockaddr *)&there, &size);
+    if (came < 0) {
+        if (errno != EAGAIN && errno != EINTR) fprintf(stderr, "lock: recvfrom: %s\n", strerror(errno));
+        return 0;
+    }
+    *from = nzf_ipv6(there.sin6_addr.s6_addr, there.sin6_scope_id, ntohs(there.sin6_port));
+    *length = (nzf_size)came;
+    return 1;
+}
+
+#endif
+
+static nzf_draws two_draws(void) {
+    nzf_draws it = {draw(), draw()};
+    return it;
+}
+
 static void send_all(void) {
     nzf_peer to;
     uint8_t bytes[NZF_DATAGRAM_MAX];
-    size_t length;
+    nzf_size length;
     int32_t number;
-    while ((number = nzf_device_next(&device, &to, bytes, sizeof bytes, &length)) == NZF_DONE) {
-        struct sockaddr_in6 there = {0};
-        there.sin6_family = AF_INET6;
-        there.sin6_port = htons(to.port);
-        there.sin6_scope_id = to.scope;
-        memcpy(&there.sin6_addr, to.bytes, sizeof to.bytes);
-        if (sendto(udp, bytes, length, 0, (struct sockaddr *)&there, sizeof there) < 0) fprintf(stderr, "lock: sendto: %s\n", strerror(errno));
-    }
+    while ((number = nzf_device_next(&device, &to, bytes, sizeof bytes, &length)) == NZF_DONE) send_one(&to, bytes, length);
     if (number != NZF_NOTHING) complain("next", number, 0);
 }
 
@@ -271,17 +303,12 @@ static void tick(void) {
 }
 
 static void receive(void) {
-    struct sockaddr_in6 there;
-    socklen_t size = sizeof there;
+    nzf_peer from;
+    nzf_size length;
     uint8_t bytes[NZF_DATAGRAM_MAX + 1]; /* one more, so that a longer datagram isn't taken for one that fits */
-    ssize_t length = recvfrom(udp, bytes, sizeof bytes, MSG_DONTWAIT, (struct sockaddr *)&there, &size);
-    if (length < 0) {
-        if (errno != EAGAIN && errno != EINTR) fprintf(stderr, "lock: recvfrom: %s\n", strerror(errno));
-        return;
-    }
-    nzf_peer from = nzf_ipv6(there.sin6_addr.s6_addr, there.sin6_scope_id, ntohs(there.sin6_port));
+    if (!take_one(bytes, sizeof bytes, &length, &from)) return;
     nzf_draw it = draw();
-    act_on("datagram", nzf_device_on_datagram(&device, now(), &from, bytes, (size_t)length, &it));
+    act_on("datagram", nzf_device_on_datagram(&device, now(), &from, bytes, length, &it));
 }
 
 /* ---- the whole */
@@ -307,9 +334,7 @@ static void begin(void) {
 static void run(uint64_t end) {
     uint64_t next = now() + SECOND;
     for (uint64_t moment = now(); moment < end; moment = now()) {
-        struct pollfd it = {udp, POLLIN, 0};
-        int ready = poll(&it, 1, next > moment ? (int)(next - moment) : 0);
-        if (ready < 0 && errno != EINTR) fail("poll", strerror(errno));
+        int ready = wait_for_one(next > moment ? next - moment : 0);
         if (ready > 0) receive();
         if (ready == 0 || now() >= next) {
             tick();
@@ -339,6 +364,5 @@ int main(int count, char **words) {
     fflush(stdout);
     run(now() + seconds * SECOND);
     nzf_device_free(&device);
-    close(udp);
     return 0;
 }

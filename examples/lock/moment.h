@@ -40,6 +40,7 @@ static inline uint64_t moment_of(clocks *it, uint64_t wall, uint64_t counted) {
     return counted + (uint64_t)it->believed;
 }
 
+#ifdef CLOCK_BOOTTIME
 /* What a clock says, in ms; false where it can't be read. */
 static inline bool read_clock(clockid_t clock, uint64_t *ms) {
     struct timespec it;
@@ -56,5 +57,6 @@ static inline bool read_moment(uint64_t *moment) {
     *moment = moment_of(&it, wall, counted);
     return true;
 }
+#endif
 
 #endif

@@ -14,7 +14,7 @@ static int udp;
 static void send_all(void) {
     nzf_peer to;
     uint8_t bytes[NZF_DATAGRAM_MAX];
-    size_t length;
+    nzf_size length;
     while (nzf_proxy_next(&proxy, &to, bytes, sizeof bytes, &length) == NZF_DONE) send_to(udp, &to, bytes, length);
 }
 
@@ -26,7 +26,7 @@ static void act_on(const char *what, int32_t number) {
 
 static void add_target(const char *text) {
     const char *equals = strchr(text, '=');
-    size_t length;
+    nzf_size length;
     char name[300];
     if (equals == NULL || equals - text >= (int)sizeof name) fail(text, "say HOST:PORT=ADDRESS:PORT");
     memcpy(name, text, (size_t)(equals - text));
@@ -46,7 +46,7 @@ int main(int count, char **words) {
     uint64_t end = now() + (uint64_t)atoi(words[2]) * SECOND, tick = now() + SECOND;
     while (now() < end) {
         uint8_t bytes[NZF_DATAGRAM_MAX + 1];
-        size_t length;
+        nzf_size length;
         nzf_peer from;
         nzf_draw it = draw();
         if (receive(udp, tick, bytes, &length, &from)) {

@@ -75,7 +75,7 @@ static inline void send_to(int udp, const nzf_peer *to, const uint8_t *bytes, si
 
 /* Waits at most until then for a datagram: whether one came, its bytes, and from where. The room is one byte more than a datagram may have, so that a
  * longer one isn't taken for one that fits. */
-static inline int receive(int udp, uint64_t until, uint8_t bytes[NZF_DATAGRAM_MAX + 1], size_t *length, nzf_peer *from) {
+static inline int receive(int udp, uint64_t until, uint8_t bytes[NZF_DATAGRAM_MAX + 1], nzf_size *length, nzf_peer *from) {
     struct sockaddr_in6 there;
     socklen_t size = sizeof there;
     struct pollfd it = {udp, POLLIN, 0};
@@ -84,17 +84,17 @@ static inline int receive(int udp, uint64_t until, uint8_t bytes[NZF_DATAGRAM_MA
     if (poll(&it, 1, until > at ? (int)(until - at) : 0) <= 0) return 0;
     came = recvfrom(udp, bytes, NZF_DATAGRAM_MAX + 1, MSG_DONTWAIT, (struct sockaddr *)&there, &size);
     if (came < 0) return 0;
-    *length = (size_t)came;
+    *length = (nzf_size)came;
     *from = nzf_ipv6(there.sin6_addr.s6_addr, there.sin6_scope_id, ntohs(there.sin6_port));
     return 1;
 }
 
 /* HOST:PORT, as 127.0.0.1:5683: the host as it is written, its length, and the port. */
-static inline uint16_t host_and_port(const char *text, size_t *host_length) {
+static inline uint16_t host_and_port(const char *text, nzf_size *host_length) {
     const char *colon = strrchr(text, ':');
     char *end;
     if (colon == NULL || colon == text) fail(text, "say HOST:PORT");
-    *host_length = (size_t)(colon - text);
+    *host_length = (nzf_size)(colon - text);
     unsigned long port = strtoul(colon + 1, &end, 10);
     if (*end != '\0' || port < 1 || port > UINT16_MAX) fail(text, "its port is none");
     return (uint16_t)port;
@@ -119,7 +119,7 @@ static inline nzf_peer ipv6_of(char *host, uint16_t port) {
 static inline nzf_peer peer_of(const char *text) {
     uint8_t four[4];
     char host[64] = "";
-    size_t length;
+    nzf_size length;
     uint16_t port = host_and_port(text, &length);
     if (length < sizeof host) memcpy(host, text, length);
     if (host[0] == '[') return ipv6_of(host + 1, port);
