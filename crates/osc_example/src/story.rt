@@ -104,7 +104,7 @@ fn again(
     lock.acts(rt, alloc, now)
 }
 
-/// The same protected request comes under another message ID: it isn't fresh.
+/// The same protected request comes under another message ID: the same sealed answer goes out again, and it isn't served.
 fn under_a_new_id(
     rt: &impl Print,
     alloc: Global,
@@ -115,7 +115,7 @@ fn under_a_new_id(
 ) -> Result<(), Fault> {
     println!(rt; "somebody: the technician's request again, under another message ID")?;
     let request = under_another_id(alloc, request)?;
-    let _refusal = lock.hears(rt, alloc, now, technician.at, &request)?;
+    let _answer = lock.hears(rt, alloc, now, technician.at, &request)?;
     lock.acts(rt, alloc, now)
 }
 
