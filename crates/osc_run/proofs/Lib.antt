@@ -3,6 +3,7 @@ mod Lists
 mod Members
 mod NotedSteps
 mod NotedPremise
+mod Draws
 mod LawsBelow
 mod Parts
 mod ReplyCodes

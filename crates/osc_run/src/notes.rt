@@ -94,11 +94,14 @@ impl Notes {
     }
 
     /// Whether what is assumed of a run holds of these steps: whatever opened was sealed before by the other end of its context,
-    /// or minted, no drawn nonce came twice, and no two grants share a secret. Takes no memory. Its time mostly grows with the steps, and
-    /// at worst with their square: an opening is looked for from the newest step before it on, and a drawn nonce among all before it.
+    /// or minted, no drawn nonce came twice, and no two grants share a secret. It takes memory for a set of the drawn nonces, which it gives
+    /// back, and is as exact without. Its time mostly grows with the steps, and at worst with their square: an opening is looked for from
+    /// the newest step before it on, and without memory a drawn nonce among all before it.
     pub fn premise_holds(&self, minted: &[Minted]) -> bool
         ensures { IsTrue result ↔ Premise minted.now self.now.steps }
     {
-        is_genuine(minted, &self.items) && are_fresh(&self.items) && have_own_secrets(minted)
+        is_genuine(minted, &self.items)
+            && are_fresh(*self.items.allocator(), &self.items)
+            && have_own_secrets(minted)
     }
 }

@@ -1,7 +1,10 @@
-//! Whether what is assumed of a run holds of its notes. Steps are lent with the oldest first; nothing is allocated. Each opening is looked
-//! for among the steps before its own, from the newest of them on, and each draw among all of them.
+//! Whether what is assumed of a run holds of its notes. Steps are lent with the oldest first. Each opening is looked for among the steps
+//! before its own, from the newest of them on, and each draw in a set of those before it, or among the steps where there is no memory for
+//! the set.
 
-ghost use Rattle.std.specs.Prelude.{◌≡◌, ◌≢◌, ◌↔◌, [], ◌∷◌, IsTrue, List, ℕ, Some, reverse};
+ghost use Rattle.std.specs.Prelude.{◌≡◌, ◌≢◌, ◌↔◌, ◌⊎◌, [], ◌∷◌, IfOk, OnOk, IsTrue, List, ℕ, Some, nat_eq, reverse};
+ghost use Rattle.std.specs.Cmp.Lexicographic.{pointwise};
+ghost use Rattle.std.specs.HashSet.{contains};
 ghost use Rattle.osc_model.specs.declared.step.Note.{Note as AnyNote};
 ghost use Rattle.osc_token.specs.{token_name};
 ghost use Rattle.osc_authz.specs.{In};
@@ -11,6 +14,8 @@ ghost use Rattle.osc_run.specs.States.{Minted as MintedGrant};
 use crate::minted::Minted;
 use crate::noted::Noted;
 use osc_model::{Algorithm, Bytes, ContextName, Note, Side};
+use std::alloc::{AllocError, Global};
+use std::collections::HashSet;
 
 // ---- genuine
 
@@ -125,9 +130,46 @@ fn is_opened_by(sealing: &Note, opening: &Note) -> bool
 
 // ---- fresh
 
-/// Whether no step drew a nonce that an earlier one drew. For each step that drew one, it looks at all before it: so the time grows with the
-/// steps times those that drew.
-pub(crate) fn are_fresh(steps: &[Noted]) -> bool
+/// Whether no step drew a nonce that an earlier one drew. What was drawn is collected in a set, so that the time grows with the steps.
+/// Without memory for the set each draw is compared with those before it, and the time grows with the steps times those that drew.
+pub(crate) fn are_fresh(alloc: Global, steps: &[Noted]) -> bool
+    ensures { IsTrue result ↔ HasFreshDraws (reverse steps.now) }
+{
+    match are_fresh_in_a_set(alloc, steps) {
+        Ok(fresh) => fresh,
+        Err(_) => are_fresh_in_pairs(steps),
+    }
+}
+
+/// Whether no step drew a nonce that an earlier one drew, by a set of what was drawn. Without memory for the set there is no answer.
+fn are_fresh_in_a_set(alloc: Global, steps: &[Noted]) -> Result<bool, AllocError>
+    ensures { IfOk result (λ fresh. IsTrue fresh ↔ HasFreshDraws (reverse steps.now)) }
+{
+    let mut drawn = HashSet::new(alloc);
+    for step in steps {
+        if !add_drawn(&mut drawn, step.notes().drawn())? {
+            return Ok(false);
+        }
+    }
+    Ok(true)
+}
+
+/// Adds a nonce that was drawn, if one was. False where it is there already. Takes memory for it, and without it the set stays.
+fn add_drawn(drawn: &mut HashSet<[u8; 8]>, nonce: Option<[u8; 8]>) -> Result<bool, AllocError>
+    ensures fresh { IfOk result (λ fresh. IsTrue fresh ↔ ((n : List ℕ) → nonce ≡ Some n → ¬ IsTrue (contains (pointwise nat_eq) drawn.old n))) }
+    ensures added { OnOk result ((n : List ℕ) → IsTrue (contains (pointwise nat_eq) drawn.new n) ↔ ((nonce ≡ Some n) ⊎ IsTrue (contains (pointwise nat_eq) drawn.old n))) }
+{
+    match nonce {
+        Some(nonce) => match drawn.insert(nonce) {
+            Ok(added) => Ok(added),
+            Err(_) => Err(AllocError),
+        },
+        None => Ok(true),
+    }
+}
+
+/// Whether no step drew a nonce that an earlier one drew, by pairs of steps.
+fn are_fresh_in_pairs(steps: &[Noted]) -> bool
     ensures { IsTrue result ↔ HasFreshDraws (reverse steps.now) }
 {
     for (i, step) in steps.iter().enumerate() {

@@ -1,6 +1,6 @@
 use Rattle.std.proofs.Common.{refl}
 use Rattle.osc_run.proofs.NotedPremise.{fresh_at}
-use Rattle.osc_run.proofs.premise.are_fresh.Goals as goal
+use Rattle.osc_run.proofs.premise.are_fresh_in_pairs.Goals as goal
 
 pub returns-then-repeats_a_draw : goal.returns-then-repeats_a_draw
 returns-then-repeats_a_draw c = (
