@@ -260,9 +260,8 @@ module _ (is_sealing : Sealings) (laws : ReplyLaws is_sealing)
         origin = ap (λ (c : Client). c.origin) it.kept;
       }
 
-  pub reply_accepted : IsCarried p → ClientHears is_sealing old (in_bytes came) step new
-      → IsAnsweredWith (sent_to from (acknowledgement p)) old request_answered step new
-  reply_accepted sendable hears =
+  pub reply_counts : IsCarried p → ClientHears is_sealing old (in_bytes came) step new → Counts is_sealing old came step new
+  reply_counts sendable hears =
       let v = response_value None in
       let as_it : hears.received ≡ received.Message (protected m 68 v made.sealed) =
       received_as laws.one_reception p hears.received sendable hears.receives ∙ ap received.Message made.whole in
@@ -277,4 +276,8 @@ module _ (is_sealing : Sealings) (laws : ReplyLaws is_sealing)
       awaits.id (awaits.token ∙ sym carries.token) in
       let so : ClientAnswersNew is_sealing old came (client_case old.next_hop from old.waiting p) step new =
       subst (λ (h : Heard). ClientAnswers is_sealing old (in_bytes came) h step new) heard_is hears.answers in
-      counted (subst (λ (c : ResponseCase). ClientAnswersNew is_sealing old came c step new) case_is so)
+      subst (λ (c : ResponseCase). ClientAnswersNew is_sealing old came c step new) case_is so
+
+  pub reply_accepted : IsCarried p → ClientHears is_sealing old (in_bytes came) step new
+      → IsAnsweredWith (sent_to from (acknowledgement p)) old request_answered step new
+  reply_accepted sendable hears = counted (reply_counts sendable hears)

@@ -33,7 +33,7 @@ use Rattle.osc_protect.specs.{HasShortContext}
 use Rattle.osc_scope.specs.{Entry, scope_of}
 use Rattle.osc_token.specs.{HasLawfulParts}
 use Rattle.osc_token.specs.declared.claims.Claims.{Claims}
-use Rattle.osc_authz.specs.{ClientContextState, Finishes, end_of, known, DeskState, answer_item, post_item, In, Posts, IsLawfulContext, contexts, IsWelcome}
+use Rattle.osc_authz.specs.{ClientContextState, Finishes, end_of, known, DeskState, answer_item, post_item, In, IsPost, Posts, IsLawfulContext, contexts, IsWelcome}
 use Rattle.osc_authz.specs.Begun.{Begun}
 use Rattle.osc_authz.specs.SecurityContext.{SecurityContext}
 use Rattle.osc_authz.specs.Standing.{Standing}
@@ -58,10 +58,11 @@ use Rattle.osc_client.specs.declared.case.ResponseCase.TheVariants.{Counted}
 use Rattle.osc_client.specs.declared.waiting.Awaited.{Awaited}
 use Rattle.osc_client.specs.declared.waiting.Awaited.TheVariants.{Exchange}
 use Rattle.osc_client.specs.declared.waiting.Waiting.{Waiting}
-use Rattle.osc_rounds.specs.{AwaitsAgreement, AwaitsPost, BegunExchange, IsAgreedTo, agreement, body_of, posted, in_bytes, IsHeld}
+use Rattle.osc_rounds.specs.{AwaitsAgreement, AwaitsPost, BegunExchange, IsAgreedTo, agreement, body_of, posted, in_bytes, IsHeld, with_key}
 use Rattle.osc_proxy.specs.{IsCarried}
 use Rattle.osc_rounds.proofs.Accepting.{same_bytes, same_number}
 use Rattle.osc_rounds.proofs.Asking.{received_as}
+use Rattle.osc_rounds.proofs.OldKey.{posts_under}
 use Rattle.osc_rounds.proofs.Sendable.{payload_most, some_payload}
 
 -- ---- the post at the server
@@ -184,6 +185,10 @@ module _ (is_sealing : Sealings) where
     pub itself : (a : Peer) → same_peer a a ≡ true
     pub one_reception : (bytes : List ℕ) (a b : Received) → Receives bytes a → Receives bytes b → a ≡ b
     pub spelled_length : (m : Message) → length (spelling m) ≡ spelled_length m
+    pub written : (token nonce1 client_id : List ℕ) → length token < 2 ^ 64 → 1 ≤ length nonce1 → length nonce1 ≤ 64 → length client_id ≤ 7
+        → IsPost (item_spelling (post_item token nonce1 client_id)) token nonce1 client_id
+    pub one_post : (body token nonce1 client_id others nonces ids : List ℕ) → IsPost body token nonce1 client_id → IsPost body others nonces ids
+        → (token ≡ others) × (nonce1 ≡ nonces) × (client_id ≡ ids)
     pub answer_length : (nonce2 : List ℕ) (id : ℕ) → length nonce2 ≡ 8 → length (item_spelling (answer_item nonce2 (id ∷ []))) ≡ 16
     pub welcome : (before after : DeskState) (on : Standing) (draw : Draw) (post : Post) (claims : Claims) (entries : List Entry) (holder : ClientDesk) (nonce1 : List ℕ) (id : ℕ)
         → IsWelcome (is_sealing EightByteTag) before on claims entries holder → length nonce1 ≡ 8
@@ -202,6 +207,20 @@ module _ (is_sealing : Sealings) where
         × (held.ends ≡ end_of before.rules.seconds on.at)
         × (finished ≡ Ok (record { name = held.name; next = 0 }))
         × (held.window ≡ []) × IsLawfulContext held × (HasLawfulParts claims → HasShortContext held.name)
+
+-- ---- under the key that opens the token
+
+module _ (is_sealing : Sealings) (laws : ExchangeLaws is_sealing)
+    (server : Server) (came : Arrival Message) (exchange : BegunExchange) (awaits : AwaitsPost is_sealing server came exchange) where
+  pub posts_under_it : (post : Post) (after : DeskState) → Posts (is_sealing EightByteTag) server.desk (posted server.tree exchange came) post after
+      → Posts (is_sealing EightByteTag) (with_key awaits.token_key server.desk) (posted server.tree exchange came) post (with_key awaits.token_key after)
+  posts_under_it post after posts =
+      let ids = exchange.begun.recipient_id ∷ [] in
+      let is_post =
+      laws.written exchange.holder.token exchange.begun.nonce1 ids awaits.welcome.welcome.holds.token_size (omega (arith, awaits.nonce)) (omega (arith, awaits.nonce)) (omega arith) in
+      posts_under (is_sealing EightByteTag) awaits.token_key server.desk after (posted server.tree exchange came) post exchange.holder.token awaits.welcome.opens
+      (λ other nonce1 client_id its. (laws.one_post (body_of exchange.holder exchange.begun) exchange.holder.token exchange.begun.nonce1 ids other nonce1 client_id is_post its).0)
+      posts
 
 -- ---- the server agrees
 
@@ -222,7 +241,9 @@ module _ (is_sealing : Sealings) (laws : ExchangeLaws is_sealing)
   agreed_to it =
       let posts : Posts (is_sealing EightByteTag) server.desk (posted server.tree exchange came) it.post new.desk =
       subst (λ (bytes : List ℕ). Posts (is_sealing EightByteTag) server.desk (record { on = standing_of server came.at; body = bytes; draw = came.draw }) it.post new.desk) (payload_again body) it.posts in
-      let answered = laws.welcome server.desk new.desk (standing_of server came.at) came.draw it.post exchange.claims exchange.entries exchange.holder exchange.begun.nonce1 exchange.begun.recipient_id awaits.welcome awaits.nonce awaits.makes.unknown posts in
+      let answered =
+      laws.welcome (with_key awaits.token_key server.desk) (with_key awaits.token_key new.desk) (standing_of server came.at) came.draw it.post exchange.claims exchange.entries exchange.holder
+      exchange.begun.nonce1 exchange.begun.recipient_id awaits.welcome.welcome awaits.nonce awaits.makes.unknown (posts_under_it is_sealing laws server came exchange awaits it.post new.desk posts) in
       let reply_is : reply_to server.endpoint (read_as came (post_to host id token body)) (post_reply it.post.answer) ≡ agreement Acknowledgement id token answered.0 =
       ap (λ (a : Result PostReply PostError). reply_to server.endpoint (read_as came (post_to host id token body)) (post_reply a)) answered.1 in
       record {
@@ -298,19 +319,20 @@ module _ (is_sealing : Sealings) (laws : ExchangeLaws is_sealing)
       → (held : SecurityContext) × IsHeld agreed now entries held × (finished ≡ Ok (made_of held))
   finishes finished finish =
       let one =
-      laws.one_name server.desk agreed.desk (standing_of server now) came.draw is.post is.answer exchange.claims entries holder its finished size awaits.nonce awaits.welcome.holds is.posts is.agrees finish in (
+      laws.one_name (with_key awaits.token_key server.desk) (with_key awaits.token_key agreed.desk) (standing_of server now) came.draw is.post is.answer exchange.claims entries holder its finished size awaits.nonce
+      awaits.welcome.welcome.holds (posts_under_it is_sealing laws server came exchange awaits is.post agreed.desk is.posts) is.agrees finish in (
         one.0,
         record {
           here = one.1;
           live = record {
-            begun = subst (λ (bound : Option ℕ). HasBegun bound now) (sym one.3) awaits.welcome.begun;
-            not_over = subst (λ (bound : Option ℕ). IsNotOver bound now) (sym one.4) awaits.welcome.not_over;
-            unrevoked = (λ i. stands (is.tree i) (one.5 i)) ∙ awaits.welcome.unrevoked;
+            begun = subst (λ (bound : Option ℕ). HasBegun bound now) (sym one.3) awaits.welcome.welcome.begun;
+            not_over = subst (λ (bound : Option ℕ). IsNotOver bound now) (sym one.4) awaits.welcome.welcome.not_over;
+            unrevoked = (λ i. stands (is.tree i) (one.5 i)) ∙ awaits.welcome.welcome.unrevoked;
             young = subst (λ (bound : Option ℕ). IsNotOver bound now) (sym one.6) (lasts now server.desk.rules.seconds awaits.makes.lasting);
           };
           scope = one.2;
           window = one.8;
-          short = one.10 awaits.welcome.lawful;
+          short = one.10 awaits.welcome.welcome.lawful;
         },
         one.7,
       )

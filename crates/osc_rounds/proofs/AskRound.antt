@@ -36,7 +36,7 @@ use Rattle.osc_authz.specs.declared.token_entry.TokenEntry.{TokenEntry}
 use Rattle.osc_run.specs.{request_note, Replies as AppliesTo}
 use Rattle.osc_server.specs.State.{State as Server}
 use Rattle.osc_server.specs.{standing_of, Hears as ServerHears, answered, reply_to}
-use Rattle.osc_client.specs.{IsLawfulClient, Asked, plain_of, plain_request, waits, HostAndPort, through}
+use Rattle.osc_client.specs.{Asked, plain_of, plain_request, waits, HostAndPort, through}
 use Rattle.osc_client.specs.State.{State as Client}
 use Rattle.osc_client.specs.declared.waiting.Awaited.TheVariants.{Ask}
 use Rattle.osc_client.specs.declared.waiting.Waiting.{Waiting}
@@ -44,7 +44,7 @@ use Rattle.osc_rounds.specs.{IsAskedAndAnswered, IsLawfulServer, IsServedAndAnsw
 use Rattle.osc_proxy.specs.{IsCarried}
 use Rattle.osc_rounds.proofs.Accepting.{ReplyLaws, reply_accepted}
 use Rattle.osc_rounds.proofs.Asking.{RequestLaws, request_served}
-use Rattle.osc_rounds.proofs.Sent.{IsSent, id_few, its_context}
+use Rattle.osc_rounds.proofs.Sent.{IsSent, id_few}
 use Rattle.osc_rounds.proofs.Unheard.{still_unheard}
 use Rattle.osc_rounds.proofs.Sendable.{IsShortReply, TextLaw, request_sendable, response_sendable}
 
@@ -177,15 +177,15 @@ answered_unheard endpoint came later answer other kind isnt unheard =
 
 module _ (is_sealing : Sealings) (tag : Tags) (laws : RoundLaws is_sealing tag)
     (client asked : Client) (server : Server) (asks_for : Asked) (now : Moment) (at server_at : Peer) (context : ClientContextState) (held : SecurityContext) (first : Step)
-    (lawful : IsLawfulServer server) (lawful_client : IsLawfulClient asked) (goes : IsStraight client server now asks_for.draw at server_at) (ends : MayAsk client server now context held)
+    (lawful : IsLawfulServer server) (short_name : HasShortContext context.name) (goes : IsStraight client server now asks_for.draw at server_at) (ends : MayAsk client server now context held)
     (sent : IsSent is_sealing tag client asked asks_for first context) where
-  abbrev draw : Draw
+  abbrev pub draw : Draw
   draw = asks_for.draw
 
-  abbrev request : Request
+  abbrev pub request : Request
   request = asks_for.request
 
-  abbrev way : StraightRequest
+  abbrev pub way : StraightRequest
   way = record {
     asked = asked;
     server = server;
@@ -197,17 +197,17 @@ module _ (is_sealing : Sealings) (tag : Tags) (laws : RoundLaws is_sealing tag)
     text = asked_text client draw request;
   }
 
-  few : own_id draw client.endpoint.next_id < 2 ^ 16
+  pub few : own_id draw client.endpoint.next_id < 2 ^ 16
   few = id_few is_sealing tag client asked asks_for first context sent
 
-  short : HasShortContext held.name
-  short = subst HasShortContext (sym ends.one_name) (its_context is_sealing tag client asked asks_for first context sent lawful_client)
+  pub short : HasShortContext held.name
+  short = subst HasShortContext (sym ends.one_name) short_name
 
   -- what the table says of the context
-  client_id_short : length held.name.client_id ≤ longest_id
+  pub client_id_short : length held.name.client_id ≤ longest_id
   client_id_short = let is = lawful_context server.desk.table held lawful.table ends.here in omega (arith, ap (λ (id : List ℕ). length id) is.one_byte)
 
-  awaits_request : AwaitsRequest server now at held context.next (own_id draw client.endpoint.next_id)
+  pub awaits_request : AwaitsRequest server now at held context.next (own_id draw client.endpoint.next_id)
   awaits_request = record {
     lawful = record { context = short; client_id = client_id_short };
     means = laws.meant_is (standing_of server now) server.desk.table held lawful.table ends.here ends.live;
@@ -216,27 +216,27 @@ module _ (is_sealing : Sealings) (tag : Tags) (laws : RoundLaws is_sealing tag)
     unheard = goes.unheard;
   }
 
-  abbrev bare_request : Message
+  abbrev pub bare_request : Message
   bare_request = plain_request (own_id draw client.endpoint.next_id) (token_drawn draw) request
 
-  plain_is : plain_of client draw request ≡ bare_request
+  pub plain_is : plain_of client draw request ≡ bare_request
   plain_is = ap (λ (origin : Option HostAndPort). through origin bare_request) goes.direct
 
-  direct : outer_options bare_request.options ≡ []
+  pub direct : outer_options bare_request.options ≡ []
   direct = laws.encrypted request
 
-  for_server : IsForServer bare_request
+  pub for_server : IsForServer bare_request
   for_server = record { kind = refl; outside = nothing direct }
 
-  token_short : length (token_drawn draw) ≤ 8
+  pub token_short : length (token_drawn draw) ≤ 8
   token_short = omega (arith, length-take 8 (drop 8 draw.0))
 
-  its : IsProtectedRequest is_sealing held.name context.next bare_request sent.message
+  pub its : IsProtectedRequest is_sealing held.name context.next bare_request sent.message
   its =
       subst (λ (m : Message). IsProtectedRequest is_sealing held.name context.next m sent.message) plain_is
       (subst (λ (n : ContextName). IsProtectedRequest is_sealing n context.next (plain_of client draw request) sent.message) (sym ends.one_name) sent.made)
 
-  value_short : length (request_value held.name context.next) ≤ 255
+  pub value_short : length (request_value held.name context.next) ≤ 255
   value_short = laws.request.value_short held.name context.next short client_id_short
 
   fits : request_length tag held.name context.next bare_request ≤ longest_message
@@ -244,19 +244,19 @@ module _ (is_sealing : Sealings) (tag : Tags) (laws : RoundLaws is_sealing tag)
       subst (λ (m : Message). request_length tag held.name context.next m ≤ longest_message) plain_is
       (subst (λ (n : ContextName). request_length tag n context.next (plain_of client draw request) ≤ longest_message) (sym ends.one_name) sent.free.fits)
 
-  sendable : IsCarried sent.message
+  pub sendable : IsCarried sent.message
   sendable =
       request_sendable is_sealing tag laws.spelled_length laws.sealed_length held.name context.next bare_request sent.message its direct few token_short value_short fits
 
-  abbrev waiting : Waiting
+  abbrev pub waiting : Waiting
   waiting = waits client.endpoint asks_for.at draw (Ask (record { number = context.next }))
 
-  number_taken : asked.context ≡ Some (record { name = held.name; next = context.next + 1 })
+  pub number_taken : asked.context ≡ Some (record { name = held.name; next = context.next + 1 })
   number_taken =
       ap (λ (c : Client). c.context) sent.kept
       ∙ ap (λ (n : ContextName). Some (let k : ClientContextState = record { name = n; next = context.next + 1 } in k)) (sym ends.one_name)
 
-  awaits : AwaitsReply asked server_at held.name context.next sent.message
+  pub awaits : AwaitsReply asked server_at held.name context.next sent.message
   awaits = record {
     next = context.next + 1;
     held = number_taken;

@@ -44,11 +44,12 @@ use Rattle.osc_client.specs.{IsLawfulClient, Exchanges, begins, begun_by, busy, 
 use Rattle.osc_client.specs.Sending as sending
 use Rattle.osc_client.specs.State.{State as Client}
 use Rattle.osc_client.specs.declared.waiting.Awaited.TheVariants.{Exchange}
-use Rattle.osc_rounds.specs.{coming, in_bytes, claims_text, IsStraight, MayExchange, AreNotesOfAgreement, AreNotesOfExchange}
+use Rattle.osc_rounds.specs.{coming, in_bytes, claims_text, IsStraight, MayExchange, AreNotesOfAgreement, AreNotesOfExchange, IsWelcomeUnder, with_key}
 use Rattle.osc_proxy.specs.{IsCarried}
 use Rattle.osc_rounds.proofs.Agreement.{case_post, heard_post, payload_again}
 use Rattle.osc_rounds.proofs.Asking.{received_as}
 use Rattle.osc_rounds.proofs.ExchangeRound.{drawn_size}
+use Rattle.osc_rounds.proofs.OldKey.{posts_under}
 use Rattle.osc_rounds.proofs.Unheard.{still_unheard}
 
 module _ (is_sealing : Sealings) where
@@ -139,17 +140,22 @@ module _ (is_sealing : Sealings) (laws : TokenLaws is_sealing)
 -- what a server notes of it, whichever way the post came
 pub answer_notes : (is_sealing : Sealings) (laws : TokenLaws is_sealing)
     (server agreed : Server) (came : Arrival Message) (step : Step) (claims : Claims) (entries : List Entry) (holder : ClientDesk) (nonce1 : List ℕ) (client_id : ℕ)
-    → IsWelcome (is_sealing EightByteTag) server.desk (standing_of server came.at) claims entries holder → length nonce1 ≡ 8
+    (key : List ℕ) → IsWelcomeUnder (is_sealing EightByteTag) key server.desk (standing_of server came.at) claims entries holder → length nonce1 ≡ 8
     → known claims.material.id nonce1 (client_id ∷ []) server.desk.table ≡ None
     → came.what.payload ≡ payload_of (item_spelling (post_item holder.token nonce1 (client_id ∷ [])))
     → AnswersPost is_sealing server came step agreed
-    → AreNotesOfAgreement server.desk.key (claims_text claims) came.draw step.notes
-answer_notes is_sealing laws server agreed came step claims entries holder nonce1 client_id welcome size unknown payload it =
+    → AreNotesOfAgreement key (claims_text claims) came.draw step.notes
+answer_notes is_sealing laws server agreed came step claims entries holder nonce1 client_id key welcome size unknown payload it =
     let body : List ℕ = item_spelling (post_item holder.token nonce1 (client_id ∷ [])) in
     let bytes : unwrap_or came.what.payload [] ≡ body = ap (λ (p : Option (List ℕ)). unwrap_or p []) payload ∙ payload_again body in
     let posts : Posts (is_sealing EightByteTag) server.desk (record { on = standing_of server came.at; body = body; draw = came.draw }) it.post agreed.desk =
     subst (λ (b : List ℕ). Posts (is_sealing EightByteTag) server.desk (record { on = standing_of server came.at; body = b; draw = came.draw }) it.post agreed.desk) bytes it.posts in
-    let notes = post_notes is_sealing laws server.desk agreed.desk (standing_of server came.at) came.draw it.post claims entries holder nonce1 client_id welcome size unknown posts in
+    let its_post = laws.written holder.token nonce1 (client_id ∷ []) welcome.welcome.holds.token_size (omega (arith, size)) (omega (arith, size)) (omega arith) in
+    let under =
+    posts_under (is_sealing EightByteTag) key server.desk agreed.desk (record { on = standing_of server came.at; body = body; draw = came.draw }) it.post holder.token welcome.opens
+    (λ other nonces ids its. (laws.one_post body holder.token nonce1 (client_id ∷ []) other nonces ids its_post its).0) posts in
+    let notes =
+    post_notes is_sealing laws (with_key key server.desk) (with_key key agreed.desk) (standing_of server came.at) came.draw it.post claims entries holder nonce1 client_id welcome.welcome size unknown under in
     record { protected = notes.protected; iv = notes.iv; id = notes.id; is = ap (λ (s : Step). s.notes) it.sent.sent ∙ notes.is }
 
 -- ---- what went out
@@ -228,13 +234,13 @@ module _ (is_sealing : Sealings)
 
   module _ (laws : TokenLaws is_sealing) (claims : Claims) (entries : List Entry) (may : MayExchange is_sealing client server now draw claims entries) where
     pub exchange_notes : (made : StepNotes) → made ≡ record quiet { result = Some result.Made }
-        → AreNotesOfExchange server.desk.key (claims_text claims) (record { client = draw; server = server_draw }) first.notes second.notes made
+        → AreNotesOfExchange may.token_key (claims_text claims) (record { client = draw; server = server_draw }) first.notes second.notes made
     exchange_notes made is =
         let nonce_size : length (nonce_drawn draw) ≡ 8 = omega (arith, length-take 8 draw.0, posting.size) in
         record {
           begun_is = posting.notes;
           agreed_is =
-              answer_notes is_sealing laws server agreed came second claims entries client.desk (nonce_drawn draw) (begun_by client draw).recipient_id may.welcome
+              answer_notes is_sealing laws server agreed came second claims entries client.desk (nonce_drawn draw) (begun_by client draw).recipient_id may.token_key may.welcome
               nonce_size may.makes.unknown refl answers;
           made_is = is;
         }

@@ -91,7 +91,7 @@ module _ (is_sealing : Sealings) (laws : ExchangeLaws is_sealing)
   heard_as server_draw = record { at = now; from = at; draw = server_draw; what = message }
 
   awaits_post : (server_draw : Draw) → AwaitsPost is_sealing server (heard_as server_draw) exchange
-  awaits_post server_draw = record { welcome = may.welcome; makes = may.makes; nonce = nonce_size; unheard = straight.unheard }
+  awaits_post server_draw = record { token_key = may.token_key; welcome = may.welcome; makes = may.makes; nonce = nonce_size; unheard = straight.unheard }
 
   abbrev waiting : Waiting
   waiting = waits client.endpoint asked_at draw (Exchange its)

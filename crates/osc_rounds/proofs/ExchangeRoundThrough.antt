@@ -1,5 +1,5 @@
 -- An exchange that goes through a forward proxy, delivery by delivery.
-use Rattle.std.proofs.Common.{◌≡◌, ◌∙◌, sym, ap, subst, ◌<◌, ◌^◌, List, length, Option, Some, None, arith}
+use Rattle.std.proofs.Common.{◌≡◌, ◌∙◌, sym, ap, subst, ℕ, ◌<◌, ◌^◌, List, length, Option, Some, None, arith}
 use Rattle.std.specs.Prelude.{◌≢◌, IfSome}
 use Rattle.osc_model.specs.declared.node.Draw.{Draw}
 use Rattle.osc_model.specs.declared.node.Moment.{Moment}
@@ -39,8 +39,8 @@ module _ (is_sealing : Sealings)
   abbrev proxy_draw : Draw
   proxy_draw = hops.proxy_draw
 
-  abbrev pub exchange : ProxiedExchange
-  exchange = record {
+  abbrev pub exchange : List ℕ → ProxiedExchange
+  exchange token_key = record {
     server = server;
     now = now;
     draw = draw;
@@ -48,12 +48,13 @@ module _ (is_sealing : Sealings)
     proxy_at = proxy_at;
     claims = claims;
     entries = entries;
+    token_key = token_key;
   }
 
   -- ---- before
 
   module _ (begun_at : Moment) (lawful : IsLawfulClient begun) (may : MayExchange is_sealing client server now draw claims entries) where
-    begun_so : begun ≡ opened client begun_at draw (post_by client draw) (Exchange (begun_by client draw)) → MayExchangeThrough is_sealing client exchange
+    begun_so : begun ≡ opened client begun_at draw (post_by client draw) (Exchange (begun_by client draw)) → MayExchangeThrough is_sealing client (exchange may.token_key)
     begun_so kept = record {
       through = through.named;
       next_hop = through.next_hop;
@@ -64,7 +65,7 @@ module _ (is_sealing : Sealings)
       draw_size = drawn_size client begun begun_at draw (post_by client draw) (Exchange (begun_by client draw)) lawful kept;
     }
 
-    pub may_go_through : posts.notes.result ≢ Some (result.Refused 14) → Exchanges client begun_at draw posts begun → MayExchangeThrough is_sealing client exchange
+    pub may_go_through : posts.notes.result ≢ Some (result.Refused 14) → Exchanges client begun_at draw posts begun → MayExchangeThrough is_sealing client (exchange may.token_key)
     may_go_through fits (busy waits refused) = absurd (waits may.idle)
     may_go_through fits (sending.Exchanges.too_long idle long refused) = absurd (fits (ap (λ (s : Step). s.notes.result) refused.told))
     may_go_through fits (begins idle short spelled told kept) = begun_so kept
@@ -72,7 +73,7 @@ module _ (is_sealing : Sealings)
   -- ---- from one delivery to the next
 
   module _ (passes : PassesLaw) (lawful : IsLawfulProxy proxy) (size : length proxy_draw.0 ≡ 32)
-      (is : IsBegunAndMadeThrough is_sealing client exchange posts begun) where
+      (token_key : List ℕ) (is : IsBegunAndMadeThrough is_sealing client (exchange token_key) posts begun) where
     abbrev pub post : PostOnItsWay
     post = record {
       begun = begun;
@@ -86,6 +87,7 @@ module _ (is_sealing : Sealings)
       proxy_draw = proxy_draw;
       claims = claims;
       entries = entries;
+      token_key = token_key;
       message = is.message;
       key = through.key;
     }
@@ -111,7 +113,7 @@ module _ (is_sealing : Sealings)
     -- the last two
     made : (server_draw : Draw) (third : Step) (agreed : Server) (brought : Proxy) (fourth : Step) (settled : Client)
         → settled ≡ record begun { endpoint = meanwhile }
-        → (it : IsAgreedAndMadeThrough is_sealing exchange sent (at_server exchange server_draw forwarded_on) third agreed)
+        → (it : IsAgreedAndMadeThrough is_sealing (exchange token_key) sent (at_server (exchange token_key) server_draw forwarded_on) third agreed)
         → GoesBack proxy passage it.response fourth brought
         → IsBroughtBackAndMade is_sealing post settled agreed fourth brought
     made server_draw third agreed brought fourth settled settled_is it back = record {
@@ -134,9 +136,9 @@ module _ (is_sealing : Sealings)
         → settled ≡ record begun { endpoint = meanwhile }
         → (server_draw : Draw) (third : Step) (after : Server) → length server_draw.0 ≡ 32
         → ServerHears is_sealing server (coming now proxy_at server_draw forwarded_on) third after
-        → AreNotesOfAgreement server.desk.key (claims_text claims) server_draw third.notes × IsAgreedAndBroughtBack is_sealing post settled passed third after
+        → AreNotesOfAgreement token_key (claims_text claims) server_draw third.notes × IsAgreedAndBroughtBack is_sealing post settled passed third after
     agreed first passed settled goes settled_is server_draw third after drawn hears =
-        let it : IsAgreedAndMadeThrough is_sealing exchange sent (at_server exchange server_draw forwarded_on) third after =
+        let it : IsAgreedAndMadeThrough is_sealing (exchange token_key) sent (at_server (exchange token_key) server_draw forwarded_on) third after =
         is.agreed (next_own proxy proxy_draw) (forwarded_token through.key proxy_draw) server_draw third after goes.there.forwarded.lawful.id
         (token_size through.key proxy_draw size) through.new_at_server drawn hears in (
           it.notes,

@@ -26,9 +26,9 @@ use Rattle.osc_client.specs.declared.waiting.Awaited.TheVariants.{Exchange}
 use Rattle.osc_proxy.specs.{answer as sent_back, forwarded, IsCarried}
 use Rattle.osc_server.specs.{standing_of, Hears as ServerHears, notes_of_post}
 use Rattle.osc_server.specs.State.{State as Server}
-use Rattle.osc_rounds.specs.{AwaitsAgreement, AwaitsPost, BegunExchange, IsAgreedTo, agreement, body_of, coming, in_bytes, IsHeld, IsForProxy, IsAgreedAndMadeThrough, IsBegunAndMadeThrough, IsMadeThrough, IsPostedThrough, MayExchangeThrough, Posted, at_server, claims_text, AreNotesOfAgreement}
+use Rattle.osc_rounds.specs.{AwaitsAgreement, AwaitsPost, BegunExchange, IsAgreedTo, agreement, body_of, coming, in_bytes, IsHeld, IsForProxy, IsAgreedAndMadeThrough, IsBegunAndMadeThrough, IsMadeThrough, IsPostedThrough, MayExchangeThrough, Posted, at_server, claims_text, AreNotesOfAgreement, with_key}
 use Rattle.osc_rounds.specs.ProxiedExchange.{ProxiedExchange}
-use Rattle.osc_rounds.proofs.Agreement.{ExchangeLaws, agreement_sendable, counts_confirmable, hears_agreement, hears_post, post_lawful, post_to}
+use Rattle.osc_rounds.proofs.Agreement.{ExchangeLaws, agreement_sendable, counts_confirmable, hears_agreement, hears_post, post_lawful, post_to, posts_under_it}
 use Rattle.osc_rounds.proofs.Acknowledged.{acknowledgement_heard}
 use Rattle.osc_rounds.proofs.ExchangeNotes.{TokenLaws, post_notes}
 use Rattle.osc_rounds.proofs.ForProxy.{are_for, forwarded_post}
@@ -215,7 +215,7 @@ module _ (is_sealing : Sealings) (laws : ExchangeLaws is_sealing) (tokens : Toke
       came = at_server exchange server_draw (forwarded id token message)
 
       awaits_post : AwaitsPost is_sealing server came known
-      awaits_post = record { welcome = may.welcome; makes = may.makes; nonce = nonce_size draw may.draw_size; unheard = unheard }
+      awaits_post = record { token_key = exchange.token_key; welcome = may.welcome; makes = may.makes; nonce = nonce_size draw may.draw_size; unheard = unheard }
 
       module _ (is : IsAgreedTo is_sealing server came known second agreed) where
         abbrev response : Message
@@ -237,10 +237,12 @@ module _ (is_sealing : Sealings) (laws : ExchangeLaws is_sealing) (tokens : Toke
             awaits_post size is (still_awaits endpoint) little (omega (arith, token_size draw may.draw_size)) fresh refl hears in
             (it.0, it.1, record { told = it.2.told; kept = it.2.kept })
 
-        post_noted : AreNotesOfAgreement server.desk.key (claims_text exchange.claims) server_draw (notes_of_post is.post)
+        post_noted : AreNotesOfAgreement exchange.token_key (claims_text exchange.claims) server_draw (notes_of_post is.post)
+        unfolding awaits_post
         post_noted =
-            post_notes is_sealing tokens server.desk agreed.desk (standing_of server now) server_draw is.post exchange.claims exchange.entries client.desk its.nonce1 its.recipient_id may.welcome
-            (nonce_size draw may.draw_size) may.makes.unknown is.posts
+            post_notes is_sealing tokens (with_key exchange.token_key server.desk) (with_key exchange.token_key agreed.desk) (standing_of server now) server_draw is.post exchange.claims exchange.entries
+            client.desk its.nonce1 its.recipient_id may.welcome.welcome (nonce_size draw may.draw_size) may.makes.unknown
+            (posts_under_it is_sealing laws server came known awaits_post is.post agreed.desk is.posts)
 
         made : IsAgreedAndMadeThrough is_sealing exchange sent came second agreed
         made = record {

@@ -1,23 +1,23 @@
 -- Where one message is noted, what wasn't noted of others still isn't.
-use Rattle.std.proofs.Common.{◌≡◌, ◌∙◌, sym, refl, ℕ, zero, suc, Bool, true, false, ◌&&◌, List, [], ◌∷◌, ◌++◌, drop, Some, None, length, ◌+◌, ◌-◌}
+use Rattle.std.proofs.Common.{arith, ◌≤◌, ◌≡◌, ◌∙◌, sym, refl, ℕ, zero, suc, Bool, true, false, ◌&&◌, List, [], ◌∷◌, ◌++◌, drop, Some, None, length, ◌+◌, ◌-◌}
 use Rattle.std.specs.Prelude.{◌≢◌, filter, not}
 use Rattle.std.proofs.lemmas.Bool.{ne_eqb}
 use Rattle.osc_model.specs.{same_peer}
 use Rattle.osc_model.specs.declared.node.Moment.{Moment}
 use Rattle.osc_model.specs.declared.node.Peer.{Peer}
-use Rattle.osc_dedup.specs.{Entry, is_alive, is_of, looked, most_entries, staying, with_note}
+use Rattle.osc_dedup.specs.{Entry, alive, is_alive, is_of, looked, most_entries, staying, with_note}
 use Rattle.osc_dedup.specs.declared.table.Remembered.{Remembered}
 
 module _ (later : Moment) (peer : Peer) (id : ℕ) where
   -- none of these that lives is of this message
-  abbrev Unheard : List Entry → Type 0
+  abbrev pub Unheard : List Entry → Type 0
   Unheard [] = Unit {0}
   Unheard (entry ∷ entries) = (is_alive later entry ≡ true → is_of peer id entry ≡ false) × Unheard entries
 
   some_noted : (entry : Entry) → Some entry.noted ≡ None → ⊥
   some_noted entry e = cc
 
-  unheard_of : (entries : List Entry) → looked later peer id entries ≡ None → Unheard entries
+  pub unheard_of : (entries : List Entry) → looked later peer id entries ≡ None → Unheard entries
   unheard_of [] none = tt
   unheard_of (entry ∷ entries) none = at (is_alive later entry) (is_of peer id entry) refl refl (unheard_of entries)
     where
@@ -26,7 +26,7 @@ module _ (later : Moment) (peer : Peer) (id : ℕ) where
       at true true living of rest = let some : Some entry.noted ≡ None = rw (living, of) at none in absurd (some_noted entry some)
       at true false living of rest = ((λ _. of), rest (rw (living, of) at none))
 
-  of_unheard : (entries : List Entry) → Unheard entries → looked later peer id entries ≡ None
+  pub of_unheard : (entries : List Entry) → Unheard entries → looked later peer id entries ≡ None
   of_unheard [] none = refl
   of_unheard (entry ∷ entries) none = at (is_alive later entry) refl (of_unheard entries none.1)
     where
@@ -34,7 +34,7 @@ module _ (later : Moment) (peer : Peer) (id : ℕ) where
       at false dead rest = rw dead rest
       at true living rest = rw (living, none.0 living) rest
 
-  unheard_filtered : (keeps : Entry → Bool) (entries : List Entry) → Unheard entries → Unheard (filter keeps entries)
+  pub unheard_filtered : (keeps : Entry → Bool) (entries : List Entry) → Unheard entries → Unheard (filter keeps entries)
   unheard_filtered keeps [] none = tt
   unheard_filtered keeps (entry ∷ entries) none = at (keeps entry) refl (unheard_filtered keeps entries none.1)
     where
@@ -66,3 +66,19 @@ still_unheard now later peer from id other noted seen isnt none =
     (unheard_dropped later peer other (length others + 1 - most_entries) others
     (unheard_filtered later peer other (λ entry. is_alive now entry && not (is_of from id entry)) seen (unheard_of later peer other seen none)))
     differs)
+
+-- a tick lets notes go, and adds none
+pub unheard_at_tick : (now later : Moment) (peer : Peer) (id : ℕ) (seen : List Entry) → looked later peer id seen ≡ None → looked later peer id (alive now seen) ≡ None
+unheard_at_tick now later peer id seen none =
+    of_unheard later peer id (alive now seen) (unheard_filtered later peer id (is_alive now) seen (unheard_of later peer id seen none))
+
+-- what isn't noted at a moment isn't later
+pub unheard_later : (now later : Moment) (peer : Peer) (id : ℕ) (seen : List Entry) → now.ms ≤ later.ms → looked now peer id seen ≡ None → looked later peer id seen ≡ None
+unheard_later now later peer id seen after none = of_unheard later peer id seen (over seen (unheard_of now peer id seen none))
+  where
+    lives_before : (entry : Entry) → is_alive later entry ≡ true → is_alive now entry ≡ true
+    lives_before entry lives = grind (arith, lives, after)
+
+    over : (entries : List Entry) → Unheard now peer id entries → Unheard later peer id entries
+    over [] none = tt
+    over (entry ∷ entries) none = ((λ lives. none.0 (lives_before entry lives)), over entries none.1)

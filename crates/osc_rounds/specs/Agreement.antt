@@ -19,7 +19,7 @@ use Rattle.osc_scope.specs.{Entry}
 use Rattle.osc_token.specs.declared.claims.Claims.{Claims}
 use Rattle.osc_ccm.specs.{Sealings}
 use Rattle.osc_authz.specs.Begun.{Begun}
-use Rattle.osc_authz.specs.{known, post_item, DeskState, Posts, IsWelcome}
+use Rattle.osc_authz.specs.{known, post_item, DeskState, Posts}
 use Rattle.osc_authz.specs.Posting.{Posting}
 use Rattle.osc_authz.specs.declared.granted.ClientDesk.{ClientDesk}
 use Rattle.osc_authz.specs.declared.post.Post.{Post}
@@ -30,6 +30,7 @@ use Rattle.osc_server.specs.{standing_of, notes_of_post, post_reply}
 use Rattle.osc_client.specs.State.{State as Client}
 use Rattle.osc_client.specs.declared.waiting.Awaited.TheVariants.{Exchange}
 use Rattle.osc_client.specs.declared.waiting.Waiting.{Waiting}
+use Rattle.osc_rounds.specs.Welcome.{IsWelcomeUnder}
 
 -- an exchange that a client has begun: what its token claims, and the entries of the token's scope; what the client was granted, and what
 -- it began
@@ -61,7 +62,8 @@ module _ (is_sealing : Sealings) where
   -- The token of this client is welcome at the server, which doesn't know the post, the client's nonce is one of 8 bytes, and no message of
   -- the post's ID was heard from there.
   pub record AwaitsPost (server : Server) (came : Arrival Message) (exchange : BegunExchange) : Type 0 where
-    pub welcome : IsWelcome (is_sealing EightByteTag) server.desk (standing_of server came.at) exchange.claims exchange.entries exchange.holder
+    pub token_key : List ℕ
+    pub welcome : IsWelcomeUnder (is_sealing EightByteTag) token_key server.desk (standing_of server came.at) exchange.claims exchange.entries exchange.holder
     pub makes : MakesContexts server.desk exchange.claims exchange.begun
     pub nonce : length exchange.begun.nonce1 ≡ 8
     pub unheard : looked came.at came.from came.what.id server.endpoint.seen ≡ None

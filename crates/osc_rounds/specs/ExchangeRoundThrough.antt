@@ -24,7 +24,8 @@ use Rattle.osc_rounds.specs.ProxiedExchange.{IsMadeThrough, claims_text}
 use Rattle.osc_rounds.specs.RoundNotes.{AreNotesOfAgreement}
 
 -- a post on its way: the client that has begun the exchange, proxy and server before, their addresses, the moment, and what client and
--- proxy draw; what its token claims, and the scope's entries; its message, and the key of its exchange at the proxy
+-- proxy draw; what its token claims, the scope's entries, and the key that the server opens the token with; its message, and the key of its
+-- exchange at the proxy
 pub record PostOnItsWay : Type 0 where
   pub begun : Client
   pub proxy : Proxy
@@ -37,6 +38,7 @@ pub record PostOnItsWay : Type 0 where
   pub proxy_draw : Draw
   pub claims : Claims
   pub entries : List Entry
+  pub token_key : List ℕ
   pub message : Message
   pub key : ℕ
 
@@ -87,7 +89,7 @@ module _ (is_sealing : Sealings) where
     pub told : second ≡ sends []
     pub agreed : (server_draw : Draw) (third : Step) (after : Server) → length server_draw.0 ≡ 32
         → ServerHears is_sealing post.server (coming post.now post.proxy_at server_draw (forwarded_post post)) third after
-        → AreNotesOfAgreement post.server.desk.key (claims_text post.claims) server_draw third.notes
+        → AreNotesOfAgreement post.token_key (claims_text post.claims) server_draw third.notes
         × IsAgreedAndBroughtBack post settled passed third after
 
   -- second: two datagrams go out, an acknowledgement to the client and the forwarded post to the server; and where the first comes to the

@@ -19,7 +19,6 @@ use Rattle.osc_token.specs.{claims_item}
 use Rattle.osc_token.specs.declared.claims.Claims.{Claims}
 use Rattle.osc_ccm.specs.{Sealings}
 use Rattle.osc_authz.specs.SecurityContext.{SecurityContext}
-use Rattle.osc_authz.specs.{IsWelcome}
 use Rattle.osc_server.specs.{standing_of, Hears as ServerHears}
 use Rattle.osc_server.specs.State.{State as Server}
 use Rattle.osc_client.specs.{Hears as ClientHears, begun_by, post_by, HostAndPort, IsLawfulOrigin}
@@ -31,9 +30,11 @@ use Rattle.osc_rounds.specs.ExchangeRound.{IsHeld}
 use Rattle.osc_rounds.specs.ForProxy.{IsForProxy}
 use Rattle.osc_rounds.specs.RoundNotes.{AreNotesOfAgreement}
 use Rattle.osc_rounds.specs.Asked.{with_acknowledgement}
+use Rattle.osc_rounds.specs.Welcome.{IsWelcomeUnder}
 
 -- an exchange that goes through a proxy, whatever that is: the server before, the moment, what the client draws, the host and port by which
--- it names the server, and the proxy's address; what its token claims, and the entries of the token's scope
+-- it names the server, and the proxy's address; what its token claims, the entries of the token's scope, and the key that the server opens
+-- the token with
 pub record ProxiedExchange : Type 0 where
   pub server : Server
   pub now : Moment
@@ -42,6 +43,7 @@ pub record ProxiedExchange : Type 0 where
   pub proxy_at : Peer
   pub claims : Claims
   pub entries : List Entry
+  pub token_key : List ℕ
 
 -- a message of the proxy, as it comes to the server
 abbrev pub at_server : ProxiedExchange → Draw → Message → Arrival Message
@@ -75,7 +77,7 @@ module _ (is_sealing : Sealings) where
     pub through : client.origin ≡ Some exchange.origin
     pub next_hop : client.next_hop ≡ exchange.proxy_at
     pub idle : client.waiting ≡ None
-    pub welcome : IsWelcome (is_sealing EightByteTag) exchange.server.desk (standing_of exchange.server exchange.now) exchange.claims exchange.entries client.desk
+    pub welcome : IsWelcomeUnder (is_sealing EightByteTag) exchange.token_key exchange.server.desk (standing_of exchange.server exchange.now) exchange.claims exchange.entries client.desk
     pub makes : MakesContexts exchange.server.desk exchange.claims (begun_by client exchange.draw)
     -- what the type of an origin says; and a draw has a nonce and a token, of 8 bytes each
     pub origin_lawful : IsLawfulOrigin exchange.origin
@@ -85,7 +87,7 @@ module _ (is_sealing : Sealings) where
   -- the client takes that, in a confirmable message that is new to it, and whatever else its message layer heard meanwhile, both have a
   -- context of one name, the server's with the scope of these entries.
   pub record IsAgreedAndMadeThrough (exchange : ProxiedExchange) (posted : Posted) (came : Arrival Message) (second : Step) (agreed : Server) : Type 0 where
-    pub notes : AreNotesOfAgreement exchange.server.desk.key (claims_text exchange.claims) came.draw second.notes
+    pub notes : AreNotesOfAgreement exchange.token_key (claims_text exchange.claims) came.draw second.notes
     pub response : Message
     pub out : second.out ≡ datagram exchange.proxy_at response ∷ []
     pub forwardable : IsAnswerTo came.what response

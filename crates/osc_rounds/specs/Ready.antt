@@ -12,13 +12,14 @@ use Rattle.osc_window.specs.{IsFresh}
 use Rattle.osc_scope.specs.{Entry}
 use Rattle.osc_token.specs.declared.claims.Claims.{Claims}
 use Rattle.osc_ccm.specs.{Sealings}
-use Rattle.osc_authz.specs.{ClientContextState, IsLive, In, contexts, IsWelcome}
+use Rattle.osc_authz.specs.{ClientContextState, IsLive, In, contexts}
 use Rattle.osc_authz.specs.SecurityContext.{SecurityContext}
 use Rattle.osc_server.specs.{standing_of}
 use Rattle.osc_server.specs.State.{State as Server}
 use Rattle.osc_client.specs.State.{State as Client}
 use Rattle.osc_client.specs.{begun_by, HostAndPort}
 use Rattle.osc_rounds.specs.Agreement.{MakesContexts}
+use Rattle.osc_rounds.specs.Welcome.{IsWelcomeUnder}
 use Rattle.osc_proxy.specs.{free_key, next_own, peer_of, answer_id}
 use Rattle.osc_proxy.specs.State.{State as Proxy}
 
@@ -72,9 +73,10 @@ pub record MayAsk (client : Client) (server : Server) (now : Moment) (context : 
 
 -- `is_sealing algorithm` is the relation of the algorithm's cipher
 module _ (is_sealing : Sealings) where
-  -- The client waits for nothing, and holds a token of these claims, with this scope, that is welcome at the server, which doesn't know
-  -- the post that the client makes of its draw.
+  -- The client waits for nothing, and holds a token of these claims, with this scope, that is welcome at the server, under its key or its old
+  -- key. The server doesn't know the post that the client makes of its draw.
   pub record MayExchange (client : Client) (server : Server) (now : Moment) (draw : Draw) (claims : Claims) (entries : List Entry) : Type 0 where
     pub idle : client.waiting ≡ None
-    pub welcome : IsWelcome (is_sealing EightByteTag) server.desk (standing_of server now) claims entries client.desk
+    pub token_key : List ℕ
+    pub welcome : IsWelcomeUnder (is_sealing EightByteTag) token_key server.desk (standing_of server now) claims entries client.desk
     pub makes : MakesContexts server.desk claims (begun_by client draw)

@@ -37,6 +37,7 @@ ghost use Rattle.osc_rounds.specs.Asked.{AwaitsReply, AwaitsRequest, CarriesRepl
 ghost use Rattle.osc_rounds.specs.AskRound.{IsAskedAndAnswered, IsLawfulServer, asked_text};
 ghost use Rattle.osc_rounds.specs.AskRoundThrough.{IsAskedAndServedThrough};
 ghost use Rattle.osc_rounds.specs.Coming.{coming, in_bytes};
+ghost use Rattle.osc_rounds.specs.LossClaim.{IsAskedOverLoss};
 ghost use Rattle.osc_rounds.specs.ExchangeRound.{IsBegunAndMade, IsHeld};
 ghost use Rattle.osc_rounds.specs.ExchangeRoundThrough.{IsPostedAndAgreedThrough};
 ghost use Rattle.osc_rounds.specs.Ready.{Hops, IsStraight, IsThrough, MayAsk, MayExchange};
@@ -52,7 +53,8 @@ use osc_authz::laws::{
 };
 use osc_ccm::Ciphers;
 use osc_coap::laws::{fewer_options, length_of_spelling, one_plaintext};
-use osc_message::laws::{one_reception, what_nodes_send};
+use osc_dedup::laws::{expiring, noted};
+use osc_message::laws::{one_reception, retransmissions, what_nodes_send};
 use osc_model::laws::one_peer;
 use osc_options::laws::{
     a_reply_is_read_again, a_written_reply, option_of_a_protected_message, requests_are_encrypted,
@@ -157,6 +159,8 @@ pub fn an_exchange_is_made<A: Ciphers>()
     length_of_spelling();
     lengths_of_answers();
     welcome_posts::<TokenCipher<A>>();
+    what_is_written();
+    one_payload();
     one_name::<TokenCipher<A>>();
 }
 
@@ -212,6 +216,8 @@ pub fn a_forwarded_post_is_agreed_to<A: Ciphers>()
     length_of_spelling();
     lengths_of_answers();
     welcome_posts::<TokenCipher<A>>();
+    what_is_written();
+    one_payload();
     one_name::<TokenCipher<A>>();
     forwarding_adds_nothing();
 }
@@ -234,6 +240,8 @@ pub fn an_answer_sent_back_makes_a_context<A: Ciphers>()
     length_of_spelling();
     lengths_of_answers();
     welcome_posts::<TokenCipher<A>>();
+    what_is_written();
+    one_payload();
     one_name::<TokenCipher<A>>();
 }
 
@@ -317,7 +325,7 @@ pub fn an_exchange_goes_through_a_proxy<A: Ciphers>()
     ensures { (client begun : Client) (proxy : Proxy) (server : Server) (begun_at : AnyMoment) (draw : AnyDraw) (hops : Hops)
         (claims : AnyClaims) (entries : List Entry) (posts : AnyStep)
         → IsLawfulProxy proxy → IsLawfulClient begun → length hops.proxy_draw.0 ≡ 32
-        → (way : IsThrough client proxy server draw hops) → MayExchange A.is_sealing client server hops.now draw claims entries
+        → (way : IsThrough client proxy server draw hops) → (may : MayExchange A.is_sealing client server hops.now draw claims entries)
         → posts.notes.result ≢ Some (result_as.Refused refusal.datagram_too_long)
         → Exchanges client begun_at draw posts begun
         → (message : Message)
@@ -333,6 +341,7 @@ pub fn an_exchange_goes_through_a_proxy<A: Ciphers>()
           proxy_draw = hops.proxy_draw;
           claims = claims;
           entries = entries;
+          token_key = may.token_key;
           message = message;
           key = way.key;
         }) posts }
@@ -366,11 +375,11 @@ pub fn an_exchange_keeps_the_premise()
 pub fn what_an_exchange_notes<A: Ciphers>()
     ensures notes { (client begun : Client) (server agreed : Server) (asked_at now : AnyMoment) (draw server_draw : AnyDraw) (at server_at : AnyPeer)
         (claims : AnyClaims) (entries : List Entry) (message : Message) (first second : AnyStep) (made : StepNotes)
-        → IsLawfulClient begun → IsStraight client server now draw at server_at → MayExchange A.is_sealing client server now draw claims entries
+        → IsLawfulClient begun → IsStraight client server now draw at server_at → (may : MayExchange A.is_sealing client server now draw claims entries)
         → Exchanges client asked_at draw first begun → first.out ≡ datagram client.next_hop message ∷ []
         → ServerHears A.is_sealing server (coming now at server_draw message) second agreed
         → made ≡ record quiet { result = Some result_as.Made }
-        → AreNotesOfExchange server.desk.key (claims_text claims) (record { client = draw; server = server_draw }) first.notes second.notes made }
+        → AreNotesOfExchange may.token_key (claims_text claims) (record { client = draw; server = server_draw }) first.notes second.notes made }
     ensures heard { (client begun : Client) (server agreed : Server) (asked_at now later : AnyMoment) (draw server_draw : AnyDraw) (at server_at : AnyPeer)
         (claims : AnyClaims) (entries : List Entry) (message : Message) (first second : AnyStep) (id : ℕ)
         → IsLawfulClient begun → IsStraight client server now draw at server_at → MayExchange A.is_sealing client server now draw claims entries
@@ -386,4 +395,47 @@ pub fn what_an_exchange_notes<A: Ciphers>()
     welcome_posts::<TokenCipher<A>>();
     minted_tokens::<TokenCipher<A>>();
     one_token::<TokenCipher<A>>();
+}
+
+/// A request that goes straight to the server over a network that loses, repeats, delays and reorders, from a client that may ask, and that
+/// isn't too long for a datagram. It goes out in one datagram. Whatever comes then, of what both ends sent: it is served once, at the first
+/// copy that comes, and each later copy is answered by the same bytes; the first reply that comes while the client waits is its answer; the
+/// client asks again by the timetable, under the same bytes, and gives up not before its end; so where one copy comes, and one reply
+/// comes back before that, it is served and answered.
+pub fn a_request_is_served_over_loss<A: Ciphers>()
+    ensures { (client asked : Client) (server : Server) (asks : Asked) (now : AnyMoment) (at server_at : AnyPeer) (context : ClientContextState) (held : SecurityContext)
+        (first : AnyStep)
+        → IsLawfulServer server → IsLawfulClient client
+        → IsStraight client server now asks.draw at server_at → MayAsk client server now context held
+        → first.notes.result ≢ Some (result_as.Refused refusal.datagram_too_long)
+        → Asks A.is_sealing A.TAG client asks first asked
+        → IsAskedOverLoss A.is_sealing (record {
+          asked = asked;
+          server = server;
+          at = at;
+          server_at = server_at;
+          now = now;
+          held = held;
+          number = context.next;
+          text = asked_text client asks.draw asks.request;
+        }) client asks first }
+{
+    one_peer();
+    held_contexts_are_meant();
+    one_reception();
+    one_value();
+    option_of_a_protected_message();
+    lengths_of_values();
+    unprotecting_a_protected_request::<A>();
+    unprotecting_a_protected_response::<A>();
+    one_plaintext();
+    a_written_reply();
+    a_reply_is_read_again();
+    length_of_spelling();
+    requests_are_encrypted();
+    codes_of_replies();
+    lengths_of_replies();
+    noted();
+    expiring();
+    retransmissions();
 }

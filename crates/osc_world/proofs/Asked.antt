@@ -28,6 +28,7 @@ module _ (is_sealing : Sealings) (tag : Tags) where
       pub step : Step
       pub client : Client
       pub asks : Asks is_sealing tag it.placed.node it.what step client
+      pub taken : it.happens.taken ≡ Some (record { at = it.placed.at; noted = by_client it.client false step.notes; out = step.out })
       pub steps : asked.steps ≡ by_client it.client false step.notes ∷ it.before.steps
       pub nodes : asked.nodes ≡ record it.before.nodes { clients = slice_set it.before.nodes.clients it.client (record it.placed { node = client }) }
       pub waits : queue asked ≡ map (sent_from it.placed.at) step.out
@@ -50,6 +51,7 @@ module _ (is_sealing : Sealings) (tag : Tags) where
       step = takes.step;
       client = takes.node;
       asks = takes.it_does.asks;
+      taken = takes.taken_is;
       steps = steps_are;
       nodes = ap (λ (w : State). w.nodes) it.happens.is ∙ took.2 ∙ ap (λ (clients : List (Placed Client)). record it.before.nodes { clients = clients }) takes.is;
       waits = sent_behind is_sealing tag it.before asked (asking it.client it.what) it.happens refl

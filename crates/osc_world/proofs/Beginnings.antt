@@ -1,5 +1,5 @@
 -- Where a world begins, a client that was enrolled may exchange, straight or through a proxy that was added.
-use Rattle.std.proofs.Common.{◌≡◌, ◌∙◌, sym, ap, subst, refl, ℕ, ◌^◌, ◌<◌, ◌≤◌, Bool, true, false, List, [], length, Option, None, Some, if◌then◌else◌, ◌||◌, bytes_eq, arith}
+use Rattle.std.proofs.Common.{◌≡◌, ◌∙◌, sym, ap, inl, subst, refl, ℕ, ◌^◌, ◌<◌, ◌≤◌, Bool, true, false, List, [], length, Option, None, Some, if◌then◌else◌, ◌||◌, bytes_eq, arith}
 use Rattle.std.specs.Prelude.{slice_get, IfSome}
 use Rattle.osc_model.specs.{HasBegun, IsNotOver, is_revoked}
 use Rattle.osc_server.specs.{standing_of}
@@ -11,13 +11,13 @@ use Rattle.osc_ccm.specs.{most_tag, Sealings, IsLongerBy}
 use Rattle.osc_cbor.specs.{spelling}
 use Rattle.osc_cose.specs.{enc_structure}
 use Rattle.osc_authz.specs.HoldsToken.{HoldsToken}
-use Rattle.osc_authz.specs.{FitAToken, IsFull, IsWelcome, has_token, is_allowed}
+use Rattle.osc_authz.specs.{FitAToken, IsFull, has_token, is_allowed}
 use Rattle.osc_client.specs.{HostAndPort}
 use Rattle.osc_dedup.specs.{looked}
 use Rattle.osc_message.specs.{EndpointState}
 use Rattle.osc_proxy.specs.{peer_of, answer_id}
 use Rattle.osc_proxy.specs.declared.targets.Target.{Target}
-use Rattle.osc_rounds.specs.{MayExchange}
+use Rattle.osc_rounds.specs.{MayExchange, IsWelcomeUnder}
 use Rattle.osc_scope.specs.{scope_of}
 use Rattle.osc_token.specs.{FitTheirTypes, HasLawfulParts, algorithm_header, claims_item}
 use Rattle.osc_token.specs.declared.claims.Claims.{Claims}
@@ -82,20 +82,23 @@ module _ (is_sealing : Sealings) (tag : ℕ)
       (unrevoked : is_revoked start.rules.revoked start.first holder.claims.material.id ≡ false)
       (allowed : is_allowed start.rules (scope_of enrols.enrolled.entries) ≡ true)
       (lasting : IfSome start.rules.seconds (λ seconds. 0 < seconds)) (draw : Draw) where
-    welcome : IsWelcome (is_sealing EightByteTag) (begun start).nodes.server.desk (standing_of (begun start).nodes.server now) holder.claims enrols.enrolled.entries enrols.placed.node.desk
+    welcome : IsWelcomeUnder (is_sealing EightByteTag) start.key (begun start).nodes.server.desk (standing_of (begun start).nodes.server now) holder.claims enrols.enrolled.entries enrols.placed.node.desk
     welcome = record {
-      holds = holds;
-      lawful = lawful;
-      audience = audience;
-      begun = begins;
-      not_over = ends;
-      allowed = allowed;
-      unrevoked = unrevoked;
-      room = room_at_first start.rules.reserved holder.claims.material.id;
+      opens = inl refl;
+      welcome = record {
+        holds = holds;
+        lawful = lawful;
+        audience = audience;
+        begun = begins;
+        not_over = ends;
+        allowed = allowed;
+        unrevoked = unrevoked;
+        room = room_at_first start.rules.reserved holder.claims.material.id;
+      };
     }
 
     pub may_exchange : MayExchange is_sealing enrols.placed.node (begun start).nodes.server now draw holder.claims enrols.enrolled.entries
-    may_exchange = record { idle = enrols.enrolled.client.waiting; welcome = welcome; makes = record { lasting = lasting; unknown = refl } }
+    may_exchange = record { idle = enrols.enrolled.client.waiting; token_key = start.key; welcome = welcome; makes = record { lasting = lasting; unknown = refl } }
 
 module _ (is_sealing : Sealings)
     (before after start : Beginning) (holder : NewHolder) (round : ClientRound) (enrols : Enrols is_sealing before holder after) where

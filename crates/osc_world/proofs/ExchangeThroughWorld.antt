@@ -85,7 +85,7 @@ module _ (is_sealing : Sealings) (tag : Tags) where
   MakesThrough = (client begun : Client) (proxy : Proxy) (server : Server) (begun_at : Moment) (draw : Draw) (hops : Hops)
       (claims : Claims) (entries : List Entry) (posts : Step)
       → IsLawfulProxy proxy → IsLawfulClient begun → length hops.proxy_draw.0 ≡ 32
-      → (way : IsThrough client proxy server draw hops) → MayExchange is_sealing client server hops.now draw claims entries
+      → (way : IsThrough client proxy server draw hops) → (may : MayExchange is_sealing client server hops.now draw claims entries)
       → posts.notes.result ≢ Some (result.Refused 14)
       → Exchanges client begun_at draw posts begun
       → (message : Message)
@@ -102,6 +102,7 @@ module _ (is_sealing : Sealings) (tag : Tags) where
         proxy_draw = hops.proxy_draw;
         claims = claims;
         entries = entries;
+        token_key = may.token_key;
         message = message;
         key = way.key;
       })
@@ -197,6 +198,7 @@ module _ (is_sealing : Sealings) (tag : Tags) where
       proxy_draw = first;
       claims = claims;
       entries = entries;
+      token_key = begins.may.token_key;
       message = message;
       key = goes.key;
     }
@@ -230,7 +232,7 @@ module _ (is_sealing : Sealings) (tag : Tags) where
     abbrev settled : IsSettledAndAgreed is_sealing way round.proxy_1 round.step_2 round.client_2
     settled = passed.settled round.draw_2 round.step_2 round.client_2 round.hears_2
 
-    abbrev agreed : AreNotesOfAgreement old.nodes.server.desk.key (claims_text claims) round.draw_3 round.step_3.notes
+    abbrev agreed : AreNotesOfAgreement begins.may.token_key (claims_text claims) round.draw_3 round.step_3.notes
         × IsAgreedAndBroughtBack is_sealing way round.client_2 round.proxy_1 round.step_3 round.server_3
     agreed = settled.agreed round.draw_3 round.step_3 round.server_3 round.whole_3 round.hears_3
 
@@ -308,7 +310,7 @@ module _ (is_sealing : Sealings) (tag : Tags) where
     abbrev draws : Draws
     draws = record { client = draw; server = round.draw_3 }
 
-    notes_are : AreNotesOfExchange old.nodes.server.desk.key (claims_text claims) draws posts.step.notes round.step_3.notes round.step_5.notes
+    notes_are : AreNotesOfExchange begins.may.token_key (claims_text claims) draws posts.step.notes round.step_3.notes round.step_5.notes
     notes_are = record { begun_is = is.notes; agreed_is = agreed.0; made_is = ap (λ (s : Step). s.notes) made.is_made.told }
 
     pub made_through : IsRound 6 w1 is_quiet new × HasMade old number now entries new × (AreMinted old claims → HasFreshDraws new.steps → KeepsThePremise old new)
@@ -331,7 +333,7 @@ module _ (is_sealing : Sealings) (tag : Tags) where
         steps = steps_are;
         learnt = ap (λ (s : Step). s.notes.result) made.is_made.told;
       },
-      exchange_goes_on premises old new all claims old.nodes.server.desk.key draws
+      exchange_goes_on premises old new all claims begins.may.token_key draws
           (by_client number false posts.step.notes) (by_server round.step_3.notes) (by_client number false round.step_5.notes) notes_are among
           (still_minted is_sealing tag deliveries (suc (suc (suc (suc (suc (suc left)))))) old w1 is_quiet new (beginning begun_at draw number) begins.happens rounds) steps_are,
     )

@@ -62,11 +62,11 @@ module _ (is_sealing : Sealings) (tag : Tags) where
   -- what its steps note
   abbrev pub NotesExchange : Type 0
   NotesExchange = (client begun : Client) (server agreed : Server) (begun_at now : Moment) (draw server_draw : Draw) (at server_at : Peer) (claims : Claims) (entries : List Entry) (message : Message) (first second : Step) (made : StepNotes)
-      → IsLawfulClient begun → IsStraight client server now draw at server_at → MayExchange is_sealing client server now draw claims entries
+      → IsLawfulClient begun → IsStraight client server now draw at server_at → (may : MayExchange is_sealing client server now draw claims entries)
       → Exchanges client begun_at draw first begun → first.out ≡ datagram client.next_hop message ∷ []
       → ServerHears is_sealing server (coming_from now at server_draw (spelling message)) second agreed
       → made ≡ record quiet { result = Some result.Made }
-      → AreNotesOfExchange server.desk.key (claims_text claims) (record { client = draw; server = server_draw }) first.notes second.notes made
+      → AreNotesOfExchange may.token_key (claims_text claims) (record { client = draw; server = server_draw }) first.notes second.notes made
 
   -- what the server has heard of the client after it
   abbrev pub HearsNoOther : Type 0
@@ -186,7 +186,7 @@ module _ (is_sealing : Sealings) (tag : Tags) where
       abbrev draws : Draws
       draws = record { client = draw; server = round.draw }
 
-      notes_are : AreNotesOfExchange old.nodes.server.desk.key (claims_text claims) draws posts.step.notes round.serving.notes round.taking.notes
+      notes_are : AreNotesOfExchange it.may.token_key (claims_text claims) draws posts.step.notes round.serving.notes round.taking.notes
       notes_are =
           notes placed.node posts.client old.nodes.server round.server begun_at now draw round.draw placed.at old.nodes.server_at claims entries is.message posts.step round.serving round.taking.notes
           lawful goes it.may posts.exchanges is.out round.served (ap (λ (s : Step). s.notes) made.2.told)
@@ -211,7 +211,7 @@ module _ (is_sealing : Sealings) (tag : Tags) where
           steps = steps_are;
           learnt = ap (λ (s : Step). s.notes.result) made.2.told;
         },
-        exchange_goes_on premises old new all claims old.nodes.server.desk.key draws
+        exchange_goes_on premises old new all claims it.may.token_key draws
             (by_client number false posts.step.notes) (by_server round.serving.notes) (by_client number false round.taking.notes) notes_are among
             (still_minted is_sealing tag deliveries (suc (suc left)) old w1 is_quiet new (beginning begun_at draw number) it.happens rounds) steps_are,
       )

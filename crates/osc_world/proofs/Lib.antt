@@ -26,3 +26,5 @@ mod Premises
 mod Minting
 mod Lies
 mod Beginnings
+pub mod LossWorld
+pub mod LossAsked

@@ -28,9 +28,10 @@ ghost use Rattle.osc_world.specs.Lawful.{AreLawfulClients, AreLawfulProxies};
 ghost use Rattle.osc_world.specs.Log.{delivered, sent_by};
 ghost use Rattle.osc_world.specs.Nodes.{NodeStates, StandApart, node_at};
 ghost use Rattle.osc_world.specs.Queue.{IsHeardByClient, IsHeardByProxy, IsHeardByServer, queue};
+ghost use Rattle.osc_world.specs.Loss.{GoesOverLoss};
 ghost use Rattle.osc_world.specs.Quiet.{AreWhole, Deliveries, Rounds, next_draw, waiting_first};
 ghost use Rattle.osc_world.specs.Ready.{AnswersWhatWasAsked, AskedRequest, BegunExchange, ClientRound, HasAnswered, HasMade, IsReady, IsRound, LeavesUnheard, MakesWhatWasBegun};
-ghost use Rattle.osc_world.specs.Worlds.{Happens, State};
+ghost use Rattle.osc_world.specs.Worlds.{Happen, Happens, State};
 ghost use Rattle.osc_world.specs.declared.event.Event.{Event as AnyEvent};
 ghost use Rattle.osc_world.specs.declared.log.SentDatagram.{SentDatagram as AnySent};
 ghost use Rattle.osc_world.specs.Starts.{Beginning, Enrols, begun, new_proxy};
@@ -42,9 +43,9 @@ use osc_authz::laws::{answers_stay, numbers_taken};
 use osc_ccm::Ciphers;
 use osc_model::laws::one_peer;
 use osc_rounds::laws::{
-    a_request_goes_through_a_proxy, a_request_is_answered, a_request_keeps_the_premise,
-    an_exchange_goes_through_a_proxy, an_exchange_is_made, an_exchange_keeps_the_premise,
-    what_an_exchange_notes,
+    a_request_goes_through_a_proxy, a_request_is_answered, a_request_is_served_over_loss,
+    a_request_keeps_the_premise, an_exchange_goes_through_a_proxy, an_exchange_is_made,
+    an_exchange_keeps_the_premise, what_an_exchange_notes,
 };
 
 /// Where no two nodes share an address, what is sent to a node's address comes to that node.
@@ -210,3 +211,14 @@ pub fn where_a_world_begins<A: Ciphers>()
         → slice_get start.proxies number ≡ Some (new_proxy at targets) → peer_of targets origin.host origin.port ≡ Some start.server_at
         → IsReady (begun start) (length before.clients) enrols.placed round 6 }
 {}
+
+/// In a world that is ready for it a client asks, straight to the server: whatever ticks of both come then, and deliveries of what they send,
+/// any number of times and in any order, it goes over the network as [`osc_rounds::laws::a_request_is_served_over_loss`] says, and its
+/// entries alone are served.
+pub fn a_lossy_round<A: Ciphers>()
+    ensures { (begun last : State) (events : List AnyEvent) → IsLawfulServer begun.nodes.server → AreLawfulClients begun.nodes.clients
+        → StandApart begun.nodes → Happen A.is_sealing A.TAG begun events last → GoesOverLoss A.TAG begun events last }
+{
+    one_peer();
+    a_request_is_served_over_loss::<A>();
+}

@@ -8,6 +8,7 @@ ghost use Rattle.osc_rounds.specs.{IsLawfulServer};
 ghost use Rattle.osc_world.specs.Claims.{HasOneHistory, HasOwnAnswers, KeepsItsNonces};
 ghost use Rattle.osc_world.specs.Lawful.{AreLawfulClients, AreLawfulProxies};
 ghost use Rattle.osc_world.specs.Log.{settled, waiting};
+ghost use Rattle.osc_world.specs.Loss.{GoesOverLoss};
 ghost use Rattle.osc_world.specs.Nodes.{StandApart, skipped};
 ghost use Rattle.osc_world.specs.Quiet.{AreWhole, Rounds, delivery};
 ghost use Rattle.osc_world.specs.Ready.{AnswersWhatWasAsked, MakesWhatWasBegun};
@@ -17,7 +18,7 @@ ghost use Rattle.osc_world.specs.declared.event.Event.{Event as AnyEvent};
 use crate::draws::Draws;
 use crate::event::{Event, What};
 use crate::isolation::alone;
-use crate::laws::{an_asked_round, an_exchanged_round};
+use crate::laws::{a_lossy_round, an_asked_round, an_exchanged_round};
 use crate::log::{EventLog, Record, SentDatagram};
 use crate::nodes::{Nodes, Placed};
 use osc_ccm::Ciphers;
@@ -56,6 +57,7 @@ impl Drop for World {
 
 impl Model for World {
     ghost use Rattle.osc_run.specs.{IsReached};
+    ghost use Rattle.osc_world.specs.Loss.{GoesOverLoss};
     ghost use Rattle.osc_world.specs.Nodes.{StandApart};
     ghost use Rattle.osc_world.specs.Quiet.{Rounds, delivery};
     ghost use Rattle.osc_world.specs.Ready.{AnswersWhatWasAsked, MakesWhatWasBegun};
@@ -133,9 +135,14 @@ impl World {
     ///
     /// Where, besides, no two grants name a common path, each client's entries are answered as if they alone followed the first
     /// resources, up to the first that is for lack of memory or of room ([`World::alone`]).
+    ///
+    /// Where the first event is a client's request, straight to the server, in a world that is ready for it, and the others are ticks of both
+    /// and deliveries of what was sent since, in whatever order and number, it is served once, and answered where a copy and a reply
+    /// come in time; see [`laws::a_lossy_round`](crate::laws::a_lossy_round).
     pub fn run<A: Ciphers>(&mut self, alloc: Global, events: &[Event]) -> Result<(), AllocError>
         ensures happen { (done rest : List AnyEvent) × (events.now ≡ done ++ rest) × Happen A.is_sealing A.TAG self.old done self.new
             × OnOk result (rest ≡ []) × OnErr result (rest ≢ []) }
+        ensures over_loss { OnOk result (GoesOverLoss A.TAG self.old events.now self.new) }
         ensures reached { IsReached (run_of self.new) }
         ensures apart { StandApart self.new.nodes }
         ensures one_history { HasOneHistory self.new }
@@ -147,6 +154,8 @@ impl World {
         contexts_are_young();
         own_nonces();
         own_answers();
+        a_lossy_round::<A>();
+        self.is_lawful();
         let done = self.happen::<A>(alloc, events);
         // The clauses of runs are the world's invariant after it.
         let _ = &self.minted;
@@ -316,11 +325,12 @@ impl World {
     }
 
     /// Whether what is assumed holds of all that happened: whatever opened was sealed before by the other end of its context, or
-    /// minted; no drawn nonce came twice; and no two grants share a secret. Takes no memory.
+    /// minted; no drawn nonce came twice; and no two grants share a secret. It takes memory for a set of the drawn nonces, which it
+    /// gives back, and is as exact without.
     ///
     /// Its time mostly grows with the steps: an opening is looked for from the newest step before it on, and was mostly sealed a step or two
-    /// before. At worst it grows with the square of the steps: where openings come long after their seals, or where many steps drew a
-    /// nonce, each of which is compared with all before it.
+    /// before. At worst it grows with the square of the steps: where openings come long after their seals, or where memory for the set is
+    /// refused.
     pub fn premise_holds(&self) -> bool
         ensures { IsTrue result ↔ Premise self.now.minted self.now.steps }
     {

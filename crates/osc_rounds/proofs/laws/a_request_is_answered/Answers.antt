@@ -1,5 +1,5 @@
 use Rattle.osc_rounds.proofs.AskRound.{RoundLaws, is_asked}
-use Rattle.osc_rounds.proofs.Sent.{goes_out}
+use Rattle.osc_rounds.proofs.Sent.{goes_out, its_context}
 use Rattle.osc_rounds.proofs.laws.a_request_is_answered.Goals as goal
 
 pub returns : goal.returns
@@ -35,5 +35,8 @@ returns g c =
       short = c.lengths_of_replies.ensures.payload;
     } in
     λ client asked server asks now at server_at context held first lawful lawful_client way ends fits is.
-    is_asked g.A.Ciphers.is_sealing g.A.Ciphers.TAG laws client asked server asks now at server_at context held first lawful lawful_client way ends
+    is_asked g.A.Ciphers.is_sealing g.A.Ciphers.TAG laws client asked server asks now at server_at context held first lawful
+    (its_context g.A.Ciphers.is_sealing g.A.Ciphers.TAG client asked asks first context
+    (goes_out g.A.Ciphers.is_sealing g.A.Ciphers.TAG client asked asks first context ends.idle ends.has ends.number fits is) lawful_client)
+    way ends
     (goes_out g.A.Ciphers.is_sealing g.A.Ciphers.TAG client asked asks first context ends.idle ends.has ends.number fits is)

@@ -1,6 +1,7 @@
-use Rattle.std.proofs.Common.{subst}
+use Rattle.std.proofs.Common.{◌≡◌, ◌∙◌, ◌++◌, List, [], Ok, Err, OnOk, Result, ap, append-nil, subst, sym}
 use Rattle.osc_run.specs.{IsReached}
-use Rattle.osc_world.specs.{StandApart, State, run_of}
+use Rattle.osc_world.specs.{GoesOverLoss, Happen, StandApart, State, run_of}
+use Rattle.osc_world.specs.declared.event.Event.{Event}
 use Rattle.osc_world.proofs.world.World.run.Goals as goal
 
 pub returns-clause-one_history : goal.returns-clause-one_history
@@ -20,3 +21,18 @@ returns-clause-apart g c = subst (λ (w : State). StandApart w.nodes) c.self.vie
 
 pub returns-clause-young : goal.returns-clause-young
 returns-clause-young g c = c.contexts_are_young.ensures (run_of c.happen-done.new.self)
+
+-- where all of the events happened
+all_of : {A E : Type 0} {P Q : Type 0} (r : Result A E) → (P → Q) → OnOk r P → OnOk r Q
+all_of (Ok a) f p = f p
+all_of (Err e) f p = tt
+
+pub returns-clause-over_loss : goal.returns-clause-over_loss
+returns-clause-over_loss g c =
+    let old = c.args.self.now in
+    let new = c.happen-done.new.self in
+    let it = c.happen-done.ensures in
+    all_of c.happen-done.result
+    (λ none. c.a_lossy_round.ensures old new c.args.events.now c.is_lawful.ensures.server c.is_lawful.ensures.clients c.is_lawful.ensures.apart
+    (subst (λ (all : List Event). Happen g.A.Ciphers.is_sealing g.A.Ciphers.TAG old all new) (sym (it.2 ∙ ap (λ (rest : List Event). it.0 ++ rest) none ∙ append-nil it.0)) it.3))
+    it.4

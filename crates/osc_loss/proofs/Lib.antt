@@ -1,0 +1,13 @@
+pub mod Places
+pub mod AnyServer
+pub mod AnyClient
+pub mod Ticking
+pub mod Account
+pub mod AccountServer
+pub mod AccountClient
+pub mod Going
+pub mod Outcome
+pub mod SessionRound
+pub mod ExchangeRound
+pub mod Staying
+pub mod Alone
