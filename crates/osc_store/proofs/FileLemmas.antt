@@ -13,6 +13,7 @@ use Rattle.sqlite_store.specs.Unopened.{files_of, image, state_of}
 use Rattle.sqlite_store.specs.declared.store.open.Unopened.{Unopened}
 use Rattle.osc_model.specs.Tree.{Tree}
 use Rattle.osc_store.specs.{Leaves, faults_of, image_of, outcomes_of, IsOnlyRead}
+use Rattle.osc_store.specs.Opening.{IsLeftAlone}
 use Rattle.osc_store.specs.declared.left.Left.{Left}
 use Rattle.osc_store.specs.declared.left.Left.TheVariants as left
 use Rattle.osc_store.proofs.FindLemmas.{reads_then}
@@ -59,3 +60,8 @@ pub only_read_then : {D : Type 0} {g : Ghosts D} (old new : Files D) → OnlyRea
 only_read_then old new log db (left.Files files) read = (reads_then log read.0, reads_then db read.1)
 only_read_then old new log db (left.Unopened files) read = tt
 only_read_then old new log db (left.Store it) read = tt
+
+pub alone_then : {D : Type 0} {g : Ghosts D} (old new : Files D) → OnlyReads g old.log new.log → OnlyReads g old.db new.db → (now : Left D g) → IsLeftAlone new now → IsLeftAlone old now
+alone_then old new log db (left.Files files) read = (reads_then log read.0, reads_then db read.1)
+alone_then old new log db (left.Unopened files) read = absurd read
+alone_then old new log db (left.Store it) read = absurd read

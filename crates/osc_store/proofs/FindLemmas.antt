@@ -141,6 +141,7 @@ fails_wider F F' L L' H H' O O' opening.Damaged f l h o was = λ w. h w was
 fails_wider F F' L L' H H' O O' opening.EmptyFile f l h o was = was
 fails_wider F F' L L' H H' O O' opening.NoLog f l h o was = was
 fails_wider F F' L L' H H' O O' opening.ForeignLog f l h o was = was
+fails_wider F F' L L' H H' O O' opening.DamagedLog f l h o was = was
 
 pub more_faults : (a b c d : ℕ) → a ≤ b → c ≤ d → MoreFaults b c → MoreFaults a d
 more_faults a b c d p q h = omega (arith, h)
@@ -187,6 +188,7 @@ once_named F L H O opening.Journal kind is h = absurd h
 once_named F L H O opening.EmptyFile kind is h = absurd h
 once_named F L H O opening.NoLog kind is h = absurd h
 once_named F L H O opening.ForeignLog kind is h = absurd h
+once_named F L H O opening.DamagedLog kind is h = absurd h
 once_named F L H O opening.NoStore kind is h = elim is [ inl a ↦ rw a h | inr b ↦ elim b [ inl c ↦ rw c h | inr d ↦ rw d h ] ]
 once_named F L H O opening.OtherVersion kind is h = elim is [ inl a ↦ rw a h | inr b ↦ elim b [ inl c ↦ rw c h | inr d ↦ rw d h ] ]
 once_named F L H O opening.Damaged kind is h = elim is [ inl a ↦ rw a (inr h) | inr b ↦ elim b [ inl c ↦ rw c (inr h) | inr d ↦ rw d (inr h) ] ]

@@ -9,5 +9,7 @@ pub mod StartLemmas
 pub mod FileLemmas
 pub mod TakeLemmas
 mod WholeLemmas
+mod WriteLemmas
 mod ReadLemmas
 mod LogLemmas
+mod DamageLemmas

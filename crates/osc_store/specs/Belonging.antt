@@ -2,9 +2,9 @@
 use Rattle.std.specs.Prelude.{◌≡◌, ◌≢◌, ◌⊎◌, ◌≤◌, ◌<◌, ◌+◌, ◌/◌, ◌^◌, ℕ, List, length, nat_lt, if◌then◌else◌}
 use Rattle.sqlite_wal.specs.Format.{be32, page_number}
 use Rattle.sqlite_wal.specs.PageSize.{IsPageSize}
-use Rattle.sqlite_wal.specs.Recovery.{Image, Replays, frame, frame_at}
+use Rattle.sqlite_wal.specs.Recovery.{Image, IsLogFor, Replays, frame, frame_at}
 use Rattle.osc_store.specs.declared.error.OpenStoreError.{OpenStoreError}
-use Rattle.osc_store.specs.declared.error.OpenStoreError.TheVariants.{EmptyFile, ForeignLog, NoLog}
+use Rattle.osc_store.specs.declared.error.OpenStoreError.TheVariants.{DamagedLog, EmptyFile, ForeignLog, NoLog}
 
 -- the user version of a database file: bytes 60 to 63 of its header
 abbrev pub version_in : List ℕ → ℕ
@@ -56,15 +56,49 @@ pub record IsHollow (image : Image) : Type 0 where
   pub empty : length image.db ≤ 1
   pub logged : 56 ≤ length image.log
 
+-- The log has the whole of this frame, which has the two salts of the log's header and ends a commit: it says how many pages the database has
+-- then.
+pub record EndsCommit (size : ℕ) (log : List ℕ) (i : ℕ) : Type 0 where
+  pub within : frame_at size i + (24 + size) ≤ length log
+  pub salt : be32 log (frame_at size i + 8) ≡ be32 log 16
+  pub other_salt : be32 log (frame_at size i + 12) ≡ be32 log 20
+  pub commits : be32 log (frame_at size i + 4) ≢ 0
+
+-- two commits end past this frame
+pub record EndTwoCommits (size : ℕ) (log : List ℕ) (past : ℕ) : Type 0 where
+  pub one : ℕ
+  pub past_it : past < one
+  pub first : EndsCommit size log one
+  pub other : ℕ
+  pub later : one < other
+  pub second : EndsCommit size log other
+
+-- The log is damaged before its end: two commits end past the first frame that recovery doesn't take. A power cut breaks the last commit alone.
+pub record IsDamagedLog (log : List ℕ) : Type 0 where
+  pub size : ℕ
+  pub sized : IsPageSize size
+  pub is_log : IsLogFor size log
+  pub frames : ℕ
+  pub replays : Replays size log frames
+  pub two : EndTwoCommits size log frames
+
 -- what a start takes for one store
 pub record BelongTogether (image : Image) : Type 0 where
   pub log : ¬ LacksLog image
   pub file : ¬ IsHollow image
   pub own : ¬ IsForeignLog image
 
--- why the two are refused, where `other` is said of each error that tells something else
+-- why the two aren't taken for one store, where `other` is said of each error that tells something else
+abbrev pub RefusesPair : Image → Type 0 → OpenStoreError → Type 0
+RefusesPair image other EmptyFile = IsHollow image
+RefusesPair image other NoLog = LacksLog image
+RefusesPair image other ForeignLog = IsForeignLog image
+RefusesPair image other _ = other
+
+-- the same, or why the log is refused
 abbrev pub Refuses : Image → Type 0 → OpenStoreError → Type 0
 Refuses image other EmptyFile = IsHollow image
 Refuses image other NoLog = LacksLog image
 Refuses image other ForeignLog = IsForeignLog image
+Refuses image other DamagedLog = IsDamagedLog image.log
 Refuses image other _ = other

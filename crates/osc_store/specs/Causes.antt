@@ -1,5 +1,5 @@
 -- Why a call fails.
-use Rattle.std.specs.Prelude.{ℕ, ◌+◌, ◌^◌, ◌<◌, Bool, true, false, List, length, Option, Some, None, ⊤}
+use Rattle.std.specs.Prelude.{◌≡◌, ℕ, ◌+◌, ◌^◌, ◌<◌, Bool, IsTrue, true, false, List, length, Option, Some, None, ⊤}
 use Rattle.osc_model.specs.declared.resource.Resource.{Resource}
 use Rattle.sqlite_trees.specs.declared.error.StoreError.{StoreError}
 use Rattle.sqlite_trees.specs.declared.error.StoreError.TheVariants as call
@@ -41,7 +41,8 @@ Excuses fault long call.Full = fault
 Excuses fault long call.Broken = ⊥
 Excuses fault long call.Unstorable = long
 
--- why a change may not be kept, where `fault` says that the disk failed meanwhile or was full
+-- Why a change may not be kept, where `fault` says that the disk failed meanwhile or was full. Memory that is refused has no cause: nothing
+-- tells that there was none.
 abbrev pub WhyNotKept : Type 0 → Type 0 → KeepError → Type 0
 WhyNotKept fault long keeping.OutOfMemory = ⊤
 WhyNotKept fault long keeping.Full = fault
@@ -56,6 +57,10 @@ is_of_disk keeping.Full = true
 is_of_disk keeping.Failed = true
 is_of_disk keeping.Damaged = true
 is_of_disk _ = false
+
+-- A failure of the disk is told by its name, the one that the store last answered where it keeps that.
+abbrev pub IsNamedBy : Option StoreError → KeepError → Type 0
+IsNamedBy blamed e = (kind : StoreError) → blamed ≡ Some kind → IsTrue (is_of_disk e) → e ≡ told kind
 
 -- a row has at most a billion bytes, 18 of them for each of its three columns
 abbrev pub IsTooLong : List ℕ → Option Resource → Type 0
@@ -82,6 +87,7 @@ is_of_content opening.Full = true
 is_of_content opening.EmptyFile = true
 is_of_content opening.NoLog = true
 is_of_content opening.ForeignLog = true
+is_of_content opening.DamagedLog = true
 is_of_content _ = false
 
 -- the files aren't taken for one store
@@ -89,4 +95,5 @@ abbrev pub is_refusal : OpenStoreError → Bool
 is_refusal opening.EmptyFile = true
 is_refusal opening.NoLog = true
 is_refusal opening.ForeignLog = true
+is_refusal opening.DamagedLog = true
 is_refusal _ = false

@@ -1,6 +1,6 @@
 -- A store that keeps a tree.
 use Rattle.std.specs.Prelude.{◌≡◌, ◌⊎◌, ◌≤◌, false, true, Bool, IsTrue, ℕ, List, Some, None}
-use Rattle.std.proofs.Common.{inl}
+use Rattle.std.proofs.Common.{inl, inr, refl}
 use Rattle.std.specs.FinMap as finmap
 use Rattle.sqlite_value.specs.Keys.{plain}
 use Rattle.sqlite_value.specs.Order.{Row}
@@ -37,6 +37,10 @@ pub record IsReady (v : View) : Type 0 where
   pub table : HasTable v
   pub numbered : IsTrue v.is_numbered
 
+once : {A B : Type 0} → A ⊎ A → A ⊎ B
+once (inl it) = inl it
+once (inr it) = inl it
+
 module _ {S : Type 0} (view : S → View) (recovers : S → Trees → Type 0) where
   -- nothing is written that isn't committed, and each crash leaves a file of this table that holds this tree
   pub record Keeps (s : S) (tree : Tree) : Type 0 where
@@ -45,6 +49,15 @@ module _ {S : Type 0} (view : S → View) (recovers : S → Trees → Type 0) wh
     pub lists : ListsTable (view s).trees
     pub holds : Holds (view s).trees tree
     pub left : (db : Trees) → recovers s db → ListsTable db × Holds db tree
+
+  -- Each crash leaves a file of this table that holds the first tree, and the second is what has been written. The two are one where nothing
+  -- is pending.
+  pub record Writes (s : S) (pending : Bool) (kept written : Tree) : Type 0 where
+    pub ready : IsReady (view s)
+    pub settled : pending ≡ false → ((view s).trees ≡ (view s).committed) × (written ≡ kept)
+    pub lists : ListsTable (view s).trees
+    pub holds : Holds (view s).trees written
+    pub left : (db : Trees) → recovers s db → ListsTable db × Holds db kept
 
   -- each crash leaves a file of this table that holds one of the two
   pub record MayHold (s : S) (before after : Tree) : Type 0 where
@@ -57,18 +70,61 @@ module _ {S : Type 0} (view : S → View) (recovers : S → Trees → Type 0) wh
     pub numbered : IsTrue (view s).is_open → IsTrue (view s).is_numbered
     pub left : (db : Trees) → recovers s db → ListsTable db × (Holds db before ⊎ Holds db after)
 
-  -- a store that keeps a tree leaves one of two, if the tree is the first
-  pub may_leave_first : (s : S) (before after : Tree) → Keeps s before → MayLeave s before after
-  may_leave_first s before after keeps = record {
-    numbered = λ _. keeps.ready.numbered;
-    left = λ db recovered. let held = keeps.left db recovered in (held.0, inl held.1);
+  -- what keeps a tree has written it
+  pub keeps_writes : (s : S) (pending : Bool) (tree : Tree) → Keeps s tree → Writes s pending tree tree
+  keeps_writes s pending tree keeps = record {
+    ready = keeps.ready;
+    settled = λ none. (keeps.settled, refl);
+    lists = keeps.lists;
+    holds = keeps.holds;
+    left = keeps.left;
   }
 
-  -- a store that keeps a tree holds one of two, if the tree is the first
+  -- a store that keeps a tree holds one of two, if the tree is the first or the second
   pub may_hold_first : (s : S) (before after : Tree) → Keeps s before → MayHold s before after
   may_hold_first s before after keeps = record {
     numbered = keeps.ready.numbered;
-    left = λ db recovered. let held = keeps.left db recovered in (held.0, inl held.1);
+    left = λ db there. let held = keeps.left db there in (held.0, inl held.1);
+  }
+
+  pub may_hold_second : (s : S) (before after : Tree) → Keeps s after → MayHold s before after
+  may_hold_second s before after keeps = record {
+    numbered = keeps.ready.numbered;
+    left = λ db there. let held = keeps.left db there in (held.0, inr held.1);
+  }
+
+  -- whatever has been written, it holds what is kept
+  pub may_hold_kept : (s : S) (pending : Bool) (kept written : Tree) → Writes s pending kept written → MayHold s kept kept
+  may_hold_kept s pending kept written writes = record {
+    numbered = writes.ready.numbered;
+    left = λ db there. let held = writes.left db there in (held.0, inl held.1);
+  }
+
+  -- one that holds a tree holds it or another
+  pub may_hold_either : (s : S) (before after : Tree) → MayHold s before before → MayHold s before after
+  may_hold_either s before after may = record {
+    numbered = may.numbered;
+    left = λ db there. let held = may.left db there in (held.0, once held.1);
+  }
+
+  -- what holds one of two leaves one of them
+  pub may_leave_held : (s : S) (before after : Tree) → MayHold s before after → MayLeave s before after
+  may_leave_held s before after may = record { numbered = λ _. may.numbered; left = may.left }
+
+  -- the same of what a store leaves
+  pub may_leave_first : (s : S) (before after : Tree) → Keeps s before → MayLeave s before after
+  may_leave_first s before after keeps = may_leave_held s before after (may_hold_first s before after keeps)
+
+  pub may_leave_second : (s : S) (before after : Tree) → Keeps s after → MayLeave s before after
+  may_leave_second s before after keeps = may_leave_held s before after (may_hold_second s before after keeps)
+
+  pub may_leave_kept : (s : S) (pending : Bool) (kept written : Tree) → Writes s pending kept written → MayLeave s kept kept
+  may_leave_kept s pending kept written writes = may_leave_held s kept kept (may_hold_kept s pending kept written writes)
+
+  pub may_leave_either : (s : S) (before after : Tree) → MayLeave s before before → MayLeave s before after
+  may_leave_either s before after may = record {
+    numbered = may.numbered;
+    left = λ db there. let held = may.left db there in (held.0, once held.1);
   }
 
   -- no wrong answer of the disk is forgotten, nor a failure, and a crash leaves nothing new

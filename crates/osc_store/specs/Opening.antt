@@ -27,12 +27,11 @@ use Rattle.sqlite_store.specs.declared.store.FileStore.{FileStore}
 use Rattle.sqlite_store.specs.declared.store.open.Unopened.{Unopened}
 use Rattle.osc_model.specs.Tree.{Tree}
 use Rattle.osc_store.specs.declared.error.OpenStoreError.{OpenStoreError}
-use Rattle.osc_store.specs.declared.error.OpenStoreError.TheVariants.{OutOfMemory, Full, Failed, Busy, Journal, NoStore, OtherVersion, Damaged, EmptyFile, NoLog, ForeignLog}
+use Rattle.osc_store.specs.declared.error.OpenStoreError.TheVariants.{OutOfMemory, Full, Failed, Busy, Journal, NoStore, OtherVersion, Damaged, EmptyFile, NoLog, ForeignLog, DamagedLog}
 use Rattle.osc_store.specs.declared.listing.Listed.{Listed}
 use Rattle.osc_store.specs.declared.listing.Listed.TheVariants as listed
 use Rattle.osc_store.specs.declared.left.Left.{Left}
 use Rattle.osc_store.specs.declared.left.Left.TheVariants as left
-use Rattle.osc_store.specs.Belonging.{Refuses}
 use Rattle.osc_store.specs.Keeping.{IsReady}
 use Rattle.osc_store.specs.Starting.{FindsTree, IsStore, IsUnmade, Leaves, ListsTable, ReadsAs, statement}
 
@@ -100,9 +99,10 @@ Fails fault limit held other Damaged = ¬ held
 Fails fault limit held other EmptyFile = ⊥
 Fails fault limit held other NoLog = ⊥
 Fails fault limit held other ForeignLog = ⊥
+Fails fault limit held other DamagedLog = ⊥
 
 -- where `fault` says that the disk failed in this way, `limit` that the file met one of its format, `held` that the files are a store,
--- and `other` that they are one of another version; `Refuses` says of the last three what they tell
+-- and `other` that they are one of another version; `Refuses` says of the last four what they tell
 abbrev pub WhyNotOpened : (StoreError → Type 0) → Type 0 → Type 0 → Type 0 → OpenStoreError → Type 0
 WhyNotOpened fault limit held other OutOfMemory = ⊤
 WhyNotOpened fault limit held other Full = fault call.Full ⊎ limit
@@ -115,6 +115,7 @@ WhyNotOpened fault limit held other Damaged = fault call.Corrupt ⊎ (¬ held)
 WhyNotOpened fault limit held other EmptyFile = ⊤
 WhyNotOpened fault limit held other NoLog = ⊤
 WhyNotOpened fault limit held other ForeignLog = ⊤
+WhyNotOpened fault limit held other DamagedLog = ⊤
 
 -- ---- what is left of the files
 
@@ -201,9 +202,9 @@ module _ {D : Type 0} {g : disk.Ghosts D} where
     pub cause : Fails (MoreFaults (faults_of g files) (faults_left now)) (IsFullLeft now) held other e
     pub goes_on : given → (tree : Tree) → FindsTree (image_of g files) tree → Leaves (outcomes_of g files) tree → Leaves (outcomes_left now) tree
 
-  -- what a start over these files left that failed, which looked first whether the two belong together
-  pub record Stops (files : Files D) (now : Left D g) (e : OpenStoreError) : Type 0 where
+  -- what a start over these files left that failed, which looked first whether they are refused
+  pub record Stops (files : Files D) (now : Left D g) (refused : Type 0) (e : OpenStoreError) : Type 0 where
     pub honest : AreClean g files.log files.db
     pub counts : faults_of g files ≤ faults_left now
-    pub cause : Fails (MoreFaults (faults_of g files) (faults_left now)) (IsFullLeft now) (IsStore (image_of g files)) (IsOtherVersion (image_of g files)) e ⊎ Refuses (image_of g files) ⊥ e
+    pub cause : Fails (MoreFaults (faults_of g files) (faults_left now)) (IsFullLeft now) (IsStore (image_of g files)) (IsOtherVersion (image_of g files)) e ⊎ refused
     pub goes_on : (tree : Tree) → FindsTree (image_of g files) tree → Leaves (outcomes_of g files) tree → Leaves (outcomes_left now) tree

@@ -4,7 +4,7 @@ ghost use Rattle.std.specs.Prelude.{◌≡◌, ◌≤◌, ◌↔◌, ◌+◌, �
 ghost use Rattle.sqlite_disk.specs.Disk.{CountsFault, MoreFaults};
 ghost use Rattle.sqlite_wal.specs.Format.{be32};
 ghost use Rattle.sqlite_wal.specs.Reads.{AreClean, IsClean, OnlyReads};
-ghost use Rattle.osc_store.specs.Belonging.{BelongTogether, GivesVersion, IsLogged, IsMark, Refuses, SaysOther, version_in};
+ghost use Rattle.osc_store.specs.Belonging.{BelongTogether, GivesVersion, IsLogged, IsMark, RefusesPair, SaysOther, version_in};
 ghost use Rattle.osc_store.specs.Opening.{Fails, IsTooLong, faults_of, image_of};
 
 use crate::error::OpenStoreError;
@@ -33,7 +33,7 @@ pub(crate) fn check_pair<D: Disk>(alloc: Global, files: &mut Files<D>) -> Result
     requires db { IsTrue (D.Disk.is_usable files.old.db) }
     ensures ok { OnOk result (AreClean D.Disk files.new.log files.new.db → BelongTogether (image_of D.Disk files.old)) }
     ensures cause { IfErr result (λ e. AreClean D.Disk files.new.log files.new.db
-        → Fails (MoreFaults (faults_of D.Disk files.old) (faults_of D.Disk files.new)) (IsTooLong (image_of D.Disk files.new)) ⊤ ⊥ e ⊎ Refuses (image_of D.Disk files.old) ⊥ e) }
+        → Fails (MoreFaults (faults_of D.Disk files.old) (faults_of D.Disk files.new)) (IsTooLong (image_of D.Disk files.new)) ⊤ ⊥ e ⊎ RefusesPair (image_of D.Disk files.old) ⊥ e) }
     ensures counts { faults_of D.Disk files.old ≤ faults_of D.Disk files.new }
     ensures log { OnlyReads D.Disk files.old.log files.new.log }
     ensures db { OnlyReads D.Disk files.old.db files.new.db }

@@ -66,6 +66,9 @@ pub enum OpenStoreError {
     /// The log is that of another file, or of another time of this one.
     #[error("its log is that of another file")]
     ForeignLog,
+    /// The log is damaged before its end.
+    #[error("its log is damaged")]
+    DamagedLog,
 }
 
 // The error of a store's call, as one of ours.

@@ -1,13 +1,12 @@
 //! Keeping a change of a tree.
-ghost use Rattle.std.specs.Prelude.{◌≡◌, ◌≤◌, ◌↔◌, false, IsTrue, IfOk, IfErr, OnOk, Some, option_copied};
+ghost use Rattle.std.specs.Prelude.{◌≡◌, ◌≤◌, ◌↔◌, Bool, false, true, IsTrue, IfOk, IfErr, OnOk, Some, option_copied};
 ghost use Rattle.std.specs.FinMap as map;
 ghost use Rattle.sqlite_disk.specs.Disk.{MoreFaults};
 ghost use Rattle.sqlite_trees.specs.View.{IsClean, doubt, KeepsSchema, OnlyWrites, Tells};
-ghost use Rattle.sqlite_trees.specs.declared.error.StoreError.{StoreError as Failure};
 ghost use Rattle.osc_model.specs.Tree.{Tree as AnyTree};
-ghost use Rattle.osc_store.specs.Causes.{Excuses, IsTooLong, WhyNotKept, is_of_disk, told as told_of};
+ghost use Rattle.osc_store.specs.Causes.{Excuses, IsNamedBy, IsTooLong, WhyNotKept};
 ghost use Rattle.osc_store.specs.Rows.{Holds, changed};
-ghost use Rattle.osc_store.specs.Keeping.{AddsNone, Finds, HasTable, IsSame, Keeps, KeepsList, MayHold};
+ghost use Rattle.osc_store.specs.Keeping.{AddsNone, Finds, HasTable, IsSame, Keeps, KeepsList, MayHold, Writes};
 
 use crate::error::{KeepError, told};
 use crate::rows::{is_at, write_key, write_row};
@@ -27,48 +26,49 @@ pub(crate) fn has_table<S: Store>(store: &S) -> bool
     store.shape(TREE) == Shape::Index(Order::PLAIN) && store.reals(TREE) == 0
 }
 
-/// Keeps what the path has from now on, or that it has nothing: one row, in one commit. At `Ok` each crash leaves a file that has the
-/// change. Whatever the result, each crash leaves a file that holds what it held, or that with the change, and nothing else. After an
-/// `Err` the store has to be opened again. `row` is room that is written over, so that a server keeps a change with little allocated.
-pub fn keep<S: Store>(
+/// Writes what the path has from now on, or that it has nothing: one row, which the next commit keeps. Whatever the result, each crash leaves a
+/// file that holds what was kept. After an `Err` the store has to be opened again. `row` is room that is written over, so that a server writes a
+/// change with little allocated.
+pub(crate) fn write_change<S: Store>(
     store: &mut S,
     row: &mut Row,
     path: &Path,
     resource: Option<&Resource>,
 ) -> Result<(), KeepError>
-    ensures kept { (tree : AnyTree) → Keeps S.Store.view S.Store.recovers store.old tree → IsClean (S.Store.view store.new)
-        → OnOk result (Keeps S.Store.view S.Store.recovers store.new (changed tree path.now (option_copied resource.entry))) }
-    ensures crash { (tree : AnyTree) → Keeps S.Store.view S.Store.recovers store.old tree → IsClean (S.Store.view store.new)
-        → MayHold S.Store.view S.Store.recovers store.new tree (changed tree path.now (option_copied resource.entry)) }
-    ensures cause { (tree : AnyTree) → Keeps S.Store.view S.Store.recovers store.old tree → IsClean (S.Store.view store.new)
+    ensures written { (pending : Bool) (kept written : AnyTree) → Writes S.Store.view S.Store.recovers store.old pending kept written → IsClean (S.Store.view store.new)
+        → OnOk result (Writes S.Store.view S.Store.recovers store.new true kept (changed written path.now (option_copied resource.entry))) }
+    ensures crash { (pending : Bool) (kept written : AnyTree) → Writes S.Store.view S.Store.recovers store.old pending kept written → IsClean (S.Store.view store.new)
+        → MayHold S.Store.view S.Store.recovers store.new kept kept }
+    ensures cause { (pending : Bool) (kept written : AnyTree) → Writes S.Store.view S.Store.recovers store.old pending kept written → IsClean (S.Store.view store.new)
         → IfErr result (WhyNotKept (MoreFaults (S.Store.faults store.old) (S.Store.faults store.new)) (IsTooLong path.now (option_copied resource.entry))) }
+    ensures named { IfErr result (IsNamedBy (S.Store.blamed store.new)) }
+    ensures counts { S.Store.faults store.old ≤ S.Store.faults store.new }
     ensures clean { doubt (S.Store.view store.old).is_clean ≤ doubt (S.Store.view store.new).is_clean }
-    ensures named { IfErr result (λ e. (kind : Failure) → S.Store.blamed store.new ≡ Some kind → IsTrue (is_of_disk e) → e ≡ told_of kind) }
 {
-    match change(store, row, path, resource) {
+    match write(store, row, path, resource) {
         Ok(()) => Ok(()),
         Err(error) => Err(told(error)),
     }
 }
 
-// The same, with the error as the store gives it.
-fn change<S: Store>(
-    store: &mut S,
-    row: &mut Row,
-    path: &Path,
-    resource: Option<&Resource>,
-) -> Result<(), StoreError>
-    ensures kept { (tree : AnyTree) → Keeps S.Store.view S.Store.recovers store.old tree → IsClean (S.Store.view store.new)
-        → OnOk result (Keeps S.Store.view S.Store.recovers store.new (changed tree path.now (option_copied resource.entry))) }
-    ensures crash { (tree : AnyTree) → Keeps S.Store.view S.Store.recovers store.old tree → IsClean (S.Store.view store.new)
-        → MayHold S.Store.view S.Store.recovers store.new tree (changed tree path.now (option_copied resource.entry)) }
-    ensures cause { (tree : AnyTree) → Keeps S.Store.view S.Store.recovers store.old tree → IsClean (S.Store.view store.new)
-        → IfErr result (Excuses (MoreFaults (S.Store.faults store.old) (S.Store.faults store.new)) (IsTooLong path.now (option_copied resource.entry))) }
+/// Keeps all that has been written, in one commit. At `Ok` each crash leaves a file that has it. Whatever the result, each crash leaves a file
+/// that holds what was kept, or what has been written, and nothing else. After an `Err` the store has to be opened again.
+pub(crate) fn commit_changes<S: Store>(store: &mut S) -> Result<(), KeepError>
+    ensures all { OnOk result (IsClean (S.Store.view store.new) → (S.Store.view store.new).committed ≡ (S.Store.view store.old).trees) }
+    ensures kept { (pending : Bool) (kept written : AnyTree) → Writes S.Store.view S.Store.recovers store.old pending kept written → IsClean (S.Store.view store.new)
+        → OnOk result (Keeps S.Store.view S.Store.recovers store.new written) }
+    ensures crash { (pending : Bool) (kept written : AnyTree) → Writes S.Store.view S.Store.recovers store.old pending kept written → IsClean (S.Store.view store.new)
+        → MayHold S.Store.view S.Store.recovers store.new kept written }
+    ensures cause { (pending : Bool) (kept written : AnyTree) → Writes S.Store.view S.Store.recovers store.old pending kept written → IsClean (S.Store.view store.new)
+        → IfErr result (WhyNotKept (MoreFaults (S.Store.faults store.old) (S.Store.faults store.new)) ⊥) }
+    ensures named { IfErr result (IsNamedBy (S.Store.blamed store.new)) }
+    ensures counts { S.Store.faults store.old ≤ S.Store.faults store.new }
     ensures clean { doubt (S.Store.view store.old).is_clean ≤ doubt (S.Store.view store.new).is_clean }
-    ensures told { IfErr result (Tells (S.Store.blamed store.new)) }
 {
-    write(store, row, path, resource)?;
-    store.commit()
+    match store.commit() {
+        Ok(()) => Ok(()),
+        Err(error) => Err(told(error)),
+    }
 }
 
 /// Writes it, and commits nothing.

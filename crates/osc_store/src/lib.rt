@@ -2,6 +2,7 @@
 #![tactic(auto)]
 
 mod belonging;
+mod damage;
 mod error;
 mod files;
 mod finding;
@@ -24,9 +25,8 @@ pub use belonging::FRAMED_LOG;
 pub use error::{KeepError, OpenStoreError};
 pub use files::open_files;
 pub use keeper::{FileKeeper, Forgetful, Keeper, Keeping};
-pub use keeping::keep;
 pub use left::Left;
 pub use path::{draw_mark, open};
-pub use reading::read_store;
+pub use reading::{read_store, read_until_damage};
 pub use sqlite_std_file::{Start, Unknown, Wary};
-pub use whole::whole_file;
+pub use whole::{are_same, whole_file};

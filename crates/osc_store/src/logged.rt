@@ -17,7 +17,7 @@ use std::alloc::Global;
 use std::io;
 
 /// How many bytes of a frame stand before its page.
-const FRAME_HEADER: usize = 24;
+pub(crate) const FRAME_HEADER: usize = 24;
 
 /// The user version that the log gives the database, where recovery takes the database's first page from it.
 pub(crate) fn logged_version<D: Disk>(

@@ -1,22 +1,21 @@
 //! A database file that holds the whole store, and one that says that a log belongs to it.
-ghost use Rattle.std.specs.Prelude.{◌≡◌, ◌≤◌, false, IfErr, OnOk, option_copied};
+ghost use Rattle.std.specs.Prelude.{◌≡◌, ◌≤◌, Bool, false, IfErr, OnOk};
 ghost use Rattle.sqlite_disk.specs.Disk.{MoreFaults};
+ghost use Rattle.sqlite_trees.specs.Objects.{version_rows, version_tree};
 ghost use Rattle.sqlite_trees.specs.View.{IsClean, doubt, KeepsSchema, OnlyWrites, Tells};
 ghost use Rattle.sqlite_store.specs.FileStore.{blamed, faults, recovers, view, HasSpilled};
 ghost use Rattle.osc_model.specs.Tree.{Tree as AnyTree};
-ghost use Rattle.osc_store.specs.Causes.{Excuses, IsTooLong, WhyNotKept};
-ghost use Rattle.osc_store.specs.Rows.{Holds, changed};
-ghost use Rattle.osc_store.specs.Keeping.{AddsNone, Keeps, KeepsList, MayHold, MayLeave};
+ghost use Rattle.osc_store.specs.Causes.{Excuses, IsNamedBy, WhyNotKept};
+ghost use Rattle.osc_store.specs.Rows.{Holds};
+ghost use Rattle.osc_store.specs.Keeping.{AddsNone, Keeps, KeepsList, MayHold, MayLeave, Writes};
 ghost use Rattle.osc_store.specs.Starting.{IsWhole};
 
 use crate::error::{KeepError, told};
-use crate::keeping::write;
-use osc_model::{Path, Resource};
+use crate::keeping::commit_changes;
 use sqlite_disk::Disk;
 use sqlite_store::FileStore;
 use sqlite_trees::error::StoreError;
 use sqlite_trees::store::{Alter, Store};
-use sqlite_value::row::Row;
 
 /// The mark of a file that holds the whole store: none.
 pub(crate) const WHOLE: u32 = 0;
@@ -56,6 +55,7 @@ fn set_mark<D: Disk>(store: &mut FileStore<D>, mark: u32) -> Result<(), StoreErr
 
 /// Writes it, and commits nothing.
 pub(crate) fn write_mark<S: Alter>(store: &mut S, mark: u32) -> Result<(), StoreError>
+    ensures marked { OnOk result (IsClean (S.Store.view store.new) → (S.Store.view store.new).trees version_tree ≡ version_rows mark) }
     ensures held { (tree : AnyTree) → Holds (S.Store.view store.old).trees tree → IsClean (S.Store.view store.new) → OnOk result (Holds (S.Store.view store.new).trees tree) }
     ensures frame { OnOk result (IsClean (S.Store.view store.new) → OnlyWrites (S.Store.view store.old) (S.Store.view store.new)) }
     ensures list { OnOk result (IsClean (S.Store.view store.new) → KeepsList (S.Store.view store.old) (S.Store.view store.new)) }
@@ -68,45 +68,21 @@ pub(crate) fn write_mark<S: Alter>(store: &mut S, mark: u32) -> Result<(), Store
     store.set_version(mark)
 }
 
-/// As `keep`, in a commit that gives the file this user version.
-pub(crate) fn keep_marked<S: Alter>(
-    store: &mut S,
-    row: &mut Row,
-    mark: u32,
-    path: &Path,
-    resource: Option<&Resource>,
-) -> Result<(), KeepError>
-    ensures kept { (tree : AnyTree) → Keeps S.Store.view S.Store.recovers store.old tree → IsClean (S.Store.view store.new)
-        → OnOk result (Keeps S.Store.view S.Store.recovers store.new (changed tree path.now (option_copied resource.entry))) }
-    ensures crash { (tree : AnyTree) → Keeps S.Store.view S.Store.recovers store.old tree → IsClean (S.Store.view store.new)
-        → MayHold S.Store.view S.Store.recovers store.new tree (changed tree path.now (option_copied resource.entry)) }
-    ensures cause { (tree : AnyTree) → Keeps S.Store.view S.Store.recovers store.old tree → IsClean (S.Store.view store.new)
-        → IfErr result (WhyNotKept (MoreFaults (S.Store.faults store.old) (S.Store.faults store.new)) (IsTooLong path.now (option_copied resource.entry))) }
+/// As `commit_changes`, in a commit that gives the file this user version.
+pub(crate) fn commit_marked<S: Alter>(store: &mut S, mark: u32) -> Result<(), KeepError>
+    ensures marked { OnOk result (IsClean (S.Store.view store.new) → (S.Store.view store.new).committed version_tree ≡ version_rows mark) }
+    ensures kept { (pending : Bool) (kept written : AnyTree) → Writes S.Store.view S.Store.recovers store.old pending kept written → IsClean (S.Store.view store.new)
+        → OnOk result (Keeps S.Store.view S.Store.recovers store.new written) }
+    ensures crash { (pending : Bool) (kept written : AnyTree) → Writes S.Store.view S.Store.recovers store.old pending kept written → IsClean (S.Store.view store.new)
+        → MayHold S.Store.view S.Store.recovers store.new kept written }
+    ensures cause { (pending : Bool) (kept written : AnyTree) → Writes S.Store.view S.Store.recovers store.old pending kept written → IsClean (S.Store.view store.new)
+        → IfErr result (WhyNotKept (MoreFaults (S.Store.faults store.old) (S.Store.faults store.new)) ⊥) }
+    ensures named { IfErr result (IsNamedBy (S.Store.blamed store.new)) }
+    ensures counts { S.Store.faults store.old ≤ S.Store.faults store.new }
     ensures clean { doubt (S.Store.view store.old).is_clean ≤ doubt (S.Store.view store.new).is_clean }
 {
-    match change_marked(store, row, mark, path, resource) {
-        Ok(()) => Ok(()),
+    match write_mark(store, mark) {
+        Ok(()) => commit_changes(store),
         Err(error) => Err(told(error)),
     }
-}
-
-fn change_marked<S: Alter>(
-    store: &mut S,
-    row: &mut Row,
-    mark: u32,
-    path: &Path,
-    resource: Option<&Resource>,
-) -> Result<(), StoreError>
-    ensures kept { (tree : AnyTree) → Keeps S.Store.view S.Store.recovers store.old tree → IsClean (S.Store.view store.new)
-        → OnOk result (Keeps S.Store.view S.Store.recovers store.new (changed tree path.now (option_copied resource.entry))) }
-    ensures crash { (tree : AnyTree) → Keeps S.Store.view S.Store.recovers store.old tree → IsClean (S.Store.view store.new)
-        → MayHold S.Store.view S.Store.recovers store.new tree (changed tree path.now (option_copied resource.entry)) }
-    ensures cause { (tree : AnyTree) → Keeps S.Store.view S.Store.recovers store.old tree → IsClean (S.Store.view store.new)
-        → IfErr result (Excuses (MoreFaults (S.Store.faults store.old) (S.Store.faults store.new)) (IsTooLong path.now (option_copied resource.entry))) }
-    ensures clean { doubt (S.Store.view store.old).is_clean ≤ doubt (S.Store.view store.new).is_clean }
-    ensures told { IfErr result (Tells (S.Store.blamed store.new)) }
-{
-    write(store, row, path, resource)?;
-    write_mark(store, mark)?;
-    store.commit()
 }

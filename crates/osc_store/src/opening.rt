@@ -22,8 +22,8 @@ use std::alloc::{AllocFailed, Global};
 /// How many pages that were read are kept in memory: 128 kB of the 1 MB that 1,024 resources take.
 const CACHE_PAGES: usize = 32;
 
-/// How many pages the log has at most, 1 MB of 4,096 bytes each, before it is copied into the database file.
-const LONGEST_LOG: usize = 256;
+/// How many pages the log has at most, 10 MB of 4,096 bytes each, before it is copied into the database file: more than come under one mark.
+const LONGEST_LOG: usize = 2560;
 
 /// The files with the table to look for, of which nothing is read yet; without memory they come back.
 pub(crate) fn unopened<D: Disk>(

@@ -3,7 +3,7 @@ ghost use Rattle.std.specs.Prelude.{◌≡◌, ⊤, true, false, None, IfOk, IfE
 ghost use Rattle.sqlite_std_file.specs.File.{IsFresh, file_is_usable};
 ghost use Rattle.sqlite_store.specs.FileStore.{recovers, view};
 ghost use Rattle.sqlite_wal.specs.Files.{image_at};
-ghost use Rattle.osc_store.specs.Belonging.{BelongTogether, Refuses};
+ghost use Rattle.osc_store.specs.Belonging.{BelongTogether, IsDamagedLog, Refuses};
 ghost use Rattle.osc_store.specs.Causes.{is_of_content};
 ghost use Rattle.osc_store.specs.Keeping.{Keeps};
 ghost use Rattle.osc_store.specs.Starting.{FindsTree, IsStore, IsUnmade, Leaves};
@@ -27,8 +27,9 @@ const EMPTY_LOG: u64 = 56;
 /// Opens the store in the file at this path and in its log beside it (the path with `-wal`), with the tree that it holds, or makes one
 /// without a resource where there is no file yet. `S` stands for what the files hold, and says how a crash is read: `Wary` supposes nothing
 /// of a torn write. As long as the store is open, no other process opens it. A file that is no store, one of another version, and one that
-/// doesn't belong to what stands beside it is left as it is, with nothing beside it that wasn't there. An error of the files' content has its cause, and comes with what is left of them. Why
-/// the system doesn't open a file no clause says: then nothing comes with the error.
+/// doesn't belong to what stands beside it is left as it is, with nothing beside it that wasn't there; so is one beside a log that is damaged before
+/// its end. An error of the files' content has its cause, and comes with what is left of them. Why the system doesn't open a file no clause says:
+/// then nothing comes with the error.
 pub fn open<S: Start>(
     rt: &HostRuntime,
     path: &str,
@@ -43,6 +44,7 @@ pub fn open<S: Start>(
     ensures unharmed { IfErr result (λ e. IfSome e.1 (λ left. IsCleanLeft left
         → (tree : AnyTree) → FindsTree (image_at S.Start) tree → Leaves (outcomes_left left) tree)) }
     ensures belong { IfOk result (λ opened. IsTrue (view opened.0).is_clean → BelongTogether (image_at S.Start)) }
+    ensures intact { IfOk result (λ opened. IsTrue (view opened.0).is_clean → ¬ IsDamagedLog S.Start.log) }
     ensures refused { IfErr result (λ e. IfSome e.1 (λ left. IsCleanLeft left → Refuses (image_at S.Start) ⊤ e.0)) }
 {
     let seed = match draw(rt) {

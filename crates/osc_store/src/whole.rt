@@ -25,8 +25,8 @@ pub fn whole_file(alloc: Global, tree: &Tree) -> Result<Vec<u8>, OpenStoreError>
     }
 }
 
-// Whether the two have the same resources at the same paths.
-fn are_same(one: &Tree, other: &Tree) -> bool
+/// Whether the two have the same resources at the same paths.
+pub fn are_same(one: &Tree, other: &Tree) -> bool
     ensures { IsTrue result → one.now ≡ other.now }
 {
     let mut theirs = other.iter();
@@ -74,12 +74,15 @@ fn fill<D: Disk>(keeper: &mut Keeper<FileStore<D>>, tree: &Tree) -> Result<(), O
 
 fn keep_all<K: Keeping>(keeper: &mut K, tree: &Tree) -> Result<(), OpenStoreError> {
     for (path, resource) in tree.iter() {
-        match keeper.keep(path, Some(resource)) {
+        match keeper.write(path, Some(resource)) {
             Ok(()) => {}
             Err(error) => return Err(of_keep(error)),
         }
     }
-    Ok(())
+    match keeper.commit() {
+        Ok(()) => Ok(()),
+        Err(error) => Err(of_keep(error)),
+    }
 }
 
 // In memory nothing else fails.

@@ -2,6 +2,6 @@
 pub mod Changes
 pub mod Turns
 pub mod Lives
-pub use Changes.{DifferAt, IsChangeOf, path_asked, path_changed, path_changed_by, tells_change}
-pub use Lives.{Cut, IsLived, Notes, StartsOver}
-pub use Turns.{Stands}
+pub use Changes.{DifferAt, HasTooLong, IsChangeOf, path_asked, path_changed, path_changed_by, tells_change}
+pub use Lives.{Cut, IsLived, Notes, ServerSteps, StartsOver, noted_steps}
+pub use Turns.{Stands, may_hold_last, may_leave_last}

@@ -1,5 +1,5 @@
 -- What a port tells of the datagrams that it takes and gives, and of the calls that failed.
-use Rattle.std.specs.Prelude.{◌≡◌, ◌<◌, ◌++◌, ℕ, List, Option, Some, None, option_map, take}
+use Rattle.std.specs.Prelude.{◌≡◌, ◌<◌, ◌++◌, ◌∷◌, [], ℕ, List, Option, Some, None, option_map, take}
 use Rattle.osc_model.specs.declared.node.Draw.{Draw}
 use Rattle.osc_model.specs.declared.node.Moment.{Moment}
 use Rattle.osc_model.specs.declared.node.Peer.{Peer}
@@ -13,6 +13,11 @@ Received = Peer × List ℕ
 -- what a receive gives: a sender and the bytes of the buffer that it sent, or nothing
 abbrev pub received_in : List ℕ → Option (Peer × ℕ) → Option Received
 received_in buffer got = option_map (λ datagram. (datagram.0, take datagram.1 buffer)) got
+
+-- what a look at what waits gave, where that was anything
+abbrev pub came_for : Option Received → List (Option Received)
+came_for None = []
+came_for (Some came) = Some came ∷ []
 
 -- What a node takes its step for, where this was received at this moment: nothing gives a tick.
 abbrev pub cause_of : Moment → Draw → Option Received → Cause

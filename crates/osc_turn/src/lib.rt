@@ -18,7 +18,10 @@ mod watch;
 
 pub use clock_and_random::{ClockAndRandom, generator_of};
 pub use error::TurnError;
-pub use kept::{KeepsSteps, KeptNode, Unsent, keep_change, kept_turn, laws};
+pub use kept::{
+    Batch, KeepsSteps, KeptNode, Taken, Unsent, is_change, keep_change, kept_turn, laws,
+    write_change,
+};
 pub use pace::{Pace, paced_step, paced_turn};
 pub use port::{Port, PortFault};
 pub use seeds::Seeds;

@@ -36,7 +36,7 @@ impl Pace {
     }
 
     // After one more turn, in which a datagram came, or none.
-    fn after(self, now: Moment, received: bool) -> Pace
+    pub(crate) fn after(self, now: Moment, received: bool) -> Pace
         ensures { result.busy_since ≡ busy_after self.busy_since now received }
     {
         if !received {
@@ -106,10 +106,17 @@ pub fn paced_step<A: Ciphers, P: Port, N: Node<A>>(
     ensures no_fault { OnOk result (P.failures port.new ≡ P.failures port.old) }
     ensures pace_kept { OnErr result (pace.new ≡ pace.old) }
 {
-    let due = acts::<A, N>(node, now) || pace.is_due(now);
+    let due = must_tick::<A, N>(node, *pace, now);
     let stepped = step_by::<A, P, N>(alloc, port, node, due, now, draw)?;
     *pace = pace.after(now, stepped.received);
     Ok(stepped)
+}
+
+// Whether a tick has to come: something of the node's own is due, or it has taken what came for so long.
+pub(crate) fn must_tick<A: Ciphers, N: Node<A>>(node: &N, pace: Pace, now: Moment) -> bool
+    ensures { result ≡ must_tick (N.acts node.now now) pace.busy_since now }
+{
+    acts::<A, N>(node, now) || pace.is_due(now)
 }
 
 // Whether something of the node's own is due at this moment: its first deadline isn't above it.

@@ -2,7 +2,7 @@
 ghost use Rattle.std.specs.Prelude.{◌≡◌, ◌≤◌, ◌<◌, [], ◌∷◌, ℕ, List, Option, IfOk, IfSome, OnErr, OnOk};
 ghost use Rattle.osc_model.specs.Refusals as refusal;
 ghost use Rattle.osc_model.specs.declared.step.Datagram.{Datagram};
-ghost use Rattle.osc_turn.specs.Ports.{Received, grown, received_in};
+ghost use Rattle.osc_turn.specs.Ports.{Received, came_for, grown, received_in};
 
 use osc_model::{Peer, refusals};
 use thiserror::Error;
@@ -44,6 +44,22 @@ pub trait Port {
         ensures not_sent { sent self.new ≡ sent self.old }
         ensures counted { OnErr result (failures self.old < failures self.new) }
         ensures not_counted { OnOk result (failures self.new ≡ failures self.old) };
+
+    /// Takes a datagram that waits already, as `receive` does. Where none waits, it answers so at once, and that nothing came isn't told: `received` stays.
+    fn receive_waiting(
+        &mut self,
+        buffer: &mut [u8; 1153],
+    ) -> Result<Option<(Peer, usize)>, PortFault>
+        ensures within { IfOk result (λ got. IfSome got (λ datagram. datagram.1 ≤ 1153)) }
+        ensures received { IfOk result (λ got. received self.new ≡ grown (received self.old) (came_for (received_in buffer.new got))) }
+        ensures not_received { OnErr result (received self.new ≡ received self.old) }
+        ensures not_sent { sent self.new ≡ sent self.old }
+        ensures counted { OnErr result (failures self.old < failures self.new) }
+        ensures not_counted { OnOk result (failures self.new ≡ failures self.old) }
+    {
+        let _ = buffer;
+        Ok(None)
+    }
 
     /// Sends a datagram to this peer. After a failure it is lost.
     fn send(&mut self, to: Peer, bytes: &[u8]) -> Result<(), PortFault>

@@ -103,7 +103,7 @@ pub fn send_step<P: Port>(port: &mut P, stepped: Stepped) -> Turned
 }
 
 /// The step that the node makes of what was received.
-fn step_of<A: Ciphers, N: Node<A>>(
+pub(crate) fn step_of<A: Ciphers, N: Node<A>>(
     alloc: Global,
     node: &mut N,
     now: Moment,

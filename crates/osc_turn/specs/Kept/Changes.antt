@@ -7,6 +7,7 @@ use Rattle.osc_model.specs.declared.code.Code.{Code}
 use Rattle.osc_model.specs.declared.request.Request.{Request}
 use Rattle.osc_model.specs.declared.step.Entry.{Entry}
 use Rattle.osc_store.specs.{changed}
+use Rattle.osc_store.specs.Causes.{IsTooLong}
 
 -- the codes that tell of a change: 2.01 Created, 2.02 Deleted and 2.04 Changed (RFC 7252 section 5.9.1)
 abbrev pub tells_change : Code → Bool
@@ -34,3 +35,7 @@ DifferAt (Some path) before after = after ≡ changed before path (map.get after
 -- the tree before a step, and after it: they differ where the request that it served says, if it served one
 abbrev pub IsChangeOf : Option Entry → Tree → Tree → Type 0
 IsChangeOf served before after = DifferAt (path_changed_by served) before after
+
+-- what some path has in this tree is too long to be kept
+abbrev pub HasTooLong : Tree → Type 0
+HasTooLong tree = (path : List ℕ) × IsTooLong path (map.get tree path)

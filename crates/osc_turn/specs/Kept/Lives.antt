@@ -1,5 +1,5 @@
 -- The lives of a server over one store, each up to a power cut, and what is noted of all of them.
-use Rattle.std.specs.Prelude.{◌≡◌, ◌≢◌, ◌⊎◌, List, [], ◌∷◌, ◌++◌}
+use Rattle.std.specs.Prelude.{◌≡◌, ◌≢◌, ◌⊎◌, List, [], ◌∷◌, ◌++◌, map, reverse}
 use Rattle.osc_model.specs.{quiet}
 use Rattle.osc_model.specs.Tree.{Tree}
 use Rattle.osc_model.specs.declared.node.Moment.{Moment}
@@ -7,22 +7,32 @@ use Rattle.osc_model.specs.declared.step.Datagram.{Datagram}
 use Rattle.osc_model.specs.declared.step.Step.{Step}
 use Rattle.osc_run.specs.{IsStart, Noted, ServerState, ServerStep, WorldState, WorldStep, by_server}
 
--- A turn in which the power goes: the step that the server made, what of it was handed to the port, and the resources that the next start
--- finds: those before the step or those after it, and once anything was handed to the port, those after it.
+-- the steps that a server makes at one moment, one after another
+pub data ServerSteps (now : Moment) : ServerState → List Step → ServerState → Type 0 where
+  none : (server : ServerState) → ServerSteps now server [] server
+  more : (first between last : ServerState) (step : Step) (rest : List Step) → ServerStep first now step.notes between
+      → ServerSteps now between rest last → ServerSteps now first (step ∷ rest) last
+
+-- what a run notes of them, the newest first
+abbrev pub noted_steps : List Step → List Noted
+noted_steps steps = reverse (map (λ step. by_server step.notes) steps)
+
+-- A turn in which the power goes: the steps that the server made, what of them was handed to the port, and the resources that the next start
+-- finds: those before the turn or those after it, and once anything was handed to the port, those after it.
 pub record Cut (old : ServerState) : Type 0 where
   pub now : Moment
-  pub step : Step
+  pub steps : List Step
   pub new : ServerState
-  pub kind : ServerStep old now step.notes new
+  pub kinds : ServerSteps now old steps new
   pub sent : List Datagram
   pub found : Tree
   pub either : (found ≡ old.tree) ⊎ (found ≡ new.tree)
   pub kept : sent ≢ [] → found ≡ new.tree
 
--- What is noted of the turn: nothing, where nothing of it was handed to the port and the resources before it are found; else its step.
+-- What is noted of the turn: nothing, where nothing of it was handed to the port and the resources before it are found; else its steps.
 pub data Notes (old : ServerState) (cut : Cut old) : List Noted → Type 0 where
   unheard : cut.sent ≡ [] → cut.found ≡ old.tree → Notes old cut []
-  counted : cut.found ≡ cut.new.tree → Notes old cut (by_server cut.step.notes ∷ [])
+  counted : cut.found ≡ cut.new.tree → Notes old cut (noted_steps cut.steps)
 
 -- The power goes in a turn of the server, and it starts again from what it finds: without a context, and with these resources. No other
 -- node changes.

@@ -50,3 +50,6 @@ returns-in-Err-clause-stops g c clean =
       ];
       goes_on = λ tree found leaves. leaves_read c.args.files new read.log read.db tree leaves;
     }
+
+pub returns-in-Ok-open_over-clause-honest : goal.returns-in-Ok-open_over-clause-honest
+returns-in-Ok-open_over-clause-honest g c clean = both_read c.args.files c.check_pair.new.files c.check_pair.ensures.log c.check_pair.ensures.db (c.in-Ok-open_over.ensures.honest clean)

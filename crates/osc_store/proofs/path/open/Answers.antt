@@ -3,7 +3,7 @@ use Rattle.std.specs.Bool.{⊤}
 use Rattle.sqlite_disk.specs.Events.{Event, replay, settled}
 use Rattle.sqlite_disk.specs.History.{MayLeave}
 use Rattle.sqlite_wal.specs.Recovery.{Image}
-use Rattle.osc_store.specs.{BelongTogether, FindsTree, IsStore, IsUnmade, Fault, IsFullLeft, IsOtherVersion, Refuses, WhyNotOpened}
+use Rattle.osc_store.specs.{BelongTogether, IsDamagedLog, FindsTree, IsStore, IsUnmade, Fault, IsFullLeft, IsOtherVersion, Refuses, WhyNotOpened}
 use Rattle.osc_store.proofs.path.open.Goals as goal
 
 abbrev image : List ℕ → List ℕ → Image
@@ -58,6 +58,11 @@ returns-in-Ok-open_files-clause-belong g c clean =
     let (log, db) = c.in-Ok-open_pair.ensures.fresh in
     let same = ap₂ image (ap₂ (seen g.S.Start.log g.S.Start.db) log.0 log.1) (ap₂ (seen g.S.Start.log g.S.Start.db) db.0 db.1) in
     subst BelongTogether same (c.in-Ok-open_files.ensures.belong clean)
+
+pub returns-in-Ok-open_files-clause-intact : goal.returns-in-Ok-open_files-clause-intact
+returns-in-Ok-open_files-clause-intact g c clean =
+    let log = c.in-Ok-open_pair.ensures.fresh.0 in
+    subst (λ (l : List ℕ). ¬ IsDamagedLog l) (ap₂ (seen g.S.Start.log g.S.Start.db) log.0 log.1) (c.in-Ok-open_files.ensures.intact clean)
 
 pub returns-after-is_left-clause-refused : goal.returns-after-is_left-clause-refused
 returns-after-is_left-clause-refused g c clean =

@@ -1,7 +1,7 @@
 use Rattle.std.proofs.Common.{List, ℕ, ap₂, refl, subst}
 use Rattle.std.specs.Bool.{⊤}
 use Rattle.sqlite_wal.specs.Recovery.{Image}
-use Rattle.osc_store.specs.{BelongTogether, FindsTree, Refuses}
+use Rattle.osc_store.specs.{BelongTogether, FindsTree, IsDamagedLog, Refuses}
 use Rattle.osc_store.proofs.ReadLemmas.{left_clean, store_clean}
 use Rattle.osc_store.proofs.reading.read_store.Goals as goal
 
@@ -22,3 +22,7 @@ pub returns-in-Err-clause-refused : goal.returns-in-Err-clause-refused
 returns-in-Err-clause-refused c =
     subst (λ i. Refuses i ⊤ c.in-Err.error) (ap₂ image c.in-Ok.ensures.bytes c.in-Ok-copied.ensures.bytes)
     (c.in-Err.ensures.refused (left_clean _ (λ d. refl) c.in-Err._left))
+
+pub returns-in-Ok-open_files-clause-intact : goal.returns-in-Ok-open_files-clause-intact
+returns-in-Ok-open_files-clause-intact c =
+    subst (λ (l : List ℕ). ¬ IsDamagedLog l) c.in-Ok.ensures.bytes (c.in-Ok-open_files.ensures.intact (store_clean _ (λ d. refl) c.in-Ok-open_files._store))
