@@ -2,6 +2,7 @@ pub mod Appended
 pub mod Ascii
 pub mod Counts
 pub mod NoFloats
+pub mod Outputs
 pub mod Printing
 pub mod Sent
 pub mod Served

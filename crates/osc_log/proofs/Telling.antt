@@ -1,163 +1,181 @@
 -- What logs tell of some events, and of more after them.
-use Rattle.std.proofs.Common.{◌≡◌, ◌∙◌, inr, ℕ, List, [], ◌∷◌, ◌++◌, Option, Some, None, option_map, refl, ap, sym, subst, append_assoc, append-nil}
+use Rattle.std.proofs.Common.{◌≡◌, ◌≢◌, ◌∙◌, inl, inr, ℕ, List, [], ◌∷◌, ◌++◌, Option, Some, None, refl, ap, sym, subst, append-nil}
 use Rattle.std.specs.Io.KnownBytes.{Appends}
 use Rattle.osc_model.specs.declared.node.Moment.{Moment}
 use Rattle.osc_log.specs.Counters.{after_turn, with_lost}
 use Rattle.osc_log.specs.Faults.{IsUnreadText, behind_text, lost_text, unsaid_text, untold_text}
-use Rattle.osc_log.specs.Log.{Event, Says, SaysIf, SaysOf, Tells, Told, Writes, behind, counted_by, lost, turned, unseen}
+use Rattle.osc_log.specs.LineEnd.{line}
+use Rattle.osc_log.specs.Log.{AreLines, Event, IsTelling, PutsLines, Says, SaysIn, SaysOf, Tells, TellsBy, TellsIf, Told, Writes, behind, counted_by, lost, no_event, one_event, seen_by, turned, unseen}
 use Rattle.osc_log.specs.Log as log
+use Rattle.osc_log.specs.Output.{Admits, Puts, Written}
 use Rattle.osc_log.specs.Sent.{seen_after, turn_text}
 use Rattle.osc_log.specs.Time.{IsTime}
 use Rattle.osc_log.specs.Turns.{Turn}
-use Rattle.osc_log.specs.declared.counters.Counters.{Counters}
 use Rattle.osc_log.specs.declared.form.Form.{Form}
-use Rattle.osc_log.specs.declared.form.Form.TheVariants.{Text}
+use Rattle.osc_log.specs.declared.form.Form.TheVariants.{Text, Json}
 use Rattle.osc_log.specs.declared.held.Held.{Held}
 use Rattle.osc_log.specs.declared.seen.Seen.{Seen}
-use Rattle.osc_log.proofs.Appended.{appends_more, appends_none}
+use Rattle.osc_log.proofs.Appended.{appends_more, appends_none, admits_none, admits_some, puts_all, puts_none}
 
--- ---- what is said
+-- ---- one event after another
 
-pub says_more : (form : Form) (first between last : Seen) (some more : List Event) (text next : List ℕ) → Says form first some text between → Says form between more next last
-    → Says form first (some ++ more) (text ++ next) last
-says_more form first between last some more text next (log.nothing seen) q = q
-says_more form first between last some more text next (log.more a b c event events said then p ps) q =
-    subst (λ (all : List ℕ). Says form a (event ∷ (events ++ more)) all last) (sym (append_assoc said then next))
-    (log.more a b last event (events ++ more) said (then ++ next) p (says_more form b c last events more then next ps q))
+pub tells_more : (first between last : Told) (some more : List Event) → Tells first between some → Tells between last more → Tells first last (some ++ more)
+tells_more first between last some more (no_event it) q = q
+tells_more first between last some more (one_event a b c event events p ps) q = one_event a b last event (events ++ more) p (tells_more b c last events more ps q)
 
-says_if_more : (form : Form) (first between last : Option Seen) (some more : List Event) (text next : List ℕ) → SaysIf form first some text between → SaysIf form between more next last
-    → SaysIf form first (some ++ more) (text ++ next) last
-says_if_more form None between last some more text next p q = subst (λ (seen : Option Seen). SaysIf form seen more next last) p q
-says_if_more form (Some first) between last some more text next p q =
-    let later = subst (λ (seen : Option Seen). SaysIf form seen more next last) p.1 q in
-    (later.0, later.1, says_more form first p.0 later.0 some more text next p.2 later.2)
+pub tells_one : (old new : Told) (event : Event) → TellsIf old.seen old new event → Tells old new (event ∷ [])
+tells_one old new event p = one_event old new new event [] p (no_event new)
 
-says_if_none : (form : Form) (seen : Option Seen) → SaysIf form seen [] [] seen
-says_if_none form None = refl
-says_if_none form (Some seen) = (seen, refl, log.nothing seen)
+-- ---- what was written stays
+
+written_of : (seen : Option Seen) (old new : Told) (event : Event) → TellsIf seen old new event → (text : List ℕ) × Appends old.output.text new.output.text text
+written_of None old new event same = ([], subst (λ (log : Told). Appends old.output.text log.output.text []) (sym same) (appends_none old.output.text))
+written_of (Some seen) old new event says =
+    let first = admits_some old.form (log.moment_of event) old.output says.between says.admits in
+    (first.0 ++ says.puts.put, appends_more old.output.text says.between.text new.output.text first.0 says.puts.put first.1 says.puts.appends)
+
+pub stays : (old new : Told) (events : List Event) → Tells old new events → (text : List ℕ) × Appends old.output.text new.output.text text
+stays old new events (no_event it) = ([], appends_none it.output.text)
+stays old new events (one_event a b c event more p ps) =
+    let first = written_of a.seen a b event p in
+    let later = stays b c more ps in
+    (first.0 ++ later.0, appends_more a.output.text b.output.text c.output.text first.0 later.0 first.1 later.1)
 
 -- ---- what is counted
 
-counted_more : (some more : List Event) (counters : Counters) → counted_by (some ++ more) counters ≡ counted_by more (counted_by some counters)
-counted_more [] more counters = refl
-counted_more (event ∷ some) more counters = counted_more some more (log.count_of event counters)
+count_of_one : (form : Form) (seen last : Seen) (event : Event) (text : List ℕ) → SaysOf form seen event text last → last.counters ≡ log.count_of event seen.counters
+count_of_one form seen last event text (log.told turn held time is_time) = refl
+count_of_one form seen last event text (log.untold turn held time is_time) = refl
+count_of_one form seen last event text (log.missed now time is_time) = refl
+count_of_one form seen last event text (log.lagging now seconds time is_time) = refl
 
-abbrev counters_of : Option Seen → Option Counters
-counters_of seen = option_map (λ (s : Seen). s.counters) seen
+says_in : (old new : Told) (seen : Seen) (event : Event) → TellsIf old.seen old new event → old.seen ≡ Some seen → SaysIn seen old new event
+says_in old new seen event p is = subst (λ (s : Option Seen). TellsIf s old new event) is p
 
-abbrev counted_from : List Event → Option Seen → Option Counters
-counted_from events seen = option_map (λ (s : Seen). counted_by events s.counters) seen
+pub counted : (old new : Told) (seen : Seen) (events : List Event) → Tells old new events → old.seen ≡ Some seen
+    → (last : Seen) × (new.seen ≡ Some last) × (last.counters ≡ counted_by events seen.counters)
+counted old new seen events (no_event it) is = (seen, is, refl)
+counted old new seen events (one_event a b c event more p ps) is =
+    let says = says_in a b seen event p is in
+    let later = counted b c says.last more ps says.is_last in
+    (later.0, later.1, later.2 ∙ ap (counted_by more) (count_of_one a.form seen says.last event says.text says.says))
 
-abbrev by : List Event → Option Counters → Option Counters
-by events counters = option_map (λ (c : Counters). counted_by events c) counters
+-- ---- what is said where nothing was dropped
 
-counted_alike : (events : List Event) (seen : Option Seen) → counted_from events seen ≡ by events (counters_of seen)
-counted_alike events None = refl
-counted_alike events (Some seen) = refl
+pub said : (old new : Told) (seen : Seen) (events : List Event) → Tells old new events → old.seen ≡ Some seen → new.output.dropped ≡ 0
+    → (old.output.dropped ≡ 0) × (text : List ℕ) × (last : Seen) × (new.seen ≡ Some last) × Says old.form seen events text last × Appends old.output.text new.output.text text
+said old new seen events (no_event it) is none = (none, [], seen, is, log.nothing seen, appends_none it.output.text)
+said old new seen events (one_event a b c event more p ps) is none =
+    let says = says_in a b seen event p is in
+    let later = said b c says.last more ps says.is_last none in
+    let whole = puts_all says.between b.output says.text says.puts later.0 in
+    let first = admits_none a.form (log.moment_of event) a.output says.between says.admits whole.0 in
+    let wrote = subst (λ (w : Written). Appends w.text b.output.text says.text) first.1 whole.1 in (
+      first.0,
+      says.text ++ later.1,
+      later.2,
+      later.3,
+      log.more seen says.last later.2 event more says.text later.1 says.says (subst (λ (form : Form). Says form says.last more later.1 later.2) says.form later.4),
+      appends_more a.output.text b.output.text c.output.text says.text later.1 wrote later.5,
+    )
 
-by_more : (some more : List Event) (seen : Option Seen) → by more (counted_from some seen) ≡ counted_from (some ++ more) seen
-by_more some more None = refl
-by_more some more (Some seen) = ap Some (sym (counted_more some more seen.counters))
+-- ---- a turn
 
-counts_none : (seen : Option Seen) → counters_of seen ≡ counted_from [] seen
-counts_none None = refl
-counts_none (Some seen) = refl
+says_lines : (form : Form) (seen : Seen) (turn : Turn) (held : Held) (lines : List ℕ) → AreLines form (Some seen) turn held lines
+    → SaysOf form seen (turned turn held) lines (seen_after turn seen)
+says_lines form seen turn held lines are =
+    subst (λ (text : List ℕ). SaysOf form seen (turned turn held) text (seen_after turn seen)) (sym are.2) (log.told turn held are.0 are.1)
 
--- ---- what a log told
-
-pub tells_none : (log : Told) → Tells log log []
-tells_none log = record { form = refl; counts = counts_none log.seen; told = λ none. (none, [], says_if_none log.form log.seen, appends_none log.text) }
-
-pub tells_more : (first between last : Told) (some more : List Event) → Tells first between some → Tells between last more → Tells first last (some ++ more)
-tells_more first between last some more p q = record {
-  form = q.form ∙ p.form;
-  counts = q.counts ∙ counted_alike more between.seen ∙ ap (by more) p.counts ∙ by_more some more first.seen;
-  told = λ none.
-      let later = q.told none in
-      let before = p.told later.0 in
-      let says = subst (λ (form : Form). SaysIf form between.seen more later.1 last.seen) p.form later.2 in (
-        before.0,
-        before.1 ++ later.1,
-        says_if_more first.form first.seen between.seen last.seen some more before.1 later.1 before.2 says,
-        appends_more first.text between.text last.text before.1 later.1 before.3 later.3,
-      );
+by_lines : (seen : Option Seen) (old new : Told) (turn : Turn) (held : Held) (lines : List ℕ) → AreLines old.form seen turn held lines
+    → TellsBy seen old new turn (Some lines) → TellsIf seen old new (turned turn held)
+by_lines None old new turn held lines are same = same
+by_lines (Some seen) old new turn held lines are p = record {
+  form = p.form;
+  between = p.between;
+  admits = p.admits;
+  text = lines;
+  last = seen_after turn seen;
+  is_last = p.seen_now;
+  says = says_lines old.form seen turn held lines are;
+  puts = subst (Puts p.between new.output) p.is_text p.puts;
 }
 
--- ---- one event
-
--- of a log that tells nothing which contracts can see
-pub unseen_tells : (event : Event) → Tells unseen unseen (event ∷ [])
-unseen_tells event = record { form = refl; counts = refl; told = λ none. (refl, [], refl, tt) }
-
--- of a log that saw this much before the event and this much after it, and wrote what is said of it
-pub tells_this : (old new : Told) (event : Event) (seen last : Seen) (between : Option (List ℕ)) (text : List ℕ)
-    → new.form ≡ old.form → old.seen ≡ Some seen → new.seen ≡ Some last → last.counters ≡ log.count_of event seen.counters
-    → (old.dropped ≡ 0 → between ≡ old.text) → (new.dropped ≡ 0 → (old.dropped ≡ 0) × Appends between new.text text)
-    → SaysOf old.form seen event text last → Tells old new (event ∷ [])
-tells_this old new event seen last between text form is_old is_new counts untouched written says = record {
-  form = form;
-  counts = ap counters_of is_new ∙ ap Some counts ∙ sym (ap (counted_from (event ∷ [])) is_old);
-  told = λ none.
-      let done = written none in (
-        done.0,
-        text,
-        subst (λ (s : Option Seen). SaysIf old.form s (event ∷ []) text new.seen) (sym is_old) (last, is_new, one says),
-        subst (λ (w : Option (List ℕ)). Appends w new.text text) (untouched done.0) done.1,
-      );
+by_none : (seen : Option Seen) (old new : Told) (turn : Turn) (held : Held) → TellsBy seen old new turn None → TellsIf seen old new (turned turn held)
+by_none None old new turn held same = same
+by_none (Some seen) old new turn held p = record {
+  form = p.form;
+  between = p.between;
+  admits = p.admits;
+  text = untold_text old.form p.is_text.0;
+  last = seen_by turn None seen;
+  is_last = p.seen_now;
+  says = log.untold turn held p.is_text.0 p.is_text.1;
+  puts = subst (Puts p.between new.output) p.is_text.2 p.puts;
 }
-  where
-    one : SaysOf old.form seen event text last → Says old.form seen (event ∷ []) text last
-    one p = subst (λ (all : List ℕ). Says old.form seen (event ∷ []) all last) (append-nil text) (log.more seen last last event [] text [] p (log.nothing last))
 
--- what was seen, with other counters
-pub recounted : (w seen : Seen) (counters counted : Counters) → w ≡ seen → counters ≡ counted → record w { counters = counters } ≡ record seen { counters = counted }
-recounted w seen counters counted e d =
-    ap (λ (c : Counters). record w { counters = c }) d ∙ ap (λ (s : Seen). record s { counters = counted }) e
+pub tells_lines : (old new : Told) (turn : Turn) (held : Held) (lines : List ℕ) → AreLines old.form old.seen turn held lines
+    → TellsBy old.seen old new turn (Some lines) → Tells old new (turned turn held ∷ [])
+tells_lines old new turn held lines are p = tells_one old new (turned turn held) (by_lines old.seen old new turn held lines are p)
 
-pub tells_turn : (old new : Told) (turn : Turn) (held : Held) (seen last : Seen) (between : Option (List ℕ)) (time text : List ℕ)
-    → new.form ≡ old.form → old.seen ≡ Some seen → new.seen ≡ Some last → last ≡ seen_after turn seen
-    → IsTime turn.now time → text ≡ turn_text old.form time seen turn held
-    → (old.dropped ≡ 0 → between ≡ old.text) → (new.dropped ≡ 0 → (old.dropped ≡ 0) × Appends between new.text text)
-    → Tells old new (turned turn held ∷ [])
-tells_turn old new turn held seen last between time text form is_old is_new is_last is_time is_text untouched written =
-    let event = turned turn held in
-    tells_this old new event seen last between text form is_old is_new (ap (λ (s : Seen). s.counters) is_last) untouched written
-    (subst (SaysOf old.form seen event text) (sym is_last)
-    (subst (λ (t : List ℕ). SaysOf old.form seen event t (seen_after turn seen)) (sym is_text) (log.told turn held time is_time)))
+pub tells_untold : (old new : Told) (turn : Turn) (held : Held) → TellsBy old.seen old new turn None → Tells old new (turned turn held ∷ [])
+tells_untold old new turn held p = tells_one old new (turned turn held) (by_none old.seen old new turn held p)
 
-pub tells_untold : (old new : Told) (turn : Turn) (held : Held) (seen last : Seen) (between : Option (List ℕ)) (time text : List ℕ)
-    → new.form ≡ old.form → old.seen ≡ Some seen → new.seen ≡ Some last → last ≡ record seen { counters = after_turn turn seen.counters }
-    → IsTime turn.now time → text ≡ untold_text old.form time
-    → (old.dropped ≡ 0 → between ≡ old.text) → (new.dropped ≡ 0 → (old.dropped ≡ 0) × Appends between new.text text)
-    → Tells old new (turned turn held ∷ [])
-tells_untold old new turn held seen last between time text form is_old is_new is_last is_time is_text untouched written =
-    let event = turned turn held in
-    tells_this old new event seen last between text form is_old is_new (ap (λ (s : Seen). s.counters) is_last) untouched written
-    (subst (SaysOf old.form seen event text) (sym is_last)
-    (subst (λ (t : List ℕ). SaysOf old.form seen event t (record seen { counters = after_turn turn seen.counters })) (sym is_text) (log.untold turn held time is_time)))
+-- what is told of a turn without its lines
+pub untold_lines : (old new : Written) (form : Form) (turn : Turn) (lines : Option (List ℕ)) (now : Moment) → lines ≡ None → now ≡ turn.now
+    → (time : List ℕ) × IsTime now time × Puts old new (untold_text form time)
+    → (text : List ℕ) × IsTelling form turn lines text × Puts old new text
+untold_lines old new form turn lines now none at p =
+    (untold_text form p.0, subst (λ (l : Option (List ℕ)). IsTelling form turn l (untold_text form p.0)) (sym none) (p.0, subst (λ (m : Moment). IsTime m p.0) at p.1, refl), p.2)
 
-pub tells_lost : (old new : Told) (now : Moment) (seen last : Seen) (time text : List ℕ)
-    → new.form ≡ old.form → old.seen ≡ Some seen → new.seen ≡ Some last → last ≡ record seen { counters = with_lost seen.counters }
-    → IsTime now time → text ≡ lost_text old.form time → (new.dropped ≡ 0 → (old.dropped ≡ 0) × Appends old.text new.text text)
+-- ---- what else is told
+
+-- of a log that tells of no turns
+pub same_tells : (old : Told) (event : Event) → old.seen ≡ None → Tells old old (event ∷ [])
+same_tells old event none = tells_one old old event (subst (λ (seen : Option Seen). TellsIf seen old old event) (sym none) refl)
+
+pub tells_lost : (old new : Told) (now : Moment) (seen : Seen) (between : Written) (time text : List ℕ)
+    → new.form ≡ old.form → old.seen ≡ Some seen → new.seen ≡ Some (record seen { counters = with_lost seen.counters })
+    → IsTime now time → text ≡ lost_text old.form time → Admits old.form now old.output between → Puts between new.output text
     → Tells old new (lost now ∷ [])
-tells_lost old new now seen last time text form is_old is_new is_last is_time is_text written =
-    tells_this old new (lost now) seen last old.text text form is_old is_new (ap (λ (s : Seen). s.counters) is_last) (λ none. refl) written
-    (subst (SaysOf old.form seen (lost now) text) (sym is_last)
-    (subst (λ (t : List ℕ). SaysOf old.form seen (lost now) t (record seen { counters = with_lost seen.counters })) (sym is_text) (log.missed now time is_time)))
+tells_lost old new now seen between time text form is_old is_new is_time is_text admits puts =
+    let last : Seen = record seen { counters = with_lost seen.counters } in
+    let says : SaysIn seen old new (lost now) = record {
+      form = form;
+      between = between;
+      admits = admits;
+      text = lost_text old.form time;
+      last = last;
+      is_last = is_new;
+      says = log.missed now time is_time;
+      puts = subst (Puts between new.output) is_text puts;
+    } in
+    tells_one old new (lost now) (subst (λ (s : Option Seen). TellsIf s old new (lost now)) (sym is_old) says)
 
-pub tells_behind : (old new : Told) (now : Moment) (seconds : ℕ) (seen : Seen) (time text : List ℕ)
+pub tells_behind : (old new : Told) (now : Moment) (seconds : ℕ) (seen : Seen) (between : Written) (time text : List ℕ)
     → new.form ≡ old.form → old.seen ≡ Some seen → new.seen ≡ Some seen
-    → IsTime now time → text ≡ behind_text old.form time seconds → (new.dropped ≡ 0 → (old.dropped ≡ 0) × Appends old.text new.text text)
+    → IsTime now time → text ≡ behind_text old.form time seconds → Admits old.form now old.output between → Puts between new.output text
     → Tells old new (behind now seconds ∷ [])
-tells_behind old new now seconds seen time text form is_old is_new is_time is_text written =
-    tells_this old new (behind now seconds) seen seen old.text text form is_old is_new refl (λ none. refl) written
-    (subst (λ (t : List ℕ). SaysOf old.form seen (behind now seconds) t seen) (sym is_text) (log.lagging now seconds time is_time))
+tells_behind old new now seconds seen between time text form is_old is_new is_time is_text admits puts =
+    let says : SaysIn seen old new (behind now seconds) = record {
+      form = form;
+      between = between;
+      admits = admits;
+      text = behind_text old.form time seconds;
+      last = seen;
+      is_last = is_new;
+      says = log.lagging now seconds time is_time;
+      puts = subst (Puts between new.output) is_text puts;
+    } in
+    tells_one old new (behind now seconds) (subst (λ (s : Option Seen). TellsIf s old new (behind now seconds)) (sym is_old) says)
 
 -- ---- settings that are none
 
-pub unsaid : (form : Form) (words : Option (List ℕ)) → IsUnreadText form words (unsaid_text form)
-unsaid form None = refl
-unsaid form (Some words) = inr refl
+pub unsaid : (form : Form) (words : Option (List ℕ)) → (text : List ℕ) × IsUnreadText form words text
+unsaid form None = (unsaid_text form, refl)
+unsaid Text (Some words) = (line words, refl)
+unsaid Json (Some words) = (unsaid_text Json, inr refl)
 
 pub unseen_writes : (words : Option (List ℕ)) → (text : List ℕ) × IsUnreadText Text words text × Writes unseen unseen text
-unseen_writes words = (unsaid_text Text, unsaid Text words, record { form = refl; seen = refl; told = λ none. (refl, tt) })
+unseen_writes words =
+    let it = unsaid Text words in
+    (it.0, it.1, record { form = refl; seen = refl; puts = puts_none it.0 })

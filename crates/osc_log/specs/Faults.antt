@@ -2,7 +2,7 @@
 use Rattle.std.specs.Prelude.{◌≡◌, ◌⊎◌, ℕ, List, ◌++◌, Option, Some, None, codes, decimal}
 use Rattle.serde_json.specs.Data.{Members, no_members, put, string}
 use Rattle.osc_log.specs.LineEnd.{line}
-use Rattle.osc_log.specs.Line.{begun_members, object_line}
+use Rattle.osc_log.specs.Line.{object_line}
 use Rattle.osc_log.specs.declared.form.Form.{Form}
 use Rattle.osc_log.specs.declared.form.Form.TheVariants.{Text, Json}
 
@@ -28,26 +28,29 @@ behind_words seconds = codes "the clock is " ++ decimal seconds ++ codes " secon
 abbrev pub behind_text : Form → List ℕ → ℕ → List ℕ
 behind_text form time seconds = bare_text form time (behind_words seconds)
 
+-- what is told of so many lines that couldn't be written
+abbrev pub dropped_words : ℕ → List ℕ
+dropped_words count = decimal count ++ codes " lines could not be written"
+
+abbrev pub dropped_text : Form → List ℕ → ℕ → List ℕ
+dropped_text form time count = bare_text form time (dropped_words count)
+
 -- ---- faults in words
 
--- "level", "time" where there is one, and "why"
-abbrev pub fault_members : Option (List ℕ) → List ℕ → Members
-fault_members None words = put (codes "why") (string words) (put (codes "level") (string (codes "fault")) no_members)
-fault_members (Some time) words = put (codes "why") (string words) (begun_members time (codes "fault"))
+-- the words alone, or "level" and "why"
+abbrev pub fault_members : List ℕ → Members
+fault_members words = put (codes "why") (string words) (put (codes "level") (string (codes "fault")) no_members)
 
-abbrev pub fault_text : Form → Option (List ℕ) → List ℕ → List ℕ
-fault_text Text time words = line words
-fault_text Json time words = object_line (fault_members time words)
-
--- N lines could not be written
-abbrev pub dropped_text : Form → List ℕ → ℕ → List ℕ
-dropped_text form time count = fault_text form (Some time) (decimal count ++ codes " lines could not be written")
+abbrev pub fault_text : Form → List ℕ → List ℕ
+fault_text Text words = line words
+fault_text Json words = object_line (fault_members words)
 
 -- what is told where there was no memory to say why settings are none
 abbrev pub unsaid_text : Form → List ℕ
-unsaid_text form = fault_text form None (codes "out of memory: why the settings are bad is not told")
+unsaid_text form = fault_text form (codes "out of memory: why the settings are bad is not told")
 
--- what is told of settings that are none, in these words where there are any; there is no time yet
+-- what is told of settings that are none, in these words where there are any; a line of text takes no memory, an object does
 abbrev pub IsUnreadText : Form → Option (List ℕ) → List ℕ → Type 0
-IsUnreadText form (Some words) text = (text ≡ fault_text form None words) ⊎ (text ≡ unsaid_text form)
 IsUnreadText form None text = text ≡ unsaid_text form
+IsUnreadText Text (Some words) text = text ≡ fault_text Text words
+IsUnreadText Json (Some words) text = (text ≡ fault_text Json words) ⊎ (text ≡ unsaid_text Json)

@@ -1,10 +1,10 @@
 -- What a log is told, one event after another, and what it writes of that.
-use Rattle.std.specs.Prelude.{◌≡◌, ℕ, List, [], ◌∷◌, ◌++◌, Option, Some, None, option_map}
-use Rattle.std.specs.Io.KnownBytes.{Appends}
+use Rattle.std.specs.Prelude.{◌≡◌, ℕ, List, [], ◌∷◌, ◌++◌, Option, Some, None}
 use Rattle.osc_model.specs.declared.node.Moment.{Moment}
 use Rattle.osc_log.specs.Counters.{after_turn, no_counters, with_lost}
 use Rattle.osc_log.specs.Faults.{behind_text, lost_text, untold_text}
 use Rattle.osc_log.specs.Limits.{none_told}
+use Rattle.osc_log.specs.Output.{Admits, Puts, Written, none_dropped}
 use Rattle.osc_log.specs.Time.{IsTime}
 use Rattle.osc_log.specs.Sent.{seen_after, turn_text}
 use Rattle.osc_log.specs.Turns.{Turn}
@@ -57,30 +57,77 @@ counted_by (event ∷ events) counters = counted_by events (count_of event count
 
 -- ---- where it is told
 
--- a log: how its lines are written, how many it couldn't write, what it has seen, and what it wrote so far, where contracts can see it
+-- a log: how its lines are written, what it has seen, where it tells of turns, and what it wrote and dropped
 pub record Told : Type 0 where
   pub form : Form
-  pub dropped : ℕ
   pub seen : Option Seen
-  pub text : Option (List ℕ)
+  pub output : Written
 
--- one that tells nothing that contracts can see
+-- one that tells nothing
 abbrev pub unseen : Told
-unseen = record { form = Text; dropped = 0; seen = None; text = None }
+unseen = record { form = Text; seen = None; output = none_dropped None }
 
--- what a log says that has seen this much, if contracts can see it
-abbrev pub SaysIf : Form → Option Seen → List Event → List ℕ → Option Seen → Type 0
-SaysIf form None events text after = after ≡ None
-SaysIf form (Some seen) events text after = (last : Seen) × (after ≡ Some last) × Says form seen events text last
+abbrev pub moment_of : Event → Moment
+moment_of (turned turn held) = turn.now
+moment_of (lost now) = now
+moment_of (behind now seconds) = now
 
--- It counted these events; and what it says of them was written after what was written before, unless a line couldn't be.
-pub record Tells (old new : Told) (events : List Event) : Type 0 where
+-- Of an event a log that has seen this much first tells how many lines were dropped, where that is due. Then all that it says of the event is put after
+-- it, or a beginning.
+pub record SaysIn (seen : Seen) (old new : Told) (event : Event) : Type 0 where
   pub form : new.form ≡ old.form
-  pub counts : option_map (λ seen. seen.counters) new.seen ≡ option_map (λ seen. counted_by events seen.counters) old.seen
-  pub told : new.dropped ≡ 0 → (old.dropped ≡ 0) × (text : List ℕ) × SaysIf old.form old.seen events text new.seen × Appends old.text new.text text
+  pub between : Written
+  pub admits : Admits old.form (moment_of event) old.output between
+  pub text : List ℕ
+  pub last : Seen
+  pub is_last : new.seen ≡ Some last
+  pub says : SaysOf old.form seen event text last
+  pub puts : Puts between new.output text
 
--- This, which is of no event, was written after what was written before, unless it couldn't be.
+-- a log that doesn't tell of turns does nothing
+abbrev pub TellsIf : Option Seen → Told → Told → Event → Type 0
+TellsIf None old new event = new ≡ old
+TellsIf (Some seen) old new event = SaysIn seen old new event
+
+-- It was told of these events, one after another, and told of each.
+pub data Tells : Told → Told → List Event → Type 0 where
+  no_event : (log : Told) → Tells log log []
+  one_event : (first between last : Told) (event : Event) (events : List Event) → TellsIf first.seen first between event → Tells between last events
+      → Tells first last (event ∷ events)
+
+-- This, which is of no event, or a beginning of it, was put after what was there.
 pub record Writes (old new : Told) (text : List ℕ) : Type 0 where
   pub form : new.form ≡ old.form
   pub seen : new.seen ≡ old.seen
-  pub told : new.dropped ≡ 0 → (old.dropped ≡ 0) × Appends old.text new.text text
+  pub puts : Puts old.output new.output text
+
+-- ---- how a turn is told
+
+-- its lines, where this much was seen
+abbrev pub AreLines : Form → Option Seen → Turn → Held → List ℕ → Type 0
+AreLines form None turn held lines = Unit {0}
+AreLines form (Some seen) turn held lines = (time : List ℕ) × IsTime turn.now time × (lines ≡ turn_text form time seen turn held)
+
+-- what is told by its lines: these, or, where there are none, that there was no memory for them
+abbrev pub IsTelling : Form → Turn → Option (List ℕ) → List ℕ → Type 0
+IsTelling form turn (Some lines) text = text ≡ lines
+IsTelling form turn None text = (time : List ℕ) × IsTime turn.now time × (text ≡ untold_text form time)
+
+-- what was seen then: without its lines none of them, but the turn is counted
+abbrev pub seen_by : Turn → Option (List ℕ) → Seen → Seen
+seen_by turn (Some lines) seen = seen_after turn seen
+seen_by turn None seen = record seen { counters = after_turn turn seen.counters }
+
+pub record PutsLines (seen : Seen) (old new : Told) (turn : Turn) (lines : Option (List ℕ)) : Type 0 where
+  pub form : new.form ≡ old.form
+  pub seen_now : new.seen ≡ Some (seen_by turn lines seen)
+  pub between : Written
+  pub admits : Admits old.form turn.now old.output between
+  pub text : List ℕ
+  pub is_text : IsTelling old.form turn lines text
+  pub puts : Puts between new.output text
+
+-- the turn is told by its lines, by a log that tells of turns
+abbrev pub TellsBy : Option Seen → Told → Told → Turn → Option (List ℕ) → Type 0
+TellsBy None old new turn lines = new ≡ old
+TellsBy (Some seen) old new turn lines = PutsLines seen old new turn lines

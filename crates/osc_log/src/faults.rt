@@ -1,7 +1,7 @@
 //! The lines of what failed.
-ghost use Rattle.std.specs.Prelude.{◌≡◌, ◌≤◌, ◌++◌, IfOk, Some, None, codes, decimal, length, option_map, string_bytes};
+ghost use Rattle.std.specs.Prelude.{◌≡◌, ◌≤◌, ◌++◌, IfOk, codes, length};
 ghost use Rattle.osc_log.specs.Faults as spec;
-ghost use Rattle.osc_log.specs.Inner.Objects.{members_of};
+ghost use Rattle.osc_log.specs.declared.form.Form.TheVariants as AnyForm;
 
 use crate::form::Form;
 use crate::object::Object;
@@ -43,6 +43,24 @@ fn behind_words(seconds: u64) -> ArrayString<80>
     words.push_str("the clock is ");
     words.push_str(number.format(seconds));
     words.push_str(" seconds behind the time of this node");
+    words
+}
+
+/// This number of lines couldn't be written, up to this time. Takes no memory itself.
+pub(crate) fn dropped_line(form: Form, time: &str, count: u64) -> ArrayString<160>
+    requires { length time.now ≤ 33 }
+    ensures { result.bytes ≡ spec.dropped_text form time.now count }
+{
+    bare_line(form, time, dropped_words(count).as_str())
+}
+
+fn dropped_words(count: u64) -> ArrayString<80>
+    ensures { result.bytes ≡ spec.dropped_words count }
+{
+    let mut number = Buffer::new();
+    let mut words = ArrayString::new();
+    words.push_str(number.format(count));
+    words.push_str(" lines could not be written");
     words
 }
 
@@ -94,54 +112,12 @@ pub(crate) fn unsaid_line(form: Form) -> &'static [u8]
 
 // ---- in words
 
-/// This number of lines couldn't be written, up to this time.
-pub(crate) fn dropped_line(
-    alloc: Global,
-    form: Form,
-    time: &str,
-    count: u64,
-) -> Result<Vec<u8>, AllocError>
-    ensures { IfOk result (λ text. text.items ≡ spec.dropped_text form time.now count) }
+/// The object of a fault in these words.
+pub(crate) fn fault_object(alloc: Global, words: &str) -> Result<Vec<u8>, AllocError>
+    ensures { IfOk result (λ text. text.items ≡ spec.fault_text AnyForm.Json words.now) }
 {
-    let words = dropped_words(alloc, count)?;
-    fault_line(alloc, form, Some(time), &words)
-}
-
-fn dropped_words(alloc: Global, count: u64) -> Result<String, AllocError>
-    ensures { IfOk result (λ text. string_bytes text ≡ decimal count ++ codes " lines could not be written") }
-{
-    format!(in alloc; "{count} lines could not be written")
-}
-
-/// The line of a fault in these words, at this time where there is one.
-pub(crate) fn fault_line(
-    alloc: Global,
-    form: Form,
-    time: Option<&str>,
-    words: &str,
-) -> Result<Vec<u8>, AllocError>
-    ensures { IfOk result (λ text. text.items ≡ spec.fault_text form (option_map (λ time. time.now) time.entry) words.now) }
-{
-    match form {
-        Form::Text => fault_words(alloc, words),
-        Form::Json => fault_object(alloc, time, words)?.line(alloc),
-    }
-}
-
-fn fault_words(alloc: Global, words: &str) -> Result<Vec<u8>, AllocError>
-    ensures { IfOk result (λ text. text.items ≡ words.now ++ codes "\n") }
-{
-    let mut text = Vec::from_slice(alloc, words.as_bytes())?;
-    text.push(b'\n')?;
-    Ok(text)
-}
-
-fn fault_object(alloc: Global, time: Option<&str>, words: &str) -> Result<Object, AllocError>
-    ensures { IfOk result (λ o. members_of o ≡ spec.fault_members (option_map (λ time. time.now) time.entry) words.now) }
-{
-    let o = match time {
-        Some(time) => Object::begun(alloc, time, "fault")?,
-        None => Object::new(alloc).with_text(alloc, "level", "fault")?,
-    };
-    o.with_text(alloc, "why", words)
+    Object::new(alloc)
+        .with_text(alloc, "level", "fault")?
+        .with_text(alloc, "why", words)?
+        .line(alloc)
 }

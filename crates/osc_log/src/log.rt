@@ -1,33 +1,45 @@
 //! What a node tells of its turns, and to whom.
-ghost use Rattle.std.specs.Prelude.{◌≡◌, ◌⊎◌, ◌==◌, ◌+◌, ◌-◌, ◌^◌, [], ◌∷◌, count_by, List, max, min, Some, ℕ, option_map};
-ghost use Rattle.std.specs.Io.KnownBytes.{Appends};
-ghost use Rattle.osc_log.specs.Faults.{IsUnreadText};
+ghost use Rattle.std.specs.Prelude.{◌≡◌, [], ◌∷◌, IfOk, List, None, Some, ℕ, option_map};
+ghost use Rattle.osc_log.specs.Faults.{IsUnreadText, fault_text, untold_text};
+ghost use Rattle.osc_log.specs.Output.{written_by};
 ghost use Rattle.osc_log.specs.Log as spec;
+ghost use Rattle.osc_log.specs.Output.{Puts, none_dropped};
+ghost use Rattle.osc_log.specs.Time.{IsTime};
+ghost use Rattle.osc_log.specs.declared.form.Form.TheVariants as AnyForm;
 
-use crate::counters::Counters;
-use crate::faults::{behind_line, dropped_line, fault_line, lost_line, unsaid_line, untold_line};
+use crate::faults::{behind_line, fault_object, lost_line, unsaid_line, untold_line};
 use crate::form::Form;
 use crate::held::TellsHeld;
+use crate::output::Output;
 use crate::seen::Seen;
 use crate::time::time_text;
-use crate::told::told_text;
+use crate::told::text_of;
 use crate::turn::Turn;
 use osc_model::Moment;
-use std::alloc::Global;
+use std::alloc::{AllocError, Global};
 use std::io::Write;
 
-/// Where a node tells what its turns did, and before them why it has no settings.
+/// Where a node tells what its turns did, and before them why it has no settings. What can't be written is no failure: of what is told, a beginning
+/// is written then, and each line whose end isn't counts as dropped.
 pub trait Log {
     ghost use Rattle.osc_log.specs.Log.{Told};
 
-    // How lines are written, how many couldn't be written so far, what it has seen, and what was written, where contracts can see it.
+    // How lines are written, what was seen, and what was written and dropped, where contracts can see it.
     ghost told: { Self → Told };
 
-    /// Tells of a turn of this node, by a line for each datagram that it sent, and by one of counters where these are due; or, by one line,
-    /// that there was no memory for them. It may leave lines out where there are many of their kind, but none of what was served. What can't be
-    /// written is no failure.
-    fn turn<N: TellsHeld>(&mut self, alloc: Global, turn: &Turn<'_>, node: &N)
-        ensures { spec.Tells (told self.old) (told self.new) (spec.turned turn.entry.now (N.held node.now) ∷ []) };
+    /// The lines of a turn of this node: one for each datagram that it sent, and one of counters where these are due. Lines may be left out where
+    /// there are many of their kind, but none of what was served.
+    fn lines<N: TellsHeld>(
+        &self,
+        alloc: Global,
+        turn: &Turn<'_>,
+        node: &N,
+    ) -> Result<Vec<u8>, AllocError>
+        ensures { IfOk result (λ lines. spec.AreLines (told self.now).form (told self.now).seen turn.entry.now (N.held node.now) lines.items) };
+
+    /// Tells of a turn by these lines of it; or, where there are none, by one line that there was no memory for them. Takes no memory.
+    fn tell(&mut self, turn: &Turn<'_>, lines: Option<&[u8]>)
+        ensures { spec.TellsBy (told self.old).seen (told self.old) (told self.new) turn.entry.now (option_map (λ lines. lines.now) lines.entry) };
 
     /// Tells that there was no memory for the step of what came at this moment.
     fn lost(&mut self, now: Moment)
@@ -40,6 +52,16 @@ pub trait Log {
     /// Tells by one line, in these words, why settings are none; or that there was no memory to say so, as where there are no words.
     fn no_settings(&mut self, alloc: Global, words: Option<&str>)
         ensures { (text : List ℕ) × IsUnreadText (told self.old).form (option_map (λ words. words.now) words.entry) text × spec.Writes (told self.old) (told self.new) text };
+
+    /// Tells of a turn of this node by its lines; or, by one line, that there was no memory for them.
+    final fn turn<N: TellsHeld>(&mut self, alloc: Global, turn: &Turn<'_>, node: &N)
+        ensures { spec.Tells (told self.old) (told self.new) (spec.turned turn.entry.now (N.held node.now) ∷ []) }
+    {
+        match self.lines(alloc, turn, node) {
+            Ok(lines) => self.tell(turn, Some(&lines)),
+            Err(_) => self.tell(turn, None),
+        }
+    }
 }
 
 /// Tells nothing.
@@ -49,7 +71,16 @@ pub struct Silent;
 impl Log for Silent {
     ghost told = { λ _. spec.unseen };
 
-    fn turn<N: TellsHeld>(&mut self, _alloc: Global, _turn: &Turn<'_>, _node: &N) {}
+    fn lines<N: TellsHeld>(
+        &self,
+        alloc: Global,
+        _turn: &Turn<'_>,
+        _node: &N,
+    ) -> Result<Vec<u8>, AllocError> {
+        Ok(Vec::new(alloc))
+    }
+
+    fn tell(&mut self, _turn: &Turn<'_>, _lines: Option<&[u8]>) {}
 
     fn lost(&mut self, _now: Moment) {}
 
@@ -61,39 +92,40 @@ impl Log for Silent {
 /// Tells by one line of text why settings are none, and nothing of turns.
 #[derive(Drop)]
 pub struct Faults<W: Write + Drop> {
-    writer: W,
+    output: Output<W>,
 }
 
 impl<W: Write + Drop> Faults<W> {
     /// A line that this writer takes.
     pub fn new(writer: W) -> Faults<W>
-        ensures { result.writer ≡ writer }
+        ensures { written_by W.contents result.output ≡ none_dropped (W.contents writer) }
     {
-        Faults { writer }
-    }
-
-    // What can't be written is no failure.
-    fn tell(&mut self, alloc: Global, words: &str) {
-        if let Ok(text) = fault_line(alloc, Form::Text, None, words) {
-            let _told = self.writer.write_all(&text);
+        Faults {
+            output: Output::new(writer),
         }
     }
 }
 
 impl<W: Write + Drop> Log for Faults<W> {
-    // Contracts see nothing of what it tells.
-    ghost told = { λ _. spec.unseen };
+    ghost told = { λ faults. record { form = AnyForm.Text; seen = None; output = written_by W.contents faults.output } };
 
-    fn turn<N: TellsHeld>(&mut self, _alloc: Global, _turn: &Turn<'_>, _node: &N) {}
+    fn lines<N: TellsHeld>(
+        &self,
+        alloc: Global,
+        _turn: &Turn<'_>,
+        _node: &N,
+    ) -> Result<Vec<u8>, AllocError> {
+        Ok(Vec::new(alloc))
+    }
+
+    fn tell(&mut self, _turn: &Turn<'_>, _lines: Option<&[u8]>) {}
 
     fn lost(&mut self, _now: Moment) {}
 
     fn behind(&mut self, _now: Moment, _seconds: u64) {}
 
-    fn no_settings(&mut self, alloc: Global, words: Option<&str>) {
-        if let Some(words) = words {
-            self.tell(alloc, words);
-        }
+    fn no_settings(&mut self, _alloc: Global, words: Option<&str>) {
+        put_text(&mut self.output, words);
     }
 }
 
@@ -104,159 +136,137 @@ impl<W: Write + Drop> Log for Faults<W> {
 #[derive(Drop)]
 pub struct Lines<W: Write + Drop> {
     form: Form,
-    writer: W,
+    output: Output<W>,
     seen: Seen,
-    // How many lines couldn't be written.
-    dropped: u64,
-    // Of how many of them it was told.
-    told_dropped: u64,
 }
 
 impl<W: Write + Drop> Lines<W> {
     /// Lines of this form, which this writer takes.
     pub fn new(form: Form, writer: W) -> Lines<W>
         ensures form { result.form ≡ form }
-        ensures writer { result.writer ≡ writer }
+        ensures output { written_by W.contents result.output ≡ none_dropped (W.contents writer) }
+        ensures writer { result.output.writer ≡ writer }
         ensures seen { result.seen ≡ spec.nothing_seen }
-        ensures dropped { result.dropped ≡ 0 }
     {
         Lines {
             form,
-            writer,
+            output: Output::new(writer),
             seen: Seen::nothing(),
-            dropped: 0,
-            told_dropped: 0,
         }
     }
 
     /// How many lines couldn't be written.
     pub fn dropped(&self) -> u64
-        ensures { result ≡ self.now.dropped }
+        ensures { result ≡ self.now.output.dropped }
     {
-        self.dropped
+        self.output.dropped()
     }
 
     /// The writer.
     pub fn into_writer(self) -> W
-        ensures { result ≡ self.writer }
+        ensures { result ≡ self.output.writer }
     {
         let Lines {
             form: _,
-            writer,
+            output,
             seen: _,
-            dropped: _,
-            told_dropped: _,
         } = self;
-        writer
-    }
-
-    // Writes these lines, or counts them.
-    fn write(&mut self, text: &[u8])
-        ensures written { self.new.dropped ≡ 0 → (self.old.dropped ≡ 0) × Appends (W.contents self.old.writer) (W.contents self.new.writer) text.now }
-        ensures either { ((self.new.dropped ≡ self.old.dropped) × Appends (W.contents self.old.writer) (W.contents self.new.writer) text.now)
-            ⊎ (self.new.dropped ≡ min (self.old.dropped + max (count_by (λ b. b == 10) text.now) 1) (2 ^ 64 - 1)) }
-        ensures seen { self.new.seen ≡ self.old.seen }
-        ensures form { self.new.form ≡ self.old.form }
-    {
-        if self.writer.write_all(text).is_err() {
-            self.dropped = self.dropped.saturating_add(lines_of(text));
-        }
-    }
-
-    // Writes these lines, or counts them; and this was counted of turns.
-    fn write_counting(&mut self, text: &[u8], counters: Counters)
-        ensures written { self.new.dropped ≡ 0 → (self.old.dropped ≡ 0) × Appends (W.contents self.old.writer) (W.contents self.new.writer) text.now }
-        ensures seen { self.new.seen ≡ record self.old.seen { counters = counters } }
-        ensures form { self.new.form ≡ self.old.form }
-    {
-        self.write(text);
-        self.seen.counters = counters;
-    }
-
-    // Tells of how many lines couldn't be written, as soon as something can be.
-    fn tell_dropped(&mut self, alloc: Global, now: Moment)
-        ensures none { self.old.dropped ≡ 0 → W.contents self.new.writer ≡ W.contents self.old.writer }
-        ensures dropped { self.new.dropped ≡ self.old.dropped }
-        ensures seen { self.new.seen ≡ self.old.seen }
-        ensures form { self.new.form ≡ self.old.form }
-    {
-        if self.dropped > self.told_dropped {
-            self.write_dropped(alloc, now);
-        }
-    }
-
-    fn write_dropped(&mut self, alloc: Global, now: Moment)
-        ensures dropped { self.new.dropped ≡ self.old.dropped }
-        ensures seen { self.new.seen ≡ self.old.seen }
-        ensures form { self.new.form ≡ self.old.form }
-    {
-        let count = self.dropped.saturating_sub(self.told_dropped);
-        let time = time_text(now);
-        let Ok(line) = dropped_line(alloc, self.form, time.as_str(), count) else {
-            return;
-        };
-        if self.writer.write_all(&line).is_ok() {
-            self.told_dropped = self.dropped;
-        }
+        output.into_writer()
     }
 }
 
 impl<W: Write + Drop> Log for Lines<W> {
-    ghost told = { λ lines. record { form = lines.form; dropped = lines.dropped; seen = Some lines.seen; text = W.contents lines.writer } };
+    ghost told = { λ lines. record { form = lines.form; seen = Some lines.seen; output = written_by W.contents lines.output } };
 
-    fn turn<N: TellsHeld>(&mut self, alloc: Global, turn: &Turn<'_>, node: &N) {
-        self.tell_dropped(alloc, turn.moment());
-        let counters = self.seen.counters.after_turn(turn);
-        match told_text(alloc, self.form, turn, node, &mut self.seen) {
-            Ok(text) => self.write_counting(&text, counters),
-            Err(_) => {
-                let time = time_text(turn.moment());
-                let line = untold_line(self.form, time.as_str());
-                self.write_counting(line.as_bytes(), counters);
-            }
-        }
+    fn lines<N: TellsHeld>(
+        &self,
+        alloc: Global,
+        turn: &Turn<'_>,
+        node: &N,
+    ) -> Result<Vec<u8>, AllocError> {
+        text_of(alloc, self.form, turn, node, &self.seen)
+    }
+
+    fn tell(&mut self, turn: &Turn<'_>, lines: Option<&[u8]>) {
+        self.output.admit(self.form, turn.moment());
+        put_turn(&mut self.output, self.form, turn, lines);
+        self.seen.see(turn, lines);
     }
 
     fn lost(&mut self, now: Moment) {
-        let counters = self.seen.counters.with_lost();
         let time = time_text(now);
-        let line = lost_line(self.form, time.as_str());
-        self.write_counting(line.as_bytes(), counters);
+        self.output.admit(self.form, now);
+        self.output
+            .put(lost_line(self.form, time.as_str()).as_bytes());
+        self.seen.counters = self.seen.counters.with_lost();
     }
 
     fn behind(&mut self, now: Moment, seconds: u64) {
         let time = time_text(now);
-        let line = behind_line(self.form, time.as_str(), seconds);
-        self.write(line.as_bytes());
+        self.output.admit(self.form, now);
+        self.output
+            .put(behind_line(self.form, time.as_str(), seconds).as_bytes());
     }
 
     fn no_settings(&mut self, alloc: Global, words: Option<&str>) {
-        match said(alloc, self.form, words) {
-            Some(line) => self.write(&line),
-            None => self.write(unsaid_line(self.form)),
+        match self.form {
+            Form::Text => put_text(&mut self.output, words),
+            Form::Json => put_object(&mut self.output, alloc, words),
         }
     }
 }
 
-// The line of these words, where there are any, and memory for it.
-fn said(alloc: Global, form: Form, words: Option<&str>) -> Option<Vec<u8>>
-    ensures { (line : _) → result ≡ Some line → IsUnreadText form (option_map (λ words. words.now) words.entry) line.items }
+// The lines of a turn, or, where there are none, that there was no memory for them.
+fn put_turn<W: Write + Drop>(
+    output: &mut Output<W>,
+    form: Form,
+    turn: &Turn<'_>,
+    lines: Option<&[u8]>,
+)
+    ensures { (text : List ℕ) × spec.IsTelling form turn.entry.now (option_map (λ lines. lines.now) lines.entry) text
+        × Puts (written_by W.contents output.old) (written_by W.contents output.new) text }
 {
-    match fault_line(alloc, form, None, words?) {
-        Ok(line) => Some(line),
-        Err(_) => None,
+    match lines {
+        Some(lines) => output.put(lines),
+        None => put_untold(output, form, turn.moment()),
     }
 }
 
-// How many lines a text is, where it counts as one at least.
-fn lines_of(text: &[u8]) -> u64
-    ensures { result ≡ max (count_by (λ b. b == 10) text.now) 1 }
+fn put_untold<W: Write + Drop>(output: &mut Output<W>, form: Form, now: Moment)
+    ensures { (time : List ℕ) × IsTime now time × Puts (written_by W.contents output.old) (written_by W.contents output.new) (untold_text form time) }
 {
-    count_lines(text).max(1)
+    let time = time_text(now);
+    output.put(untold_line(form, time.as_str()).as_bytes());
 }
 
-fn count_lines(text: &[u8]) -> u64
-    ensures { result ≡ count_by (λ b. b == 10) text.now }
+// These words as a line of text, or, where there are none, that there was no memory for them.
+fn put_text<W: Write + Drop>(output: &mut Output<W>, words: Option<&str>)
+    ensures { (text : List ℕ) × IsUnreadText AnyForm.Text (option_map (λ words. words.now) words.entry) text
+        × Puts (written_by W.contents output.old) (written_by W.contents output.new) text }
 {
-    text.iter().filter(|b| **b == b'\n').count() as u64
+    match words {
+        Some(words) => output.put_line(words.as_bytes()),
+        None => output.put(unsaid_line(Form::Text)),
+    }
+}
+
+// The same by an object, for which there may be no memory.
+fn put_object<W: Write + Drop>(output: &mut Output<W>, alloc: Global, words: Option<&str>)
+    ensures { (text : List ℕ) × IsUnreadText AnyForm.Json (option_map (λ words. words.now) words.entry) text
+        × Puts (written_by W.contents output.old) (written_by W.contents output.new) text }
+{
+    match said(alloc, words) {
+        Some(line) => output.put(&line),
+        None => output.put(unsaid_line(Form::Json)),
+    }
+}
+
+// The object of these words, where there are any, and memory for it.
+fn said(alloc: Global, words: Option<&str>) -> Option<Vec<u8>>
+    ensures { (line : _) → result ≡ Some line → (known : List ℕ) × (option_map (λ words. words.now) words.entry ≡ Some known) × (line.items ≡ fault_text AnyForm.Json known) }
+{
+    match fault_object(alloc, words?) {
+        Ok(line) => Some(line),
+        Err(_) => None,
+    }
 }

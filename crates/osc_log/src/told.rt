@@ -1,5 +1,5 @@
 //! What is told of a turn: its lines, but for some lines where there are many of their kind, and counters where they are due.
-ghost use Rattle.std.specs.Prelude.{◌≡◌, ◌++◌, IfOk, List, OnErr, OnOk, ℕ};
+ghost use Rattle.std.specs.Prelude.{◌≡◌, ◌++◌, IfOk, List, OnOk, ℕ};
 ghost use Rattle.osc_log.specs.Limits.{after_line};
 ghost use Rattle.osc_log.specs.Time.{IsTime};
 ghost use Rattle.osc_log.specs.Sent as spec;
@@ -16,25 +16,8 @@ use crate::{json, text};
 use osc_model::{Datagram, Moment};
 use std::alloc::{AllocError, Global};
 
-/// The lines that are told of a turn. On success this was seen, but for the counters, which stay; without memory for it nothing was.
-pub(crate) fn told_text<N: TellsHeld>(
-    alloc: Global,
-    form: Form,
-    turn: &Turn<'_>,
-    node: &N,
-    seen: &mut Seen,
-) -> Result<Vec<u8>, AllocError>
-    ensures ok { IfOk result (λ told. (time : List ℕ) × IsTime turn.entry.now.now time
-        × (told.items ≡ spec.turn_text form time seen.old turn.entry.now (N.held node.now))
-        × (seen.new ≡ record { limits = spec.after_lines turn.entry.now seen.old.limits turn.entry.now.step.out; counters = seen.old.counters })) }
-    ensures err { OnErr result (seen.new ≡ seen.old) }
-{
-    let text = text_of(alloc, form, turn, node, seen)?;
-    seen.limits = after_lines(turn, seen.limits);
-    Ok(text)
-}
-
-fn text_of<N: TellsHeld>(
+/// The lines that are told of a turn, where this much was seen.
+pub(crate) fn text_of<N: TellsHeld>(
     alloc: Global,
     form: Form,
     turn: &Turn<'_>,
@@ -95,8 +78,8 @@ fn told_by(
     Ok(text)
 }
 
-// How many lines of each kind were told and left out after those of a turn.
-fn after_lines(turn: &Turn<'_>, limits: Limits) -> Limits
+/// How many lines of each kind were told and left out after those of a turn.
+pub(crate) fn after_lines(turn: &Turn<'_>, limits: Limits) -> Limits
     ensures { result ≡ spec.after_lines turn.entry.now limits turn.entry.now.step.out }
 {
     let mut counted = limits;

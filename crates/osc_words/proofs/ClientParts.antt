@@ -1,19 +1,21 @@
 -- What the options of a client say, one by one, and which of them say nothing.
-use Rattle.std.proofs.Common.{◌≡◌, ◌<◌, ℕ, List, Option, Some, None, codes, subst, sym, arith}
+use Rattle.std.proofs.Common.{◌≡◌, ◌<◌, ℕ, List, Option, Some, None, codes, inl, inr, refl, subst, sym, arith}
 use Rattle.clap.specs.Words.{Row}
 use Rattle.osc_model.specs.{code, method_number, IsPath}
 use Rattle.osc_model.specs.declared.code.Code.{Code}
 use Rattle.osc_model.specs.declared.code.Method.{Method as AnyMethod}
 use Rattle.osc_model.specs.declared.code.Method.TheVariants as method
 use Rattle.osc_script.specs.{SpellsNumber}
-use Rattle.osc_words.specs.{AreClientWords, AreRequest, SaysPatience, SaysPayload, SpellsMethod, value_of, is_set, IsGiven, SpellsTurns}
+use Rattle.osc_words.specs.{AreClientWords, AreRequest, AreRequestsWords, SaysPatience, SaysPayload, SpellsMethod, value_of, is_set, IsGiven, SpellsTurns}
 use Rattle.osc_words.specs.ClientWords.{Says}
-use Rattle.osc_words.specs.Inner.Reading.{IsClientRefusal, IsRefusalOf}
+use Rattle.osc_words.specs.RequestsWords.{Says as SaysOfMany}
+use Rattle.osc_words.specs.Inner.Reading.{IsClientRefusal, IsPatienceRefusal, IsRefusalOf, IsRequestsRefusal}
 use Rattle.osc_words.specs.declared.client_option.ClientOption.{ClientOption}
-use Rattle.osc_words.specs.declared.client_option.ClientOption.TheVariants.{Turns, Timeout, Method, Path, Payload, Text, PayloadFile, Format, Config}
+use Rattle.osc_words.specs.declared.client_option.ClientOption.TheVariants.{Turns, Timeout, Method, Path, Payload, Text, PayloadFile, Format, Config, Requests, Every}
 use Rattle.osc_words.specs.declared.client_words.ClientWords.{ClientWords}
 use Rattle.osc_words.specs.declared.named_option.NamedOption.{NamedOption}
 use Rattle.osc_words.specs.declared.named_option.NamedOption.TheVariants.{Client}
+use Rattle.osc_words.specs.declared.requests_words.RequestsWords.{RequestsWords}
 use Rattle.osc_words.specs.declared.words.WordsError.{WordsError}
 use Rattle.osc_words.specs.declared.words.WordsError.TheVariants as words_error
 
@@ -36,6 +38,8 @@ client_said rows words payload turns paid request config raw check =
     each PayloadFile = says_payload
     each Format = request.0 Format
     each Config = config
+    each Requests = tt
+    each Every = tt
 
 -- a path that can't be read
 pub path_refused : (rows : List Row) (error : WordsError)
@@ -70,3 +74,56 @@ few_methods method.Delete = (omega arith, omega arith)
 pub code_of_method : (value : Option (List ℕ)) (spelled : Code) → IsGiven SpellsMethod value (Some spelled) → (0 < spelled.0) × (spelled.0 < 5)
 code_of_method (Some text) spelled said = subst (λ (c : Code). (0 < c.0) × (c.0 < 5)) (sym said.2) (few_methods said.0)
 code_of_method None spelled said = absurd said
+
+-- ---- many requests
+
+-- a patience that can't be read, where one thing is asked for
+pub patience_refused : (rows : List Row) (error : WordsError) → IsPatienceRefusal rows error → IsClientRefusal rows error
+patience_refused rows (words_error.Clap error) h = h
+patience_refused rows (words_error.Value option) h = elim h.0 [
+  | inl e ↦ subst (λ refused. IsClientRefusal rows (words_error.Value refused)) (sym e) (λ words. h.1 words.turns)
+  | inr e ↦ subst (λ refused. IsClientRefusal rows (words_error.Value refused)) (sym e) (λ words. h.1 words.turns)
+]
+patience_refused rows (words_error.NotOne choice) h =
+    subst (λ refused. IsClientRefusal rows (words_error.NotOne refused)) (sym h.0) (refl, h.1)
+patience_refused rows (words_error.Unread option) h = absurd h
+patience_refused rows words_error.Memory h = tt
+
+-- where many are
+pub patience_of_many_refused : (rows : List Row) (error : WordsError) → IsPatienceRefusal rows error → IsRequestsRefusal rows error
+patience_of_many_refused rows (words_error.Clap error) h = h
+patience_of_many_refused rows (words_error.Value option) h = elim h.0 [
+  | inl e ↦ subst (λ refused. IsRequestsRefusal rows (words_error.Value refused)) (sym e) (λ words. h.1 words.turns)
+  | inr e ↦ subst (λ refused. IsRequestsRefusal rows (words_error.Value refused)) (sym e) (λ words. h.1 words.turns)
+]
+patience_of_many_refused rows (words_error.NotOne choice) h = h
+patience_of_many_refused rows (words_error.Unread option) h = absurd h
+patience_of_many_refused rows words_error.Memory h = tt
+
+-- a pace that can't be read
+pub every_refused : (rows : List Row) (error : WordsError)
+    → IsRefusalOf (Client Every) (IsGiven SpellsNumber (value_of (Client Every) rows)) error → IsRequestsRefusal rows error
+every_refused rows (words_error.Clap error) h = h
+every_refused rows (words_error.Value option) h =
+    subst (λ refused. IsRequestsRefusal rows (words_error.Value refused)) (sym h.0) (λ words. h.1 words.every)
+every_refused rows (words_error.NotOne choice) h = absurd h
+every_refused rows (words_error.Unread option) h = absurd h
+every_refused rows words_error.Memory h = tt
+
+pub requests_said : (rows : List Row) (words : RequestsWords) → SaysPatience rows words.turns → value_of (Client Requests) rows ≡ Some words.requests
+    → IsGiven SpellsNumber (value_of (Client Every) rows) words.every → words.config ≡ value_of (Client Config) rows
+    → words.again ≡ is_set (codes "again") rows → words.check ≡ is_set (codes "check") rows → AreRequestsWords rows words
+requests_said rows words turns file every config again check = record { options = each; again = again; check = check }
+  where
+    each : (option : ClientOption) → SaysOfMany rows option words
+    each Turns = turns
+    each Timeout = turns
+    each Method = tt
+    each Path = tt
+    each Payload = tt
+    each Text = tt
+    each PayloadFile = tt
+    each Format = tt
+    each Config = config
+    each Requests = file
+    each Every = every

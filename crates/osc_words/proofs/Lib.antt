@@ -5,3 +5,4 @@ pub mod ClientParts
 pub mod HexText
 pub mod Stand
 pub mod Subcommands
+pub mod RequestLines

@@ -1,9 +1,9 @@
 -- The options of `osc client`.
-use Rattle.std.specs.Prelude.{ℕ, Bool, true, false, List, codes}
+use Rattle.std.specs.Prelude.{ℕ, false, List, codes}
 use Rattle.clap.specs.Words.{Rule}
 use Rattle.osc_words.specs.Options.{value_rule}
 use Rattle.osc_words.specs.declared.client_option.ClientOption.{ClientOption}
-use Rattle.osc_words.specs.declared.client_option.ClientOption.TheVariants.{Turns, Timeout, Method, Path, Payload, Text, PayloadFile, Format, Config}
+use Rattle.osc_words.specs.declared.client_option.ClientOption.TheVariants.{Turns, Timeout, Method, Path, Payload, Text, PayloadFile, Format, Config, Requests, Every}
 
 -- --turns, --method, ..
 abbrev pub name_of : ClientOption → List ℕ
@@ -16,15 +16,12 @@ name_of Text = codes "text"
 name_of PayloadFile = codes "payload-file"
 name_of Format = codes "format"
 name_of Config = codes "config"
+name_of Requests = codes "requests"
+name_of Every = codes "every"
 
--- nothing is asked without it, whatever else is given
-abbrev pub is_required : ClientOption → Bool
-is_required Method = true
-is_required Path = true
-is_required option = false
-
+-- clap takes words without it: which options have to be given depends on the others
 abbrev pub option_rule : ClientOption → Rule
-option_rule option = value_rule (name_of option) (is_required option)
+option_rule option = value_rule (name_of option) false
 
 -- what a value has to be
 abbrev pub form_of : ClientOption → List ℕ
@@ -37,3 +34,5 @@ form_of Text = codes "a text"
 form_of PayloadFile = codes "a file"
 form_of Format = codes "a number of 16 bits in decimal digits"
 form_of Config = codes "a file of settings"
+form_of Requests = codes "a file of requests"
+form_of Every = codes "a number of 64 bits in decimal digits"

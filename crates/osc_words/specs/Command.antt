@@ -8,17 +8,21 @@ use Rattle.osc_script.specs.{SpellsNumber}
 use Rattle.osc_script.specs.declared.client_name.ClientName.{ClientName}
 use Rattle.osc_words.specs.ClientOptions as of_client
 use Rattle.osc_words.specs.ClientWords as client
-use Rattle.osc_words.specs.Choices.{IsNotOne, command_of, not_one_text}
+use Rattle.osc_words.specs.Choices.{AsksMany, AsksOne, IsNotOne, command_of, not_one_text}
+use Rattle.osc_words.specs.ContextWords.{AreContextWords, SpellsContextForm}
 use Rattle.osc_words.specs.NamedOptions.{refusal_text, unread_text, value_of}
 use Rattle.osc_words.specs.NodeWords.{AreNodeWords, SpellsLogForm}
 use Rattle.osc_words.specs.Options.{flag_rule, form_rule, is_set, option_rule, value_rule, word_rule}
+use Rattle.osc_words.specs.RequestsWords as requests
 use Rattle.osc_words.specs.SimWords.{AreSimWords, SpellsForm}
 use Rattle.osc_words.specs.StoreWords.{AreStoreWords}
+use Rattle.osc_words.specs.Times.{SpellsPatience}
 use Rattle.osc_words.specs.TokenWords as token
 use Rattle.osc_words.specs.Values.{IsGiven, SpellsClient, SpellsTurns}
 use Rattle.osc_words.specs.declared.client_option.ClientOption.{ClientOption}
 use Rattle.osc_words.specs.declared.client_option.ClientOption.TheVariants as client_option
 use Rattle.osc_words.specs.declared.choice.Choice.{Choice}
+use Rattle.osc_words.specs.declared.context_words.ContextForm.{ContextForm}
 use Rattle.osc_words.specs.declared.named_option.NamedOption.{NamedOption}
 use Rattle.osc_words.specs.declared.named_option.NamedOption.TheVariants as option
 use Rattle.osc_words.specs.declared.node_words.LogForm.{LogForm}
@@ -26,7 +30,7 @@ use Rattle.osc_words.specs.declared.sim_words.DiagramForm.{DiagramForm}
 use Rattle.osc_words.specs.declared.token_option.TokenOption.{TokenOption}
 use Rattle.osc_words.specs.declared.token_option.TokenOption.TheVariants as token_option
 use Rattle.osc_words.specs.declared.words.Words.{Words}
-use Rattle.osc_words.specs.declared.words.Words.TheVariants.{Sim, Token, Key, Store, Server, Proxy, Client, Lab}
+use Rattle.osc_words.specs.declared.words.Words.TheVariants.{Sim, Token, Key, Store, Server, Proxy, Client, Requests, Context, Lab}
 use Rattle.osc_words.specs.declared.words.WordsError.{WordsError}
 use Rattle.osc_words.specs.declared.words.WordsError.TheVariants.{Clap, Value, NotOne, Unread, Memory}
 
@@ -49,9 +53,11 @@ token_app = fold (λ app option. with_rule app (option_rule option)) (new_app (c
 abbrev pub key_app : App
 key_app = new_app (codes "key")
 
--- osc store [--dump] [--backup TO] FILE
+-- osc store [--dump] [--until-damage] [--backup TO] FILE
 abbrev pub store_app : App
-store_app = with_rule (with_rule (with_rule (new_app (codes "store")) (flag_rule (codes "dump"))) (value_rule (codes "backup") false)) (word_rule (codes "file"))
+store_app =
+    with_rule (with_rule (with_rule (with_rule (new_app (codes "store")) (flag_rule (codes "dump"))) (flag_rule (codes "until-damage"))) (value_rule (codes "backup") false))
+    (word_rule (codes "file"))
 
 -- osc NAME [--config FILE] [--check] [--turns N] [--log[=FORM]]
 abbrev pub node_app : Text → App
@@ -66,13 +72,20 @@ lab_app = with_rule (with_rule (new_app (codes "lab")) (value_rule (codes "turns
 abbrev pub client_options : List ClientOption
 client_options =
     client_option.Turns ∷ client_option.Timeout ∷ client_option.Method ∷ client_option.Path ∷ client_option.Payload ∷ client_option.Text ∷ client_option.PayloadFile
-    ∷ client_option.Format ∷ client_option.Config ∷ []
+    ∷ client_option.Format ∷ client_option.Config ∷ client_option.Requests ∷ client_option.Every ∷ []
 
--- osc client --turns N | --timeout SECONDS --method METHOD --path PATH [--payload HEX | --text TEXT | --payload-file FILE] [--format N] [--config FILE] [--raw] [--check]
+-- osc client --turns N | --timeout SECONDS --method METHOD --path PATH [--payload HEX | --text TEXT | --payload-file FILE] [--format N] [--raw] [--config FILE] [--check]
+-- osc client --turns N | --timeout SECONDS --requests FILE [--every SECONDS] [--again] [--config FILE] [--check]
 abbrev pub client_app : App
 client_app =
-    with_rule (with_rule (fold (λ app option. with_rule app (of_client.option_rule option)) (new_app (codes "client")) client_options) (flag_rule (codes "raw")))
-    (flag_rule (codes "check"))
+    with_rule (with_rule (with_rule (fold (λ app option. with_rule app (of_client.option_rule option)) (new_app (codes "client")) client_options) (flag_rule (codes "raw")))
+    (flag_rule (codes "again"))) (flag_rule (codes "check"))
+
+-- osc context --form FORM [--timeout SECONDS] [--config FILE] [--out TO]
+abbrev pub context_app : App
+context_app =
+    with_rule (with_rule (with_rule (with_rule (new_app (codes "context")) (value_rule (codes "form") true)) (value_rule (codes "timeout") false)) (value_rule (codes "config") false))
+    (value_rule (codes "out") false)
 
 -- a program of one subcommand or more, which wants one, with a version
 abbrev pub bare_program : App
@@ -80,7 +93,7 @@ bare_program = record { top = record (new_app (codes "osc")).top { subcommand_re
 
 abbrev pub program : App
 program = fold (λ app command. with_subcommand app command.top) bare_program
-    (sim_app ∷ token_app ∷ key_app ∷ store_app ∷ node_app (codes "server") ∷ node_app (codes "proxy") ∷ client_app ∷ lab_app ∷ [])
+    (sim_app ∷ token_app ∷ key_app ∷ store_app ∷ node_app (codes "server") ∷ node_app (codes "proxy") ∷ client_app ∷ context_app ∷ lab_app ∷ [])
 
 -- the subcommand that was entered, with its rows, asks for this
 abbrev pub AreWords : Option (Text × List Row) → Words → Type 0
@@ -91,9 +104,16 @@ AreWords (Some entered) Key = entered.0 ≡ codes "key"
 AreWords (Some entered) (Store words) = (entered.0 ≡ codes "store") × AreStoreWords entered.1 words
 AreWords (Some entered) (Server words) = (entered.0 ≡ codes "server") × AreNodeWords option.ServerTurns entered.1 words
 AreWords (Some entered) (Proxy words) = (entered.0 ≡ codes "proxy") × AreNodeWords option.ProxyTurns entered.1 words
-AreWords (Some entered) (Client words) = (entered.0 ≡ codes "client") × client.AreClientWords entered.1 words
+AreWords (Some entered) (Client words) = (entered.0 ≡ codes "client") × AsksOne entered.1 × client.AreClientWords entered.1 words
+AreWords (Some entered) (Requests words) = (entered.0 ≡ codes "client") × AsksMany entered.1 words.requests × requests.AreRequestsWords entered.1 words
+AreWords (Some entered) (Context words) = (entered.0 ≡ codes "context") × AreContextWords entered.1 words
 AreWords (Some entered) (Lab turns ipv6) =
     (entered.0 ≡ codes "lab") × IsGiven SpellsNumber (value_of option.LabTurns entered.1) (Some turns) × (ipv6 ≡ is_set (codes "ipv6") entered.1)
+
+-- an option of `osc client` says nothing, whether one thing is asked for or many
+abbrev pub AsksNothing : List Row → ClientOption → Type 0
+AsksNothing rows refused =
+    (AsksOne rows → client.SaysNothing rows refused) × ((file : List ℕ) → AsksMany rows file → requests.SaysNothing rows refused)
 
 -- an option of the subcommand that was entered says nothing
 abbrev pub HasNothing : Option (Text × List Row) → NamedOption → Type 0
@@ -108,7 +128,11 @@ HasNothing (Some entered) option.NodeLog =
     ((entered.0 ≡ codes "server") ⊎ (entered.0 ≡ codes "proxy")) × ((form : Option LogForm) → ¬ IsGiven SpellsLogForm (value_of option.NodeLog entered.1) form)
 HasNothing (Some entered) option.StoreFile = (entered.0 ≡ codes "store") × (value_of option.StoreFile entered.1 ≡ None)
 HasNothing (Some entered) option.StoreBackup = ⊥
-HasNothing (Some entered) (option.Client refused) = (entered.0 ≡ codes "client") × client.SaysNothing entered.1 refused
+HasNothing (Some entered) (option.Client refused) = AsksNothing entered.1 refused × (entered.0 ≡ codes "client")
+HasNothing (Some entered) option.ContextForm =
+    (entered.0 ≡ codes "context") × ((form : ContextForm) → ¬ IsGiven SpellsContextForm (value_of option.ContextForm entered.1) (Some form))
+HasNothing (Some entered) option.ContextTimeout = (entered.0 ≡ codes "context") × ((turns : ℕ) → ¬ SpellsPatience (value_of option.ContextTimeout entered.1) turns)
+HasNothing (Some entered) option.ContextOut = ⊥
 HasNothing (Some entered) option.LabTurns = (entered.0 ≡ codes "lab") × ((turns : ℕ) → ¬ IsGiven SpellsNumber (value_of option.LabTurns entered.1) (Some turns))
 HasNothing (Some entered) (option.Token refused) = (entered.0 ≡ codes "token") × token.SaysNothing entered.1 refused
 

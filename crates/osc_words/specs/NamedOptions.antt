@@ -4,7 +4,7 @@ use Rattle.clap.specs.Words.{Row, first_of}
 use Rattle.osc_words.specs.ClientOptions as client
 use Rattle.osc_words.specs.Options as token
 use Rattle.osc_words.specs.declared.named_option.NamedOption.{NamedOption}
-use Rattle.osc_words.specs.declared.named_option.NamedOption.TheVariants.{SimOnly, SimDiagram, SimPcap, NodeConfig, NodeLog, StoreFile, StoreBackup, Client, Token}
+use Rattle.osc_words.specs.declared.named_option.NamedOption.TheVariants.{SimOnly, SimDiagram, SimPcap, NodeConfig, NodeLog, StoreFile, StoreBackup, Client, ContextForm, ContextTimeout, ContextOut, Token}
 
 abbrev pub name_of : NamedOption → List ℕ
 name_of SimOnly = codes "only"
@@ -15,6 +15,9 @@ name_of NodeLog = codes "log"
 name_of StoreFile = codes "file"
 name_of StoreBackup = codes "backup"
 name_of (Client option) = client.name_of option
+name_of ContextForm = codes "form"
+name_of ContextTimeout = codes "timeout"
+name_of ContextOut = codes "out"
 name_of (Token option) = token.name_of option
 name_of turns = codes "turns"
 
@@ -32,6 +35,9 @@ form_of NodeLog = codes "text or json"
 form_of StoreFile = codes "a file of a store"
 form_of StoreBackup = codes "a file"
 form_of (Client option) = client.form_of option
+form_of ContextForm = codes "libcoap, aiocoap or json"
+form_of ContextTimeout = codes "a number of seconds in decimal digits"
+form_of ContextOut = codes "a file"
 form_of (Token option) = token.form_of option
 form_of turns = codes "a number of 64 bits in decimal digits"
 

@@ -43,6 +43,11 @@ pub record SpellsTimeout (text : List ℕ) (turns : ℕ) : Type 0 where
   pub number : SpellsNumber text seconds
   pub value : turns ≡ min (seconds * 50) (2 ^ 64 - 1)
 
+-- the same where there is a text; where there is none, as many turns as a number of 64 bits counts
+abbrev pub SpellsPatience : Option (List ℕ) → ℕ → Type 0
+SpellsPatience (Some text) turns = SpellsTimeout text turns
+SpellsPatience None turns = turns ≡ 2 ^ 64 - 1
+
 -- how long a client waits: a number of turns, or a number of seconds
 abbrev pub IsPatience : Option (List ℕ) → Option (List ℕ) → ℕ → Type 0
 IsPatience (Some text) None turns = SpellsNumber text turns

@@ -14,6 +14,8 @@ pub enum Choice {
     Patience,
     /// The payload of `osc client`: at most one of `--payload`, `--text` and `--payload-file` is given.
     Payload,
+    /// What `osc client` asks for: `--method` and `--path`, or `--requests`, without what goes with the other alone.
+    Asked,
     /// When a token of `osc token` is over: at most one of `--exp` and `--for` is given.
     Expiry,
 }
@@ -30,6 +32,11 @@ impl Choice {
             }
             Choice::Payload => {
                 "error: at most one of --payload, --text and --payload-file may be given".to_string(
+                    alloc,
+                )
+            }
+            Choice::Asked => {
+                "error: either --method and --path have to be given, or --requests, and nothing that goes with the other".to_string(
                     alloc,
                 )
             }

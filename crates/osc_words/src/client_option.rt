@@ -23,11 +23,15 @@ pub enum ClientOption {
     Format,
     /// `--config`: the file that the settings are in.
     Config,
+    /// `--requests`: the file that many requests are in.
+    Requests,
+    /// `--every`: how many seconds pass from one of them to the next, at the least.
+    Every,
 }
 
 impl ClientOption {
     /// All of them, those first that a request needs.
-    pub(crate) const ALL: [ClientOption; 9] = [
+    pub(crate) const ALL: [ClientOption; 11] = [
         ClientOption::Turns,
         ClientOption::Timeout,
         ClientOption::Method,
@@ -37,6 +41,8 @@ impl ClientOption {
         ClientOption::PayloadFile,
         ClientOption::Format,
         ClientOption::Config,
+        ClientOption::Requests,
+        ClientOption::Every,
     ];
 
     /// Its name on the command line, without the hyphens.
@@ -53,14 +59,9 @@ impl ClientOption {
             ClientOption::PayloadFile => "payload-file",
             ClientOption::Format => "format",
             ClientOption::Config => "config",
+            ClientOption::Requests => "requests",
+            ClientOption::Every => "every",
         }
-    }
-
-    /// Whether nothing is asked without it, whatever else is given.
-    pub fn is_required(self) -> bool
-        ensures { result ≡ spec.is_required self }
-    {
-        matches!(self, ClientOption::Method | ClientOption::Path)
     }
 
     /// What a value of it has to be.
@@ -77,6 +78,8 @@ impl ClientOption {
             ClientOption::PayloadFile => "a file",
             ClientOption::Format => "a number of 16 bits in decimal digits",
             ClientOption::Config => "a file of settings",
+            ClientOption::Requests => "a file of requests",
+            ClientOption::Every => "a number of 64 bits in decimal digits",
         }
     }
 
@@ -84,12 +87,12 @@ impl ClientOption {
     pub(crate) fn value_name(self) -> &'static str {
         match self {
             ClientOption::Turns | ClientOption::Format => "N",
-            ClientOption::Timeout => "SECONDS",
+            ClientOption::Timeout | ClientOption::Every => "SECONDS",
             ClientOption::Method => "METHOD",
             ClientOption::Path => "PATH",
             ClientOption::Payload => "HEX",
             ClientOption::Text => "TEXT",
-            ClientOption::PayloadFile | ClientOption::Config => "FILE",
+            ClientOption::PayloadFile | ClientOption::Config | ClientOption::Requests => "FILE",
         }
     }
 
@@ -109,6 +112,10 @@ impl ClientOption {
                 "The Content-Format of the payload: 0 to 65535; none by default",
             ClientOption::Config =>
                 "A file that the settings stand in; the standard input by default",
+            ClientOption::Requests =>
+                "A file of requests, one a line, in place of --method and --path; - is the standard input",
+            ClientOption::Every =>
+                "The least seconds from one of these requests to the next; 0 by default",
         }
     }
 }

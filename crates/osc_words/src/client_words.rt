@@ -5,7 +5,7 @@ ghost use Rattle.osc_model.specs.{IsPath};
 ghost use Rattle.osc_script.specs.{SpellsShortNumber};
 ghost use Rattle.osc_words.specs.ClientWords as spec;
 ghost use Rattle.osc_words.specs.NamedOptions.{value_of};
-ghost use Rattle.osc_words.specs.Inner.Reading.{IsClientRefusal, IsRefusalOf};
+ghost use Rattle.osc_words.specs.Inner.Reading.{IsClientRefusal, IsPatienceRefusal, IsRefusalOf};
 ghost use Rattle.osc_words.specs.Values.{IsGiven};
 
 use crate::choice::Choice;
@@ -71,9 +71,9 @@ fn request(alloc: Global, options: &ArgMatches<'_>, payload: Bytes) -> Result<Re
 
 // ---- one of several options
 
-// The most turns: a number of turns, or 50 for each second.
-fn patience(options: &ArgMatches<'_>) -> Result<u64, WordsError>
-    ensures { MatchResult result (spec.SaysPatience (rows_of (found_of options.now))) (IsClientRefusal (rows_of (found_of options.now))) }
+/// The most turns: a number of turns, or 50 for each second.
+pub(crate) fn patience(options: &ArgMatches<'_>) -> Result<u64, WordsError>
+    ensures { MatchResult result (spec.SaysPatience (rows_of (found_of options.now))) (IsPatienceRefusal (rows_of (found_of options.now))) }
 {
     let turns = given::text(options, NamedOption::Client(ClientOption::Turns));
     let seconds = given::text(options, NamedOption::Client(ClientOption::Timeout));

@@ -12,9 +12,10 @@ ghost use Rattle.osc_words.specs.declared.named_option.NamedOption.{NamedOption 
 ghost use Rattle.osc_words.specs.declared.words.Words.{Words as AnyWords};
 
 use crate::client_option::ClientOption;
-use crate::client_words::client_words;
+use crate::context_words::context_words;
 use crate::named_option::NamedOption;
 use crate::node_words::node_words;
+use crate::requests_words::client_asked;
 use crate::sim_words::SimWords;
 use crate::source::FileName;
 use crate::store_words::StoreWords;
@@ -33,7 +34,12 @@ const CHECK_HELP: &str = "Reads the settings, says what they are but for what is
 
 const DUMP_HELP: &str = "Prints the resources as settings name them, in place of their list";
 
+const UNTIL_DAMAGE_HELP: &str = "Takes of a damaged log what stands before the damage";
+
 const IPV6_HELP: &str = "Binds the sockets at [::1] in place of 127.0.0.1";
+
+const AGAIN_HELP: &str =
+    "Sends a request of --requests again under a new context also where it may have been served";
 
 const RAW_HELP: &str = "Prints the bytes of the answer's payload, and nothing else";
 
@@ -73,6 +79,7 @@ fn words_in(alloc: Global, matches: &ArgMatches<'_>) -> Result<Words, WordsError
         Some(("server", options)) => server_asked(alloc, options),
         Some(("proxy", options)) => proxy_asked(alloc, options),
         Some(("client", options)) => client_asked(alloc, options),
+        Some(("context", options)) => context_asked(alloc, options),
         Some(("lab", options)) => lab_asked(options),
         _ => unreachable!(),
     }
@@ -106,6 +113,7 @@ fn store_asked(alloc: Global, options: &ArgMatches<'_>) -> Result<Words, WordsEr
     Ok(Words::Store(StoreWords {
         file: FileName::new(alloc, name)?,
         dump: given::is_set(options, "dump"),
+        until_damage: given::is_set(options, "until-damage"),
         backup: given::file(alloc, options, NamedOption::StoreBackup)?,
     }))
 }
@@ -124,11 +132,11 @@ fn proxy_asked(alloc: Global, options: &ArgMatches<'_>) -> Result<Words, WordsEr
     Ok(Words::Proxy(node_words(alloc, options, NamedOption::ProxyTurns)?))
 }
 
-// What `osc client` asks for.
-fn client_asked(alloc: Global, options: &ArgMatches<'_>) -> Result<Words, WordsError>
-    ensures { IsReadFrom (Some (codes "client", rows_of (found_of options.now))) result }
+// What `osc context` asks for.
+fn context_asked(alloc: Global, options: &ArgMatches<'_>) -> Result<Words, WordsError>
+    ensures { IsReadFrom (Some (codes "context", rows_of (found_of options.now))) result }
 {
-    Ok(Words::Client(client_words(alloc, options)?))
+    Ok(Words::Context(context_words(alloc, options)?))
 }
 
 // What `osc lab` asks for.
@@ -181,10 +189,11 @@ fn with_nodes<'a>(alloc: Global, command: Command<'a>) -> Result<Command<'a>, Al
 // The command with the subcommands that ask.
 fn with_asking<'a>(alloc: Global, command: Command<'a>) -> Result<Command<'a>, AllocError>
     ensures { IfOk result (λ more. app_of more
-        ≡ with_subcommand (with_subcommand (app_of command.entry) spec.client_app.top) spec.lab_app.top) }
+        ≡ with_subcommand (with_subcommand (with_subcommand (app_of command.entry) spec.client_app.top) spec.context_app.top) spec.lab_app.top) }
 {
     command
         .subcommand(client_command(alloc)?)?
+        .subcommand(context_command(alloc)?)?
         .subcommand(lab_command(alloc)?)
 }
 
@@ -252,6 +261,7 @@ fn store_command<'a>(alloc: Global) -> Result<Command<'a>, AllocError>
         .about("Lists the resources that a server's store holds")
         .after_help("Example: osc store --backup STORE.backup STORE");
     let command = with_flag(alloc, command, "dump", DUMP_HELP)?;
+    let command = with_flag(alloc, command, "until-damage", UNTIL_DAMAGE_HELP)?;
     let command = with_option(alloc, command, NamedOption::StoreBackup, false)?;
     let option = NamedOption::StoreFile;
     with_word(
@@ -310,6 +320,7 @@ fn client_command<'a>(alloc: Global) -> Result<Command<'a>, AllocError>
 {
     let command = client_options(alloc)?;
     let command = with_flag(alloc, command, "raw", RAW_HELP)?;
+    let command = with_flag(alloc, command, "again", AGAIN_HELP)?;
     with_flag(alloc, command, "check", CHECK_HELP)
 }
 
@@ -326,14 +337,25 @@ fn client_options<'a>(alloc: Global) -> Result<Command<'a>, AllocError>
             "Example: osc client --timeout 10 --method POST --path /log --text a --config SETTINGS",
         );
     for option in ClientOption::ALL {
-        command = with_option(
-            alloc,
-            command,
-            NamedOption::Client(option),
-            option.is_required(),
-        )?;
+        command = with_option(alloc, command, NamedOption::Client(option), false)?;
     }
     Ok(command)
+}
+
+// The subcommand that writes a security context.
+fn context_command<'a>(alloc: Global) -> Result<Command<'a>, AllocError>
+    ensures app { IfOk result (λ command. app_of command ≡ spec.context_app) }
+    ensures local { IfOk result (λ command. (out-Command command).has_globals ≡ false) }
+{
+    let command = Command::new(alloc, "context")
+        .about(
+            "Posts a token and writes the security context for another stack, by the settings of a client",
+        )
+        .after_help("Example: osc context --form libcoap --config SETTINGS --out CONTEXT");
+    let command = with_option(alloc, command, NamedOption::ContextForm, true)?;
+    let command = with_option(alloc, command, NamedOption::ContextTimeout, false)?;
+    let command = with_option(alloc, command, NamedOption::NodeConfig, false)?;
+    with_option(alloc, command, NamedOption::ContextOut, false)
 }
 
 // The subcommand that runs a script over sockets.

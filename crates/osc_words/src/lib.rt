@@ -5,11 +5,14 @@ mod choice;
 mod client_option;
 mod client_words;
 mod command;
+mod context_words;
 mod given;
 mod held;
 mod hidden_option;
 mod named_option;
 mod node_words;
+mod request_lines;
+mod requests_words;
 mod settings;
 mod sim_words;
 mod source;
@@ -23,10 +26,13 @@ pub use choice::Choice;
 pub use client_option::ClientOption;
 pub use client_words::ClientWords;
 pub use command::read_words;
+pub use context_words::{ContextForm, ContextWords};
 pub use held::{held_key, held_secret};
 pub use hidden_option::HiddenOption;
 pub use named_option::NamedOption;
 pub use node_words::{LogForm, NodeWords};
+pub use request_lines::read_requests;
+pub use requests_words::RequestsWords;
 pub use settings::{
     ClientSettings, KeyFault, MOST_ADDRESSES, ProxySettings, ResourceSetting, ServerSettings,
     SettingsError, SettingsKey, StoreFile, TargetSetting, read_client_settings,

@@ -19,7 +19,7 @@ pub enum NamedOption {
     ServerTurns,
     /// `--turns` of `osc proxy`: the same.
     ProxyTurns,
-    /// `--config` of `osc server` and `osc proxy`: the file that the settings are in.
+    /// `--config` of `osc server`, `osc proxy` and `osc context`: the file that the settings are in.
     NodeConfig,
     /// The word of `osc store`: the file that the store is in.
     StoreFile,
@@ -29,6 +29,12 @@ pub enum NamedOption {
     NodeLog,
     /// An option of `osc client`.
     Client(ClientOption),
+    /// `--form` of `osc context`: for which stack the context is written.
+    ContextForm,
+    /// `--timeout` of `osc context`: after how many seconds it gives up at the latest, at 50 turns a second.
+    ContextTimeout,
+    /// `--out` of `osc context`: the file that the context is written to, or for aiocoap the folder.
+    ContextOut,
     /// `--turns` of `osc lab`: how many turns follow each exchange and each request at most.
     LabTurns,
     /// An option of `osc token`.
@@ -50,6 +56,9 @@ impl NamedOption {
             NamedOption::StoreFile => "file",
             NamedOption::StoreBackup => "backup",
             NamedOption::Client(option) => option.name(),
+            NamedOption::ContextForm => "form",
+            NamedOption::ContextTimeout => "timeout",
+            NamedOption::ContextOut => "out",
             NamedOption::Token(option) => option.name(),
         }
     }
@@ -64,11 +73,13 @@ impl NamedOption {
             }
             NamedOption::SimOnly => "a client, c1 to c9",
             NamedOption::SimDiagram => "text or svg",
-            NamedOption::SimPcap | NamedOption::StoreBackup => "a file",
+            NamedOption::SimPcap | NamedOption::StoreBackup | NamedOption::ContextOut => "a file",
             NamedOption::NodeConfig => "a file of settings",
             NamedOption::NodeLog => "text or json",
             NamedOption::StoreFile => "a file of a store",
             NamedOption::Client(option) => option.form(),
+            NamedOption::ContextForm => "libcoap, aiocoap or json",
+            NamedOption::ContextTimeout => "a number of seconds in decimal digits",
             NamedOption::Token(option) => option.form(),
         }
     }
@@ -92,9 +103,10 @@ impl NamedOption {
         match self {
             NamedOption::ServerTurns | NamedOption::ProxyTurns | NamedOption::LabTurns => "N",
             NamedOption::SimOnly => "CLIENT",
-            NamedOption::SimDiagram | NamedOption::NodeLog => "FORM",
+            NamedOption::SimDiagram | NamedOption::NodeLog | NamedOption::ContextForm => "FORM",
             NamedOption::SimPcap | NamedOption::NodeConfig | NamedOption::StoreFile => "FILE",
-            NamedOption::StoreBackup => "TO",
+            NamedOption::StoreBackup | NamedOption::ContextOut => "TO",
+            NamedOption::ContextTimeout => "SECONDS",
             NamedOption::Client(option) => option.value_name(),
             NamedOption::Token(option) => option.value_name(),
         }
@@ -120,6 +132,12 @@ impl NamedOption {
             NamedOption::StoreFile => "The file that a server's settings name as its store",
             NamedOption::StoreBackup => "A new file that alone is a store of the same resources",
             NamedOption::Client(option) => option.help(),
+            NamedOption::ContextForm =>
+                "For which stack the context is written: libcoap, aiocoap, or json for any",
+            NamedOption::ContextTimeout =>
+                "The most seconds that it takes, at 50 turns a second; it ends with the exchange by default",
+            NamedOption::ContextOut =>
+                "A file that its owner alone can read, or a folder for aiocoap; the standard output by default",
             NamedOption::Token(option) => option.help(),
         }
     }

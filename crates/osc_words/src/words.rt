@@ -6,8 +6,10 @@ ghost use Rattle.osc_words.specs.declared.words.WordsError.TheVariants as words_
 
 use crate::choice::Choice;
 use crate::client_words::ClientWords;
+use crate::context_words::ContextWords;
 use crate::named_option::NamedOption;
 use crate::node_words::NodeWords;
+use crate::requests_words::RequestsWords;
 use crate::sim_words::SimWords;
 use crate::store_words::StoreWords;
 use crate::token_words::TokenAsked;
@@ -23,7 +25,7 @@ pub enum Words {
     Token(TokenAsked),
     /// `osc key`: print a key, drawn at random.
     Key,
-    /// `osc store [--dump] [--backup TO] FILE`: list what the store in this file holds.
+    /// `osc store [--dump] [--until-damage] [--backup TO] FILE`: list what the store in this file holds.
     Store(StoreWords),
     /// `osc server [--config FILE] [--check] [--turns N] [--log[=FORM]]`: run a server.
     Server(NodeWords),
@@ -31,6 +33,10 @@ pub enum Words {
     Proxy(NodeWords),
     /// `osc client`: post a token and send a request.
     Client(ClientWords),
+    /// `osc client --requests FILE`: post a token and send the requests of a file.
+    Requests(RequestsWords),
+    /// `osc context --form FORM [--timeout SECONDS] [--config FILE] [--out TO]`: post a token and write the security context.
+    Context(ContextWords),
     /// `osc lab --turns N [--ipv6]`: run a script over sockets, with at most `N` turns after each exchange and request. The sockets are at
     /// `127.0.0.1`, or at `[::1]`.
     Lab { turns: u64, ipv6: bool },

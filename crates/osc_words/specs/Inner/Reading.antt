@@ -1,21 +1,25 @@
 -- What the reading of words gives, part by part.
-use Rattle.std.specs.Prelude.{◌≡◌, ◌⊎◌, ◌||◌, ℕ, Bool, true, false, List, MatchResult, Option, Result, codes, is_some, not}
+use Rattle.std.specs.Prelude.{◌≡◌, ◌⊎◌, ◌||◌, ℕ, Bool, true, false, List, MatchResult, Option, Some, Result, codes, is_some, not}
 use Rattle.std.specs.Option.{option_map_or}
 use Rattle.std.specs.Str.{bytes_eq}
 use Rattle.clap.specs.Words.{Row, Text}
 use Rattle.osc_words.specs.ClientWords as client
 use Rattle.osc_words.specs.Command.{AreWords, HasNothing, HasNotOne}
 use Rattle.osc_words.specs.Choices.{IsNotOne, command_of}
+use Rattle.osc_words.specs.ContextWords.{SpellsContextForm}
 use Rattle.osc_words.specs.NamedOptions as named
 use Rattle.osc_words.specs.NodeWords.{SpellsLogForm}
 use Rattle.osc_words.specs.Options.{value_of}
+use Rattle.osc_words.specs.RequestsWords as requests
 use Rattle.osc_words.specs.Sources.{file_option_of, option_of}
+use Rattle.osc_words.specs.Times.{SpellsPatience}
 use Rattle.osc_words.specs.TokenWords as token
 use Rattle.osc_words.specs.Values.{IsGiven, SpellsTurns}
-use Rattle.osc_words.specs.declared.choice.Choice.TheVariants.{Hidden}
+use Rattle.osc_words.specs.declared.choice.Choice.TheVariants.{Hidden, Patience}
+use Rattle.osc_words.specs.declared.client_option.ClientOption.TheVariants.{Turns, Timeout}
 use Rattle.osc_words.specs.declared.hidden_option.HiddenOption.{HiddenOption}
 use Rattle.osc_words.specs.declared.named_option.NamedOption.{NamedOption}
-use Rattle.osc_words.specs.declared.named_option.NamedOption.TheVariants.{Client, NodeLog, Token}
+use Rattle.osc_words.specs.declared.named_option.NamedOption.TheVariants.{Client, ContextForm, ContextTimeout, NodeLog, Token}
 use Rattle.osc_words.specs.declared.words.Words.{Words}
 use Rattle.osc_words.specs.declared.words.WordsError.{WordsError}
 use Rattle.osc_words.specs.declared.words.WordsError.TheVariants.{Clap, Value, NotOne, Unread, Memory}
@@ -58,6 +62,26 @@ IsClientRefusal rows (NotOne choice) = (command_of choice ≡ codes "client") ×
 IsClientRefusal rows Memory = Unit {0}
 IsClientRefusal rows error = ⊥
 
+-- neither of the options of patience says anything, or they aren't given as they have to be
+abbrev pub IsPatienceRefusal : List Row → WordsError → Type 0
+IsPatienceRefusal rows (Value option) = ((option ≡ Client Turns) ⊎ (option ≡ Client Timeout)) × ((turns : ℕ) → ¬ client.SaysPatience rows turns)
+IsPatienceRefusal rows (NotOne choice) = (choice ≡ Patience) × IsNotOne rows Patience
+IsPatienceRefusal rows Memory = Unit {0}
+IsPatienceRefusal rows error = ⊥
+
+-- an option says nothing where a file of requests is named
+abbrev pub IsRequestsRefusal : List Row → WordsError → Type 0
+IsRequestsRefusal rows (Value (Client option)) = requests.SaysNothing rows option
+IsRequestsRefusal rows (NotOne choice) = (choice ≡ Patience) × IsNotOne rows Patience
+IsRequestsRefusal rows Memory = Unit {0}
+IsRequestsRefusal rows error = ⊥
+
+-- the form of a context is refused, or how long one waits for it
+abbrev pub IsContextRefusal : List Row → WordsError → Type 0
+IsContextRefusal rows error =
+    IsRefusalOf ContextForm (λ form. IsGiven SpellsContextForm (named.value_of ContextForm rows) (Some form)) error
+    ⊎ IsRefusalOf ContextTimeout (SpellsPatience (named.value_of ContextTimeout rows)) error
+
 abbrev pub IsRefusalIn : Option (Text × List Row) → WordsError → Type 0
 IsRefusalIn entered (Clap error) = ⊥
 IsRefusalIn entered (Value refused) = HasNothing entered refused
@@ -68,7 +92,7 @@ IsRefusalIn entered Memory = Unit {0}
 -- the name of a subcommand of the program
 abbrev pub is_subcommand : Text → Bool
 is_subcommand name = bytes_eq name (codes "sim") || bytes_eq name (codes "token") || bytes_eq name (codes "key") || bytes_eq name (codes "store") || bytes_eq name (codes "server")
-    || bytes_eq name (codes "proxy") || bytes_eq name (codes "client") || bytes_eq name (codes "lab")
+    || bytes_eq name (codes "proxy") || bytes_eq name (codes "client") || bytes_eq name (codes "context") || bytes_eq name (codes "lab")
 
 -- a subcommand of the program was entered
 abbrev pub IsKnown : Option (Text × List Row) → Type 0

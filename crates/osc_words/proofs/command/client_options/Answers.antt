@@ -1,8 +1,8 @@
-use Rattle.std.proofs.Common.{◌≡◌, ◌∙◌, ap, ap₂, sym, codes, get_or}
+use Rattle.std.proofs.Common.{◌∙◌, ap₂, refl, sym, codes}
 use Rattle.std.proofs.lemmas.List.Sums.{fold_more}
 use Rattle.clap.specs.Words.{App, new_app, with_rule}
-use Rattle.osc_words.specs.{client_options, value_rule}
-use Rattle.osc_words.specs.ClientOptions.{name_of, option_rule}
+use Rattle.osc_words.specs.{client_options}
+use Rattle.osc_words.specs.ClientOptions.{option_rule}
 use Rattle.osc_words.specs.declared.client_option.ClientOption.{ClientOption}
 use Rattle.osc_words.specs.declared.client_option.ClientOption.TheVariants.{Turns}
 use Rattle.osc_words.proofs.command.client_options.Goals as goal
@@ -11,10 +11,8 @@ pub loop-option-preserved : goal.loop-option-preserved
 loop-option-preserved c =
     let here = c.loop-option in
     let i = here.option-index in
-    let item = get_or client_options i Turns in
-    let rule_is : value_rule (name_of item) c.is_required.result ≡ option_rule item = ap (value_rule (name_of item)) c.is_required.ensures in
     record {
-      app = c.in_ok-command.ensures.app ∙ ap₂ with_rule here.invariant.app rule_is
+      app = c.in_ok-command.ensures.app ∙ ap₂ with_rule here.invariant.app refl
           ∙ sym (fold_more (λ (app : App) (option : ClientOption). with_rule app (option_rule option)) (new_app (codes "client")) client_options i Turns c.loop-option-test.true);
       local = c.in_ok-command.ensures.local ∙ here.invariant.local;
     }

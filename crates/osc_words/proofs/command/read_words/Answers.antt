@@ -3,7 +3,7 @@ use Rattle.clap.specs.Words.{subcommand_rows_of}
 use Rattle.osc_words.specs.{AreWords}
 use Rattle.osc_words.specs.Inner.Reading.{IsKnown}
 use Rattle.osc_words.proofs.Entered.{words_known}
-use Rattle.osc_words.proofs.Stand.{asked_by_methods, stand_for_nothing}
+use Rattle.osc_words.proofs.Stand.{asked_by_methods, says_something, stand_for_nothing}
 use Rattle.osc_words.proofs.command.read_words.Goals as goal
 
 pub words_in-requires : goal.words_in-requires
@@ -15,4 +15,9 @@ returns-clause-method c = asked_by_methods (subcommand_rows_of c.in_ok-matches.m
 pub returns-clause-not_one : goal.returns-clause-not_one
 returns-clause-not_one c = λ option refused read stands.
     stand_for_nothing (subcommand_rows_of c.in_ok-matches.matches) c.words_in.result option c.words_in.ensures refused read
+    (subst (λ entered. AreWords entered read) (sym c.in_ok-matches.ensures.entered) stands)
+
+pub returns-clause-nothing : goal.returns-clause-nothing
+returns-clause-nothing c = λ option refused read stands.
+    says_something (subcommand_rows_of c.in_ok-matches.matches) c.words_in.result option c.words_in.ensures refused read
     (subst (λ entered. AreWords entered read) (sym c.in_ok-matches.ensures.entered) stands)

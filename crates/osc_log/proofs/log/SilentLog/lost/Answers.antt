@@ -1,6 +1,7 @@
-use Rattle.osc_log.specs.Log.{lost}
-use Rattle.osc_log.proofs.Telling.{unseen_tells}
+use Rattle.std.proofs.Common.{refl}
+use Rattle.osc_log.specs.Log.{lost, unseen}
+use Rattle.osc_log.proofs.Telling.{same_tells}
 use Rattle.osc_log.proofs.log.SilentLog.lost.Goals as goal
 
 pub returns : goal.returns
-returns c = unseen_tells (lost c.args._now)
+returns c = same_tells unseen (lost c.args._now) refl

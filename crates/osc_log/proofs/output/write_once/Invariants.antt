@@ -1,0 +1,6 @@
+-- A write that a signal interrupts leaves what is there.
+use Rattle.std.specs.Io.KnownBytes.{Keeps}
+use Rattle.osc_log.proofs.output.write_once.Given as goal
+
+abbrev pub invariant-loop : goal.invariant-loop
+invariant-loop g l = Keeps (g.W.Write.contents l.initial.writer) (g.W.Write.contents l.writer)
