@@ -1,22 +1,26 @@
 //! `osc`: CoAP nodes that are protected by OSCORE. What its subcommands do is in `osc_programs` and `osc_lab`, and how they are asked in `osc_words`.
 #![tactic(auto)]
 
+mod private;
+
+use crate::private::Place;
 use osc_lab::lab;
 use osc_log::{AtOnce, Faults, Form, Lines};
+use osc_model::Request;
 use osc_programs::{
-    Ended, FaultKeeper, KeepingReader, TraceForm, ask, check_client, check_proxy, check_server,
-    draw, ended_by, ended_by_io, filled, forward, issue_key, issue_token, list_store,
-    running_fault, serve, sim, started_by_io, status, token_fault, token_warning, with_payload,
-    write_capture,
+    Asked, Ended, FaultKeeper, KeepingReader, Manner, TraceForm, ask, ask_each, check_client,
+    check_proxy, check_server, draw, ended_by, ended_by_io, filled, forward, issue_key,
+    issue_token, list_store, make_context, requests_fault, requests_from, running_fault, serve,
+    sim, started_by_io, status, token_fault, token_warning, with_payload, write_capture,
 };
 use osc_script::form_of;
 use osc_words::{
-    ClientWords, FileName, LogForm, NodeWords, SimWords, Source, StoreWords, TokenAsked,
-    TokenWords, Words, WordsError, fault_line, read_words,
+    ClientWords, ContextForm, ContextWords, FileName, LogForm, NodeWords, RequestsWords, SimWords,
+    Source, StoreWords, TokenAsked, TokenWords, Words, WordsError, fault_line, read_words,
 };
 use std::alloc::AllocError;
 use std::fs::File;
-use std::io::{self, ErrorKind, IsTerminal, Read};
+use std::io::{self, ErrorKind, IsTerminal, Read, Write};
 use std::process::ExitCode;
 use std::time::Clock;
 use std::{env, str};
@@ -53,6 +57,8 @@ fn follow(rt: &HostRuntime, words: Words) -> Ended {
         Words::Server(words) => tell(rt, run_server(rt, &words)),
         Words::Proxy(words) => tell(rt, run_proxy(rt, &words)),
         Words::Client(words) => tell(rt, run_client(rt, words)),
+        Words::Context(words) => tell(rt, run_context(rt, &words)),
+        Words::Requests(words) => run_requests(rt, &words),
         Words::Lab { turns, ipv6 } => tell(rt, run_lab(rt, turns, ipv6)),
     }
 }
@@ -74,6 +80,11 @@ fn awaited(words: &Words) -> Option<&'static str> {
         }
         Words::Server(words) | Words::Proxy(words) => awaited_settings(&words.config),
         Words::Client(words) => awaited_settings(&words.config),
+        Words::Context(words) => awaited_settings(&words.config),
+        Words::Requests(words) if words.requests.as_str() == "-" => {
+            Some("reading the requests from standard input; end with Ctrl-D")
+        }
+        Words::Requests(words) => awaited_settings(&words.config),
         Words::Token(_) | Words::Key | Words::Store(_) => None,
     }
 }
@@ -156,7 +167,7 @@ fn capture_in(rt: &HostRuntime, script: &[u8], file: (&str, File), keys: (&str, 
     ended
 }
 
-/// A file can't be made.
+/// A file can't be made, or not be opened.
 fn unwritten(rt: &HostRuntime, name: &str, error: &io::Error) -> Ended {
     tell_fault(rt, name, Some(error.kind()));
     ended_by_io(error)
@@ -231,9 +242,9 @@ fn server_from<I: Read + Drop>(
         check_server(alloc, &mut input, &mut faults, &mut output)
     } else if let Some(form) = words.log {
         let mut lines = Lines::new(log_form(form), AtOnce::new(rt.stderr()));
-        serve(alloc, rt, &mut input, &mut lines, words.turns)
+        serve(alloc, rt, &mut input, &mut lines, words.turns).ended
     } else {
-        serve(alloc, rt, &mut input, &mut faults, words.turns)
+        serve(alloc, rt, &mut input, &mut faults, words.turns).ended
     };
     tell_streams(rt, ended, name, input.fault(), output.fault())
 }
@@ -332,6 +343,183 @@ fn client_from<I: Read + Drop>(
     tell_streams(rt, ended, name, input.fault(), output.fault())
 }
 
+// ---- a context for another stack
+
+/// A context, by the settings of its file or of the standard input.
+fn run_context(rt: &HostRuntime, words: &ContextWords) -> Ended {
+    match &words.config {
+        None => context_from(rt, words, FaultKeeper::new(rt.reader()), STANDARD_INPUT),
+        Some(name) => match File::open(rt, name.as_str()) {
+            Ok(file) => context_from(rt, words, FaultKeeper::new(file), CONFIG),
+            Err(error) => unopened(rt, &error),
+        },
+    }
+}
+
+/// It goes to the standard output, or to a file that its owner alone can read.
+fn context_from<I: Read + Drop>(
+    rt: &HostRuntime,
+    words: &ContextWords,
+    settings: FaultKeeper<I>,
+    name: &str,
+) -> Ended {
+    let mut input = settings;
+    let ended = match &words.out {
+        None => {
+            let mut output = FaultKeeper::new(io::writer(rt));
+            let ended = context_to(rt, words, &mut input, &mut output);
+            tell_streams(rt, ended, name, None, output.fault())
+        }
+        Some(out) => context_in(rt, words, &mut input, out.as_str()),
+    };
+    tell_streams(rt, ended, name, input.fault(), None)
+}
+
+fn context_to<I: Read, W: Write>(
+    rt: &HostRuntime,
+    words: &ContextWords,
+    input: &mut I,
+    output: &mut W,
+) -> Ended {
+    let alloc = rt.alloc();
+    let mut faults = Faults::new(AtOnce::new(rt.stderr()));
+    make_context(alloc, rt, input, &mut faults, output, words)
+}
+
+/// To this file, or for aiocoap to one in this folder. What was there is replaced once the new file is whole.
+fn context_in<I: Read>(rt: &HostRuntime, words: &ContextWords, input: &mut I, out: &str) -> Ended {
+    match place_of(rt, words.form, out) {
+        Ok(place) => match place.create(rt) {
+            Ok(file) => context_placed(rt, words, input, &place, file),
+            Err(error) => unwritten(rt, OUT, &error),
+        },
+        Err(error) => unwritten(rt, OUT, &error),
+    }
+}
+
+/// Where the context of this form is kept.
+fn place_of(rt: &HostRuntime, form: ContextForm, out: &str) -> io::Result<Place> {
+    match form {
+        ContextForm::Aiocoap => Place::in_folder(rt, out),
+        ContextForm::Libcoap | ContextForm::Json => Place::at(rt, out),
+    }
+}
+
+/// A file that isn't whole is removed.
+fn context_placed<I: Read>(
+    rt: &HostRuntime,
+    words: &ContextWords,
+    input: &mut I,
+    place: &Place,
+    file: File,
+) -> Ended {
+    let mut output = FaultKeeper::new(file);
+    let ended = context_to(rt, words, input, &mut output);
+    tell_fault(rt, OUT, output.fault());
+    drop(output);
+    let kept = match ended {
+        Ended::Done => place.keep(rt),
+        _ => Ok(()),
+    };
+    place.forget(rt);
+    match kept {
+        Ok(()) => ended,
+        Err(error) => unwritten(rt, OUT, &error),
+    }
+}
+
+/// A client that sends the requests of a file.
+fn run_requests(rt: &HostRuntime, words: &RequestsWords) -> Ended {
+    match requests(rt, words) {
+        Ok(requests) => run_asked(rt, words, &asked(words, requests)),
+        Err(ended) => ended,
+    }
+}
+
+fn asked(words: &RequestsWords, requests: Vec<Option<Request>>) -> Asked {
+    Asked {
+        requests,
+        manner: Manner {
+            turns: words.turns,
+            pause: words.every.unwrap_or(0).saturating_mul(1000),
+            again: words.again,
+        },
+    }
+}
+
+/// The requests of the file, or of the standard input where the settings are in a file.
+fn requests(rt: &HostRuntime, words: &RequestsWords) -> Result<Vec<Option<Request>>, Ended> {
+    let name = words.requests.as_str();
+    if name != "-" {
+        return match File::open(rt, name) {
+            Ok(file) => requests_in(rt, FaultKeeper::new(file), REQUESTS),
+            Err(error) => Err(unwritten(rt, REQUESTS, &error)),
+        };
+    }
+    if words.config.is_none() {
+        notice(
+            rt,
+            "error: --requests - needs --config: one standard input can't be both",
+        );
+        return Err(Ended::BadCommandLine);
+    }
+    requests_in(rt, FaultKeeper::new(rt.reader()), STANDARD_INPUT)
+}
+
+fn requests_in<I: Read + Drop>(
+    rt: &HostRuntime,
+    requests: FaultKeeper<I>,
+    name: &str,
+) -> Result<Vec<Option<Request>>, Ended> {
+    let mut input = requests;
+    let read = requests_from(rt.alloc(), &mut input);
+    if let Err(ended) = read {
+        tell_streams(rt, ended, name, input.fault(), None);
+        if let Ok(Some(line)) = requests_fault(rt.alloc(), ended) {
+            notice(rt, line.as_str());
+        }
+    }
+    read
+}
+
+fn run_asked(rt: &HostRuntime, words: &RequestsWords, asked: &Asked) -> Ended {
+    match &words.config {
+        None => asked_from(
+            rt,
+            words,
+            asked,
+            FaultKeeper::new(rt.reader()),
+            STANDARD_INPUT,
+        ),
+        Some(name) => match File::open(rt, name.as_str()) {
+            Ok(file) => asked_from(rt, words, asked, FaultKeeper::new(file), CONFIG),
+            Err(error) => unopened(rt, &error),
+        },
+    }
+}
+
+fn asked_from<I: Read + Drop>(
+    rt: &HostRuntime,
+    words: &RequestsWords,
+    asked: &Asked,
+    settings: FaultKeeper<I>,
+    name: &str,
+) -> Ended {
+    let alloc = rt.alloc();
+    let mut input = settings;
+    let mut output = FaultKeeper::new(io::writer(rt));
+    let mut faults = Faults::new(AtOnce::new(rt.stderr()));
+    let ended = if words.check {
+        check_client(alloc, &mut input, &mut faults, &mut output)
+    } else {
+        ask_each(alloc, rt, &mut input, &mut faults, &mut output, asked)
+    };
+    tell(
+        rt,
+        tell_streams(rt, ended, name, input.fault(), output.fault()),
+    )
+}
+
 // ---- keys and tokens
 
 /// A key goes to the standard output.
@@ -392,6 +580,10 @@ fn print_token(rt: &HostRuntime, words: &TokenWords, now: u64) -> Ended {
 const STANDARD_INPUT: &str = "standard input";
 
 const CONFIG: &str = "--config";
+
+const OUT: &str = "--out";
+
+const REQUESTS: &str = "--requests";
 
 /// Where an input or an output failed, a line says which, and why.
 fn tell_streams(

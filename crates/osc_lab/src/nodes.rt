@@ -1,5 +1,5 @@
 //! The nodes of a lab, which take their turns one after another.
-ghost use Rattle.std.specs.Prelude.{◌≡◌, ◌<◌, ◌∷◌, ◌↔◌, false, length, IfErr, IfOk, IsTrue, OnErr, OnOk};
+ghost use Rattle.std.specs.Prelude.{◌≡◌, ◌≢◌, ◌<◌, ◌∷◌, ◌↔◌, Err, None, false, length, IfErr, IfOk, IsTrue, OnErr, OnOk};
 ghost use Rattle.osc_client.specs.{acts_at, IsStep};
 ghost use Rattle.osc_run.specs.{history, by_client};
 ghost use Rattle.osc_run.specs.Premise.{Premise};
@@ -415,7 +415,9 @@ fn noted_as(actor: Actor, notes: StepNotes) -> Noted
 
 // One of the datagrams of a step was lost, or none was.
 fn unless_lost(fault: Option<PortFault>) -> Result<(), Ended>
-    ensures { IfErr result ends.IsFault }
+    ensures ok { OnOk result (fault ≡ None) }
+    ensures lost { fault ≢ None → result ≡ Err Ended.PortFailed }
+    ensures fault { IfErr result ends.IsFault }
 {
     match fault {
         None => Ok(()),

@@ -4,12 +4,17 @@ use Rattle.std.specs.Cmp.{IsTotalOrder, tied_itself}
 use Rattle.std.specs.Option.{is_some}
 use Rattle.std.specs.Ordering.{eq_by_cmp, is_eq}
 use Rattle.std.specs.FinMap as map
+use Rattle.std.specs.FinSet as set
 use Rattle.std.proofs.lemmas.List.Elements.{All-weaker}
 use Rattle.osc_model.specs.{path_cmp, is_revoked}
 use Rattle.osc_model.specs.Tree.{Tree}
 use Rattle.osc_model.specs.declared.resource.Resource.{Resource}
+use Rattle.osc_message.specs.{fresh}
 use Rattle.osc_server.specs.State.{State as Server}
 use Rattle.osc_words.specs.declared.settings.server.ServerSettings.{ServerSettings}
+use Rattle.osc_store.specs.{changed}
+use Rattle.osc_store.specs.Causes.{IsTooLong}
+use Rattle.osc_turn.specs.Kept.Changes.{HasTooLong}
 use Rattle.osc_programs.specs.{AreRevoked}
 use Rattle.osc_programs.specs.Serving.{IsServerOf}
 
@@ -46,3 +51,29 @@ of_same settings tree same server is h = subst (λ (t : Tree). IsServerOf settin
 
 pub revoked_in : (root : Option (List ℕ)) (ids : List (List ℕ)) (tree own : Tree) → own ≡ tree → AreRevoked root tree ids → AreRevoked root own ids
 revoked_in root ids tree own is h = subst (λ (t : Tree). AreRevoked root t ids) (sym is) h
+
+-- a server with these resources, and nothing else
+abbrev pub bare : Tree → Server
+bare tree = record {
+  tree = tree;
+  desk = record {
+    key = [];
+    old_key = None;
+    audience = [];
+    rules = record { revoked = None; seconds = None; remembered = 0; reserved = None; subtrees = true; answers = false };
+    table = [];
+  };
+  open_scope = set.from_list [];
+  endpoint = fresh;
+}
+
+-- ---- too long
+
+-- what is too long for its path is so in the tree that has it there
+pub long_in : IsTotalOrder path_cmp → (before after : Tree) (path : List ℕ) (resource : Option Resource) → after ≡ changed before path resource → IsTooLong path resource → HasTooLong after
+long_in total before after path None is long = absurd long
+long_in total before after path (Some resource) is long = (
+  path,
+  subst (IsTooLong path) (sym (ap (λ (t : Tree). map.get t path) is ∙ (map.get-insert total before path resource path
+      ∙ ap (λ b. cond b (Some resource) (map.get before path)) (ap is_eq (tied_itself total path))))) long,
+)

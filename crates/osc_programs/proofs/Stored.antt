@@ -1,13 +1,10 @@
 -- How servers end, with a store or without one.
-use Rattle.std.proofs.Common.{◌≡◌, ◌≢◌, ℕ, List, Option, Some, None, refl, subst, sym}
+use Rattle.std.proofs.Common.{◌≡◌, ◌≢◌, ◌⊎◌, ℕ, IfSome, IsSome, List, None, Option, Some, inl, inr, refl, subst, sym}
 use Rattle.osc_model.specs.Tree.{Tree}
-use Rattle.osc_words.specs.declared.settings.resource.ResourceSetting.{ResourceSetting}
-use Rattle.osc_words.specs.declared.settings.server.ServerSettings.{ServerSettings}
-use Rattle.osc_model.specs.declared.step.Step.{Step}
 use Rattle.osc_server.specs.State.{State as Server}
-use Rattle.osc_run.specs.{Cause}
 use Rattle.osc_store.specs.declared.error.KeepError.{KeepError}
-use Rattle.osc_programs.specs.{BeginsBy, BeginsWith, IsKept, SomeKeeps, tree_of, EndsKept, EndsServer, EndsServing, EndsStore, EndsTurns, EndsUnkept, IsFault, NoSettings, NoStore, NotOpened, LeavesKept, LeavesNode, StaysKept}
+use Rattle.osc_words.specs.declared.settings.resource.ResourceSetting.{ResourceSetting}
+use Rattle.osc_programs.specs.{EndsKept, EndsServer, EndsServing, EndsStore, EndsTurns, EndsUnkept, IsFault, IsKeptIn, IsNotKept, KeptBy, NoServer, NoSettings, NoStore, NotOpened, tree_of}
 use Rattle.osc_programs.specs.declared.ended.Ended.{Ended}
 use Rattle.osc_programs.specs.declared.ended.Ended.TheVariants.{Done, BadCommandLine, BadLine, TooLong, BadSettings, OutOfMemory, Failed, PortFailed, NotDone, Unopened, NotKept}
 
@@ -249,56 +246,108 @@ serving_not_bad NotDone f e = absurd cc
 serving_not_bad (Unopened error) f e = absurd cc
 serving_not_bad (NotKept error) f e = absurd cc
 
--- ---- what a turn leaves that took no step
+pub settings_no_server : (ended : Ended) → NoSettings ended → NoServer ended
+settings_no_server Done f = absurd f
+settings_no_server BadCommandLine f = absurd f
+settings_no_server (BadLine number) f = absurd f
+settings_no_server TooLong f = absurd f
+settings_no_server BadSettings f = tt
+settings_no_server OutOfMemory f = tt
+settings_no_server Failed f = tt
+settings_no_server PortFailed f = tt
+settings_no_server NotDone f = absurd f
+settings_no_server (Unopened error) f = absurd f
+settings_no_server (NotKept error) f = absurd f
 
-pub left_alone : {N : Type 0} (is_step : N → Cause → Step → N → Type 0) (ended : Ended) (n : N) → IsFault ended → LeavesNode is_step ended n n
-left_alone is_step Done n f = refl
-left_alone is_step BadCommandLine n f = refl
-left_alone is_step (BadLine number) n f = refl
-left_alone is_step TooLong n f = refl
-left_alone is_step BadSettings n f = refl
-left_alone is_step OutOfMemory n f = refl
-left_alone is_step Failed n f = refl
-left_alone is_step PortFailed n f = refl
-left_alone is_step NotDone n f = refl
-left_alone is_step (Unopened error) n f = refl
-left_alone is_step (NotKept error) n f = absurd f
+pub no_store_no_server : (ended : Ended) → NoStore ended → NoServer ended
+no_store_no_server Done f = absurd f
+no_store_no_server BadCommandLine f = absurd f
+no_store_no_server (BadLine number) f = absurd f
+no_store_no_server TooLong f = absurd f
+no_store_no_server BadSettings f = absurd f
+no_store_no_server OutOfMemory f = tt
+no_store_no_server Failed f = tt
+no_store_no_server PortFailed f = tt
+no_store_no_server NotDone f = absurd f
+no_store_no_server (Unopened error) f = tt
+no_store_no_server (NotKept error) f = tt
 
-pub held_alone : {N K : Type 0} (keeps : K → N → Type 0) (may_hold : K → N → N → Type 0) (ended : Ended) (n : N) (keeper : K) → IsFault ended → keeps keeper n
-    → LeavesKept keeps may_hold ended n n keeper
-held_alone keeps may_hold Done n keeper f h = h
-held_alone keeps may_hold BadCommandLine n keeper f h = h
-held_alone keeps may_hold (BadLine number) n keeper f h = h
-held_alone keeps may_hold TooLong n keeper f h = h
-held_alone keeps may_hold BadSettings n keeper f h = h
-held_alone keeps may_hold OutOfMemory n keeper f h = h
-held_alone keeps may_hold Failed n keeper f h = h
-held_alone keeps may_hold PortFailed n keeper f h = h
-held_alone keeps may_hold NotDone n keeper f h = h
-held_alone keeps may_hold (Unopened error) n keeper f h = h
-held_alone keeps may_hold (NotKept error) n keeper f h = absurd f
+pub fault_no_server : (ended : Ended) → IsFault ended → NoServer ended
+fault_no_server Done f = absurd f
+fault_no_server BadCommandLine f = absurd f
+fault_no_server (BadLine number) f = absurd f
+fault_no_server TooLong f = absurd f
+fault_no_server BadSettings f = absurd f
+fault_no_server OutOfMemory f = tt
+fault_no_server Failed f = tt
+fault_no_server PortFailed f = tt
+fault_no_server NotDone f = absurd f
+fault_no_server (Unopened error) f = absurd f
+fault_no_server (NotKept error) f = absurd f
 
--- ---- what a server begins with
+pub fault_no_settings : (ended : Ended) → IsFault ended → NoSettings ended
+fault_no_settings Done f = absurd f
+fault_no_settings BadCommandLine f = absurd f
+fault_no_settings (BadLine number) f = absurd f
+fault_no_settings TooLong f = absurd f
+fault_no_settings BadSettings f = absurd f
+fault_no_settings OutOfMemory f = tt
+fault_no_settings Failed f = tt
+fault_no_settings PortFailed f = tt
+fault_no_settings NotDone f = absurd f
+fault_no_settings (Unopened error) f = absurd f
+fault_no_settings (NotKept error) f = absurd f
 
-pub begins_without : {K : Type 0} (opened : List ℕ → List ResourceSetting → K → Tree → Type 0) (settings : ServerSettings) → settings.store ≡ None
-    → BeginsWith opened settings (tree_of settings.resources.items)
-begins_without opened settings none =
-    subst (λ (store : Option (List ℕ)). BeginsBy opened store settings.resources.items (tree_of settings.resources.items)) (sym none) refl
+pub not_kept_unkept : (ended : Ended) → IsNotKept ended → EndsUnkept ended
+not_kept_unkept Done f = absurd f
+not_kept_unkept BadCommandLine f = absurd f
+not_kept_unkept (BadLine number) f = absurd f
+not_kept_unkept TooLong f = absurd f
+not_kept_unkept BadSettings f = absurd f
+not_kept_unkept OutOfMemory f = absurd f
+not_kept_unkept Failed f = absurd f
+not_kept_unkept PortFailed f = absurd f
+not_kept_unkept NotDone f = absurd f
+not_kept_unkept (Unopened error) f = absurd f
+not_kept_unkept (NotKept error) f = tt
 
-pub begins_stored : {K : Type 0} (opened : List ℕ → List ResourceSetting → K → Tree → Type 0) (settings : ServerSettings) (file : List ℕ) (keeper : K) (tree : Tree)
-    → settings.store ≡ Some file → opened file settings.resources.items keeper tree → BeginsWith opened settings tree
-begins_stored opened settings file keeper tree some it =
-    subst (λ (store : Option (List ℕ)). BeginsBy opened store settings.resources.items tree) (sym some) (keeper, it)
+pub not_kept_kept : (ended : Ended) → IsNotKept ended → EndsKept ended
+not_kept_kept Done f = absurd f
+not_kept_kept BadCommandLine f = absurd f
+not_kept_kept (BadLine number) f = absurd f
+not_kept_kept TooLong f = absurd f
+not_kept_kept BadSettings f = absurd f
+not_kept_kept OutOfMemory f = absurd f
+not_kept_kept Failed f = absurd f
+not_kept_kept PortFailed f = absurd f
+not_kept_kept NotDone f = absurd f
+not_kept_kept (Unopened error) f = absurd f
+not_kept_kept (NotKept error) f = tt
 
--- ---- what is kept at the end
+-- who took all turns ends well, or by a change that isn't kept
+pub ended_well : (ended : Ended) → (ended ≡ Done) ⊎ IsNotKept ended → EndsKept ended
+ended_well ended (inl done) = subst EndsKept (sym done) tt
+ended_well ended (inr not) = not_kept_kept ended not
 
-pub kept_done : {N K : Type 0} (keeps : K → N → Type 0) (may_hold : K → N → N → Type 0) (ended : Ended) (n : N) (keeper : K) → ended ≡ Done
-    → StaysKept keeps may_hold ended n keeper → keeps keeper n
-kept_done keeps may_hold ended n keeper done stays = (subst (λ (e : Ended). StaysKept keeps may_hold e n keeper) done stays).1
+-- ---- by what its settings say of a store
 
-pub kept_without : {K : Type 0} (keeps : K → Server → Type 0) (store : Option (List ℕ)) (server : Server) → store ≡ None → IsKept keeps store server
-kept_without keeps store server none = subst (λ (s : Option (List ℕ)). IsKept keeps s server) (sym none) tt
+module _ {K : Type 0} (holds : List ℕ → List ResourceSetting → K → Tree → Type 0) (file_of : K → Option (List ℕ)) (keeps : K → Server → Type 0)
+    (may_hold : K → Server → Server → Type 0) (trusted : K → Type 0) (faults : K → ℕ) (too_long : Server → Type 0) where
+  pub kept_without : (store : Option (List ℕ)) (resources : List ResourceSetting) (tree : Tree) (ended : Ended) (before after : Tree) → store ≡ None → tree ≡ tree_of resources
+      → KeptBy holds file_of keeps may_hold trusted faults too_long store resources tree ended before after None
+  kept_without store resources tree ended before after none is =
+      subst (λ (s : Option (List ℕ)). KeptBy holds file_of keeps may_hold trusted faults too_long s resources tree ended before after None) (sym none) is
 
-pub kept_stored : {K : Type 0} (keeps : K → Server → Type 0) (store : Option (List ℕ)) (file : List ℕ) (server : Server) → store ≡ Some file
-    → SomeKeeps keeps server → IsKept keeps store server
-kept_stored keeps store file server some it = subst (λ (s : Option (List ℕ)). IsKept keeps s server) (sym some) it
+  kept_so : (file : List ℕ) (resources : List ResourceSetting) (tree : Tree) (ended : Ended) (before after : Tree) (keeper : Option K) → IsSome keeper
+      → IfSome keeper (IsKeptIn holds file_of keeps may_hold trusted faults too_long file resources tree ended before after)
+      → KeptBy holds file_of keeps may_hold trusted faults too_long (Some file) resources tree ended before after keeper
+  kept_so file resources tree ended before after None some it = absurd cc
+  kept_so file resources tree ended before after (Some keeper) some it = it
+
+  pub kept_stored : (store : Option (List ℕ)) (name file : List ℕ) (resources : List ResourceSetting) (tree : Tree) (ended : Ended) (before after : Tree) (keeper : Option K)
+      → store ≡ Some name → file ≡ name → IsSome keeper → IfSome keeper (IsKeptIn holds file_of keeps may_hold trusted faults too_long file resources tree ended before after)
+      → KeptBy holds file_of keeps may_hold trusted faults too_long store resources tree ended before after keeper
+  kept_stored store name file resources tree ended before after keeper is same some it =
+      subst (λ (s : Option (List ℕ)). KeptBy holds file_of keeps may_hold trusted faults too_long s resources tree ended before after keeper) (sym is)
+      (subst (λ (f : List ℕ). KeptBy holds file_of keeps may_hold trusted faults too_long (Some f) resources tree ended before after keeper) same
+      (kept_so file resources tree ended before after keeper some it))

@@ -1,29 +1,22 @@
 -- What ports tell over several turns, and how programs end.
-use Rattle.std.proofs.Common.{◌≡◌, ◌≢◌, ◌⊎◌, inl, inr, ◌+◌, ◌<◌, ℕ, add-one, subst, Bool, true, false, List, [], ◌∷◌, ◌++◌, Option, None, Some, refl, ap, sym, ◌∙◌, append_assoc, append-nil}
+use Rattle.std.proofs.Common.{◌≡◌, ◌≢◌, ◌+◌, ℕ, add-one, subst, Bool, true, false, List, Option, None, sym}
 use Rattle.osc_model.specs.declared.node.Moment.{Moment}
 use Rattle.osc_model.specs.declared.request.Request.{Request}
-use Rattle.osc_model.specs.declared.step.Datagram.{Datagram}
 use Rattle.osc_model.specs.declared.step.Step.{Step}
-use Rattle.osc_programs.specs.{IsFault, NoSettings, EndsNode, EndsTurns, EndsTold, EndsClient, CannotTalk, CannotAsk, Running, Runs, Shown, Turns, and_then}
-use Rattle.osc_log.specs.{Event, Tells, Told, turned}
+use Rattle.osc_programs.specs.{IsFault, NoSettings, EndsNode, EndsTurns, EndsTold, EndsClient, CannotTalk, CannotAsk, Shown, Turns, and_then}
+use Rattle.osc_programs.specs.Turning.{GoesOn}
 use Rattle.osc_log.specs.declared.held.Held.{Held}
 use Rattle.osc_run.specs.{Cause}
-use Rattle.osc_turn.specs.{IsOfSeed, IsSeeded, ClockAndRandomState, CameIn, IsRefusedIn, Received, grown}
-use Rattle.osc_programs.specs.Turning.{GoesOn}
+use Rattle.osc_turn.specs.{CameIn, Received}
+use Rattle.osc_turn.specs.Running.{Running}
 use Rattle.osc_programs.specs.Turning as turning
 use Rattle.osc_programs.specs.declared.ended.Ended.{Ended}
 use Rattle.osc_programs.specs.declared.ended.Ended.TheVariants.{Done, BadCommandLine, BadLine, TooLong, BadSettings, OutOfMemory, Failed, PortFailed, NotDone, Unopened, NotKept}
-use Rattle.osc_turn.specs.declared.error.TurnError.{TurnError}
 
 -- where a tick is due, nothing came
 pub came_in : (due : Bool) (came : Option Received) (before after : Option (List (Option Received))) → CameIn due came before after → due ≡ true → came ≡ None
 came_in true came before after c e = c.0
 came_in false came before after c e = absurd cc
-
--- where a tick is due, nothing is refused
-pub not_due : (due : Bool) (error : TurnError) (before after : Option (List (Option Received))) (failures failures_after : ℕ) → IsRefusedIn due error before after failures failures_after → due ≡ false
-not_due true error before after failures failures_after f = absurd f
-not_due false error before after failures failures_after f = refl
 
 -- ---- how programs end
 
@@ -237,47 +230,8 @@ told_client request (NotKept error) f = absurd f
 
 -- ---- turns
 
-pub grown_none : {A : Type 0} (told : Option (List A)) → told ≡ grown told []
-grown_none None = refl
-grown_none (Some items) = ap Some (sym (append-nil items))
-
--- one after another
-pub grown_more : {A : Type 0} (first between last : Option (List A)) (some more : List A) → between ≡ grown first some → last ≡ grown between more → last ≡ grown first (some ++ more)
-grown_more first between last some more e f = f ∙ ap (λ told. grown told more) e ∙ joined first
-  where
-    joined : (told : Option (List _)) → grown (grown told some) more ≡ grown told (some ++ more)
-    joined None = refl
-    joined (Some items) = ap Some (append_assoc items some more)
-
 -- one turn more
 pub one_more : {N : Type 0} (acts : N → Moment → Bool) (is_step : N → Cause → Step → N → Type 0) (held : N → Held) (n : ℕ) (first between last : Running N) (shown next : Shown)
     → Turns acts is_step held n first shown between → GoesOn acts is_step held between next last → Turns acts is_step held (n + 1) first (and_then shown next) last
 one_more acts is_step held n first between last shown next taken turn =
     subst (λ (k : ℕ). Turns acts is_step held k first (and_then shown next) last) (sym (add-one n)) (turning.more n first between last shown next taken turn)
-
--- who ended well took all turns, drew by this seed, and handed on all that they sent
-pub runs : {N : Type 0} (gave : List ℕ → Type 0) (acts : N → Moment → Bool) (is_step : N → Cause → Step → N → Type 0) (held : N → Held) (turns taken : ℕ) (old new : N) (start : ClockAndRandomState) (out : List Datagram) (events : List Event) (last : Running N) (ended : Ended)
-    (sent sent_after : Option (List Datagram))
-    → IsSeeded start → IsOfSeed gave start.generator → Turns acts is_step held taken (record { node = old; busy = None; supply = start }) (record { sent = out; events = events }) last → new ≡ last.node
-    → sent_after ≡ grown sent out
-    → ((ended ≡ Done) × (taken ≡ turns)) ⊎ ((ended ≢ Done) × (taken < turns)) → ended ≡ Done
-    → (all : Runs acts is_step held turns events old new) × IsOfSeed gave all.start.generator × (sent_after ≡ grown sent all.sent)
-runs gave acts is_step held turns taken old new start out events last ended sent sent_after seeded given all is_last handed (inl done) e = (
-  record {
-    start = start;
-    seeded = seeded;
-    sent = out;
-    last = last;
-    takes = subst (λ (n : ℕ). Turns acts is_step held n (record { node = old; busy = None; supply = start }) (record { sent = out; events = events }) last) done.1 all;
-    ends = is_last;
-  },
-  given,
-  handed,
-)
-runs gave acts is_step held turns taken old new start out events last ended sent sent_after seeded given all is_last handed (inr other) e = absurd (other.0 e)
-
--- a datagram came in the turn that was told, or none did
-pub tells_received : (old new : Told) (now : Moment) (a b : Bool) (step : Step) (held : Held) → a ≡ b
-    → Tells old new (turned (record { now = now; received = a; step = step }) held ∷ []) → Tells old new (turned (record { now = now; received = b; step = step }) held ∷ [])
-tells_received old new now a b step held same tells =
-    subst (λ (received : Bool). Tells old new (turned (record { now = now; received = received; step = step }) held ∷ [])) same tells

@@ -5,15 +5,16 @@ use Rattle.osc_model.specs.declared.node.Moment.{Moment}
 use Rattle.osc_model.specs.declared.request.Request.{Request}
 use Rattle.osc_model.specs.declared.step.ClientResult.{ClientResult}
 use Rattle.osc_model.specs.declared.step.ClientResult.TheVariants.{Made, Answer}
-use Rattle.osc_model.specs.declared.step.Datagram.{Datagram}
 use Rattle.osc_model.specs.declared.step.Step.{Step}
 use Rattle.osc_message.specs.{fresh}
 use Rattle.osc_client.specs.{Begins, Requests as Asks, acts_at, IsStep, HostAndPort}
 use Rattle.osc_client.specs.State.{State as Client}
 use Rattle.osc_words.specs.declared.settings.client.ClientSettings.{ClientSettings}
 use Rattle.osc_simulation.specs.{learnt_text, is_sealing, tag_of, line}
-use Rattle.osc_turn.specs.{Gives, IsSeeded, ClockAndRandomState}
-use Rattle.osc_programs.specs.Turning.{Running, TakesTurn}
+use Rattle.osc_turn.specs.{ClockAndRandomState, Gives, IsSeeded, Received}
+use Rattle.osc_programs.specs.System.{Passed, nothing_passed, then_passed}
+use Rattle.osc_turn.specs.Running.{Running}
+use Rattle.osc_programs.specs.Turning.{TakesTurn}
 use Rattle.osc_programs.specs.declared.asking.AskEnd.{AskEnd}
 use Rattle.osc_programs.specs.declared.asking.AskEnd.TheVariants.{Told, Open}
 use Rattle.osc_programs.specs.declared.ended.Ended.{Ended}
@@ -39,27 +40,31 @@ pub record Sends (request : Request) (old : Running Client) (step : Step) (new :
 
 -- ---- the outcome of them
 
--- the outcome of a client's steps: all that they sent, in order, and the last result, or none where it still waits
+-- the outcome of a client's steps: all that passed at its port, and the last result, or none where it still waits
 pub record Upshot : Type 0 where
-  pub sent : List Datagram
+  pub passed : Passed
   pub outcome : AskEnd
 
--- after what was sent before
-abbrev pub after_sending : List Datagram → Upshot → Upshot
-after_sending before upshot = record upshot { sent = before ++ upshot.sent }
+-- after what passed before
+abbrev pub after_passing : Passed → Upshot → Upshot
+after_passing before upshot = record upshot { passed = then_passed before upshot.passed }
 
--- this outcome, with nothing sent
+-- what a step sends that isn't taken for what a port gave
+abbrev pub sent_alone : Step → Passed
+sent_alone step = record { received = []; sent = step.out }
+
+-- this outcome, with nothing received and nothing sent
 abbrev pub at_once : AskEnd → Upshot
-at_once outcome = record { sent = []; outcome = outcome }
+at_once outcome = record { passed = nothing_passed; outcome = outcome }
 
 -- With this number of turns left it takes turns until it has learnt something, if it hasn't yet: the outcome, and how many turns are left
 -- then. It is `Open` where it still waits and no turn is left, and only there.
 pub data Waits : ℕ → Option ClientResult → Running Client → Upshot → ℕ → Running Client → Type 0 where
   told : (left : ℕ) (client : Running Client) (result : ClientResult) → Waits left (Some result) client (at_once (Told result)) left client
   still : (client : Running Client) → Waits 0 None client (at_once Open) 0 client
-  turns : (left rest : ℕ) (old next new : Running Client) (step : Step) (upshot : Upshot)
-      → TakesTurn acts_at (IsStep is_sealing) old step next → Waits left step.notes.result next upshot rest new
-      → Waits (suc left) None old (after_sending step.out upshot) rest new
+  turns : (left rest : ℕ) (old next new : Running Client) (received : List (Option Received)) (step : Step) (upshot : Upshot)
+      → TakesTurn acts_at (IsStep is_sealing) old received step next → Waits left step.notes.result next upshot rest new
+      → Waits (suc left) None old (after_passing (record { received = received; sent = step.out }) upshot) rest new
 
 -- It sends its request, and what it learns of that is last.
 pub record Requests (left : ℕ) (request : Request) (old : Running Client) (upshot : Upshot) (new : Running Client) : Type 0 where
@@ -69,7 +74,7 @@ pub record Requests (left : ℕ) (request : Request) (old : Running Client) (ups
   pub waited : Upshot
   pub rest : ℕ
   pub waits : Waits left step.notes.result begun waited rest new
-  pub is : upshot ≡ after_sending step.out waited
+  pub is : upshot ≡ after_passing (sent_alone step) waited
 
 -- By what it learnt of its post: a context lets it send its request.
 abbrev pub GoesOnBy : ℕ → Request → ClientResult → Running Client → Upshot → Running Client → Type 0
@@ -91,15 +96,15 @@ pub record Converses (turns : ℕ) (request : Request) (old : Running Client) (u
   pub waits : Waits turns step.notes.result begun exchanged left between
   pub further : Upshot
   pub goes_on : GoesOn left request exchanged.outcome between further new
-  pub is : upshot ≡ after_sending step.out (after_sending exchanged.sent further)
+  pub is : upshot ≡ after_passing (sent_alone step) (after_passing exchanged.passed further)
 
 -- the same from the start on
 pub record Talks (turns : ℕ) (request : Request) (old : Client) (outcome : AskEnd) (new : Client) : Type 0 where
   pub start : ClockAndRandomState
   pub seeded : IsSeeded start
-  pub sent : List Datagram
+  pub passed : Passed
   pub last : Running Client
-  pub talks : Converses turns request (record { node = old; busy = None; supply = start }) (record { sent = sent; outcome = outcome }) last
+  pub talks : Converses turns request (record { node = old; busy = None; supply = start }) (record { passed = passed; outcome = outcome }) last
   pub ends : new ≡ last.node
 
 -- ---- the client at first, and what is told at last

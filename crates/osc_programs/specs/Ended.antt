@@ -80,6 +80,11 @@ abbrev pub EndsTurns : Ended → Type 0
 EndsTurns Done = Unit {0}
 EndsTurns other = IsFault other
 
+-- a change isn't kept
+abbrev pub IsNotKept : Ended → Type 0
+IsNotKept (NotKept error) = Unit {0}
+IsNotKept other = ⊥
+
 -- a turn of a node whose steps are kept fails
 abbrev pub EndsUnkept : Ended → Type 0
 EndsUnkept (NotKept error) = Unit {0}
@@ -99,6 +104,11 @@ NotOpened other = IsFault other
 abbrev pub NoStore : Ended → Type 0
 NoStore (NotKept error) = Unit {0}
 NoStore other = NotOpened other
+
+-- a server has no settings, or its store isn't opened
+abbrev pub NoServer : Ended → Type 0
+NoServer BadSettings = Unit {0}
+NoServer other = NoStore other
 
 -- a server's turns, with a store or without
 abbrev pub EndsServing : Ended → Type 0
@@ -129,6 +139,22 @@ CannotTalk request other = IsFault other
 abbrev pub CannotAsk : Request → Ended → Type 0
 CannotAsk request BadSettings = Unit {0}
 CannotAsk request other = CannotTalk request other
+
+-- a client that sends many requests can't go on
+abbrev pub CannotTalkEach : Ended → Type 0
+CannotTalkEach BadCommandLine = Unit {0}
+CannotTalkEach other = IsFault other
+
+-- or it can't begin
+abbrev pub CannotAskEach : Ended → Type 0
+CannotAskEach BadSettings = Unit {0}
+CannotAskEach other = CannotTalkEach other
+
+-- `osc client --requests`
+abbrev pub EndsEach : Ended → Type 0
+EndsEach Done = Unit {0}
+EndsEach NotDone = Unit {0}
+EndsEach other = CannotAskEach other
 
 -- the outcome was told, or not
 abbrev pub EndsTold : Ended → Type 0

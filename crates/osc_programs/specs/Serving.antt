@@ -1,5 +1,5 @@
 -- What `osc server` and `osc proxy` do: the node of the settings takes its turns.
-use Rattle.std.specs.Prelude.{◌≡◌, ◌||◌, ℕ, Bool, true, bytes_eq, List, [], Some, fold, map, replicate}
+use Rattle.std.specs.Prelude.{◌≡◌, ◌||◌, ℕ, Bool, true, bytes_eq, List, [], Option, Some, None, fold, map, replicate}
 use Rattle.std.specs.Option.{option_eq}
 use Rattle.std.specs.FinMap as map
 use Rattle.std.specs.FinSet as set
@@ -9,6 +9,7 @@ use Rattle.osc_model.specs.Tree.{Tree}
 use Rattle.osc_model.specs.declared.code.Method.TheVariants.{Get}
 use Rattle.osc_model.specs.declared.node.Moment.{Moment}
 use Rattle.osc_model.specs.declared.node.Peer.{Peer}
+use Rattle.osc_model.specs.declared.step.Datagram.{Datagram}
 use Rattle.osc_log.specs.{Event}
 use Rattle.osc_message.specs.{fresh, fresh_with}
 use Rattle.osc_proxy.specs.{none_open, IsStep as IsStepOfProxy, acts as proxy_acts_at}
@@ -21,8 +22,11 @@ use Rattle.osc_words.specs.declared.settings.proxy.TargetSetting.{TargetSetting}
 use Rattle.osc_words.specs.declared.settings.resource.ResourceSetting.{ResourceSetting}
 use Rattle.osc_words.specs.declared.settings.server.ServerSettings.{ServerSettings}
 use Rattle.osc_simulation.specs.{is_sealing}
+use Rattle.osc_turn.specs.{Received}
 use Rattle.osc_programs.specs.Holding.{proxy_held, server_held}
-use Rattle.osc_programs.specs.Turning.{Runs}
+use Rattle.osc_programs.specs.Revoking.{AreRevoked, Stops, with_revoked}
+use Rattle.osc_programs.specs.Turning.{Ran}
+use Rattle.osc_programs.specs.declared.ended.Ended.{Ended}
 
 -- ---- their addresses
 
@@ -67,16 +71,23 @@ pub record IsProxyOf (settings : ProxySettings) (proxy : Proxy) : Type 0 where
 abbrev pub proxy_acts : Proxy → Moment → Bool
 proxy_acts proxy now = proxy_acts_at now proxy
 
--- The server of these settings, with these resources at first, takes this number of turns, and this there is to tell of them.
-pub record Serves (settings : ServerSettings) (tree : Tree) (turns : ℕ) (events : List Event) : Type 0 where
-  pub first : Server
-  pub last : Server
-  pub is_server : IsServerOf settings tree first
-  pub runs : Runs server_acts (IsStepOfServer is_sealing) server_held turns events first last
+module _ {P : Type 0} (gave : List ℕ → Type 0) (opened : List Peer → Option Peer → P → Type 0) (received_by : P → Option (List (Option Received))) (sent_by : P → Option (List Datagram)) where
+  -- What a server of these settings did that began with these resources and was to take this number of turns, until it ended so, whatever ended it:
+  -- what there is to tell of that, and the resources after the last turn, and after all that it did.
+  pub data Lives (settings : ServerSettings) (tree : Tree) (turns : ℕ) : Ended → List Event → Tree → Tree → Type 0 where
+    -- it came no further than the tokens of ids that its settings revoke
+    revoking : (ended : Ended) (before after : Tree) → Stops settings.revoked settings.revoked_ids.items tree ended before after
+        → Lives settings tree turns ended [] before after
+    -- the tokens of all of them are revoked, and then it took turns
+    serving : (ended : Ended) (events : List Event) (first before after : Server) → IsServerOf settings (with_revoked settings.revoked settings.revoked_ids.items tree) first
+        → AreRevoked settings.revoked first.tree settings.revoked_ids.items
+        → Ran gave (opened settings.bind.items None) received_by sent_by server_acts (IsStepOfServer is_sealing) server_held turns first ended events before after
+        → Lives settings tree turns ended events before.tree after.tree
 
--- The proxy of these settings takes this number of turns, and this there is to tell of them.
-pub record Forwards (settings : ProxySettings) (turns : ℕ) (events : List Event) : Type 0 where
-  pub first : Proxy
-  pub last : Proxy
-  pub is_proxy : IsProxyOf settings first
-  pub runs : Runs proxy_acts IsStepOfProxy proxy_held turns events first last
+  -- What a proxy of these settings did that was to take this number of turns, until it ended so, and what there is to tell of that.
+  pub record Forwards (settings : ProxySettings) (turns : ℕ) (ended : Ended) (events : List Event) : Type 0 where
+    pub first : Proxy
+    pub is_proxy : IsProxyOf settings first
+    pub before : Proxy
+    pub last : Proxy
+    pub ran : Ran gave (opened settings.bind.items None) received_by sent_by proxy_acts IsStepOfProxy proxy_held turns first ended events before last

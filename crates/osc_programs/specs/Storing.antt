@@ -1,5 +1,6 @@
 -- The store of a server: what it begins with, and what of it is listed.
-use Rattle.std.specs.Prelude.{◌≡◌, ◌==◌, ◌||◌, ℕ, Bool, List, [], ◌++◌, Option, Some, None, ⊤, if◌then◌else◌, codes, decimal, drop}
+use Rattle.std.specs.Prelude.{◌≡◌, ◌==◌, ◌||◌, ℕ, Bool, List, [], ◌++◌, Option, Some, None, true, if◌then◌else◌, codes, decimal, drop}
+use Rattle.std.proofs.Common.{subst, subst₂}
 use Rattle.std.specs.Char.{encode_utf8, is_control}
 use Rattle.std.specs.Int.{to_be_bytes, w16}
 use Rattle.std.specs.List.{flat_map}
@@ -12,12 +13,14 @@ use Rattle.sqlite_wal.specs.Recovery.{Image}
 use Rattle.osc_model.specs.Tree.{Tree}
 use Rattle.osc_model.specs.declared.resource.Resource.{Resource}
 use Rattle.osc_words.specs.declared.settings.resource.ResourceSetting.{ResourceSetting}
-use Rattle.osc_words.specs.declared.settings.server.ServerSettings.{ServerSettings}
 use Rattle.osc_server.specs.State.{State as Server}
 use Rattle.osc_simulation.specs.{line}
-use Rattle.osc_store.specs.{FindsTree, Keeps}
+use Rattle.osc_store.specs.{FindsTree, Keeps, MayLeave}
 use Rattle.osc_programs.specs.Checked.{resource_line}
+use Rattle.osc_programs.specs.Kept.{HasCause, LeavesKept}
+use Rattle.osc_programs.specs.Revoking.{IsTooLongIn, KeepsTree, MayHoldTree}
 use Rattle.osc_programs.specs.Serving.{tree_of}
+use Rattle.osc_programs.specs.declared.ended.Ended.{Ended}
 
 -- A store was opened over files that read so: they are found as this tree, and whatever a crash leaves from now on, the next start finds it.
 -- So it is as long as no wrong answer of the disk was taken as true.
@@ -25,22 +28,38 @@ pub record IsOpened {S : Type 0} (view : S → View) (recovers : S → Trees →
   pub found : IsClean (view it) → FindsTree image tree
   pub kept : IsClean (view it) → Keeps view recovers it tree
 
--- what a server begins with: what the store in its file was opened with, or without one the resources of its settings
-abbrev pub BeginsBy : {K : Type 0} → (List ℕ → List ResourceSetting → K → Tree → Type 0) → Option (List ℕ) → List ResourceSetting → Tree → Type 0
-BeginsBy opened None resources tree = tree ≡ tree_of resources
-BeginsBy {K} opened (Some file) resources tree = (keeper : K) × opened file resources keeper tree
+-- The store in the file of this name was opened so. Where it was made first, it has the first resources.
+pub record IsStoreAt {S : Type 0} (view : S → View) (recovers : S → Trees → Type 0) (image : Image) (file : List ℕ) (first : List ResourceSetting)
+    (it : S) (own : List ℕ) (made : Bool) (tree : Tree) : Type 0 where
+  pub name : own ≡ file
+  pub opened : IsOpened view recovers image it tree
+  pub as_made : made ≡ true → tree ≡ tree_of first
 
-abbrev pub BeginsWith : {K : Type 0} → (List ℕ → List ResourceSetting → K → Tree → Type 0) → ServerSettings → Tree → Type 0
-BeginsWith opened settings tree = BeginsBy opened settings.store settings.resources.items tree
+-- what keeps some resources keeps those that are the same
+pub keeps_same : {S : Type 0} (view : S → View) (recovers : S → Trees → Type 0) (it : S) (one other : Tree) → one ≡ other → Keeps view recovers it one → Keeps view recovers it other
+keeps_same view recovers it one other same keeps = subst (Keeps view recovers it) same keeps
 
--- what keeps the changes of a server keeps its resources: whatever a crash leaves from now on, the next start finds them
-abbrev pub SomeKeeps : {K : Type 0} → (K → Server → Type 0) → Server → Type 0
-SomeKeeps {K} keeps server = (keeper : K) × keeps keeper server
+pub leaves_same : {S : Type 0} (view : S → View) (recovers : S → Trees → Type 0) (it : S) (before one after other : Tree) → before ≡ one → after ≡ other
+    → MayLeave view recovers it before after → MayLeave view recovers it one other
+leaves_same view recovers it before one after other same too leaves = subst₂ (MayLeave view recovers it) same too leaves
 
--- so it is of a server whose settings name a store; without one nothing is kept
-abbrev pub IsKept : {K : Type 0} → (K → Server → Type 0) → Option (List ℕ) → Server → Type 0
-IsKept keeps None server = ⊤
-IsKept keeps (Some file) server = SomeKeeps keeps server
+module _ {K : Type 0} (holds : List ℕ → List ResourceSetting → K → Tree → Type 0) (file_of : K → Option (List ℕ)) (keeps : K → Server → Type 0) (may_hold : K → Server → Server → Type 0) (trusted : K → Type 0) (faults : K → ℕ) (too_long : Server → Type 0) where
+  -- What keeps the changes of a server that ended so is the store in the file of this name, which was opened with the resources that the server began
+  -- with. Whatever a crash leaves, the next start finds those after all that the server did; or where a change isn't kept, which has a cause, those
+  -- before it or after it.
+  pub record IsKeptIn (file : List ℕ) (resources : List ResourceSetting) (tree : Tree) (ended : Ended) (before after : Tree) (keeper : K) : Type 0 where
+    pub opened : K
+    pub begun : holds file resources opened tree
+    pub is_file : file_of keeper ≡ Some file
+    pub kept : LeavesKept (KeepsTree keeps) (MayHoldTree may_hold) ended before after keeper
+    pub cause : HasCause trusted faults (IsTooLongIn too_long after) opened keeper ended
+
+  -- So it is where the settings name a store. Without one nothing keeps them, and the server began with the resources of its settings.
+  abbrev pub KeptBy : Option (List ℕ) → List ResourceSetting → Tree → Ended → Tree → Tree → Option K → Type 0
+  KeptBy None resources tree ended before after None = tree ≡ tree_of resources
+  KeptBy None resources tree ended before after (Some keeper) = ⊥
+  KeptBy (Some file) resources tree ended before after None = ⊥
+  KeptBy (Some file) resources tree ended before after (Some keeper) = IsKeptIn file resources tree ended before after keeper
 
 -- ---- `osc store`
 

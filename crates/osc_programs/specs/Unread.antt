@@ -1,5 +1,5 @@
 -- Why settings are none, as the log tells it before `settings: bad`: the key and what should be there, never what is there.
-use Rattle.std.specs.Prelude.{◌≡◌, ◌≢◌, ◌⊎◌, ℕ, List, ◌++◌, map, Option, Some, IfSome, codes, decimal}
+use Rattle.std.specs.Prelude.{◌≡◌, ◌≢◌, ◌⊎◌, ℕ, List, ◌++◌, map, Option, Some, None, IfSome, codes, decimal}
 use Rattle.std.specs.Str.{IsUtf8}
 use Rattle.toml.specs.Data.{Members}
 use Rattle.osc_log.specs.{IsUnreadText as Unread, Told, Writes, shown_byte}
@@ -29,9 +29,9 @@ why_text Memory = codes "out of memory"
 abbrev pub unread_words : SettingsError → List ℕ
 unread_words why = codes "settings: " ++ why_text why
 
--- their line in this form, or that there was no memory for it
+-- their line in this form, or that there was no memory for it or for them
 abbrev pub IsUnreadText : Form → SettingsError → List ℕ → Type 0
-IsUnreadText form why text = Unread form (Some (unread_words why)) text
+IsUnreadText form why text = Unread form (Some (unread_words why)) text ⊎ Unread form None text
 
 -- that they are too many
 abbrev pub long_words : List ℕ

@@ -1,11 +1,10 @@
 //! A client that runs on a socket: one exchange, and one protected request.
-ghost use Rattle.std.specs.Prelude.{◌≡◌, ◌⊎◌, ◌+◌, ◌∷◌, [], List, IfErr, IfOk, IfSome, None, Some, option_map, string_bytes};
+ghost use Rattle.std.specs.Prelude.{◌≡◌, ◌≢◌, ◌⊎◌, ◌+◌, ◌∷◌, [], Err, List, IfErr, IfOk, IfSome, None, Option, Some, option_map, string_bytes};
 ghost use Rattle.std.specs.Io.KnownBytes.{Appends};
 ghost use Rattle.osc_client.specs.{acts_at, IsStep, HostAndPort};
 ghost use Rattle.osc_client.specs.State.{State as AnyClient};
-ghost use Rattle.osc_model.specs.declared.step.Datagram.{Datagram as AnyDatagram};
 ghost use Rattle.osc_model.specs.declared.step.Step.{Step as AnyStep};
-ghost use Rattle.osc_turn.specs.{grown};
+ghost use Rattle.osc_turn.specs.{Received};
 ghost use Rattle.osc_programs.specs.Unread.{TellsWhy};
 ghost use Rattle.osc_words.specs.Settings.{StandsFor, AreClientSettings, IsClientFault, IsKeyFault};
 ghost use Rattle.osc_words.specs.declared.settings.client.ClientSettings.{ClientSettings as AnySettings};
@@ -14,12 +13,15 @@ ghost use Rattle.osc_programs.specs.Conversation as spec;
 ghost use Rattle.osc_programs.specs.Ended as ends;
 ghost use Rattle.osc_programs.specs.Input.{IsWithin, TakesAtMost, longest_settings};
 ghost use Rattle.osc_programs.specs.System as system;
+ghost use Rattle.osc_programs.specs.System.{Passed as AnyPassed};
 ghost use Rattle.osc_programs.specs.Turning as turning;
+ghost use Rattle.osc_programs.specs.Written.{IsBegun};
 ghost use Rattle.osc_programs.specs.declared.asking.AskEnd.{AskEnd as AnyOutcome};
 
 use crate::ended::Ended;
 use crate::issue::written;
 use crate::reading::client_settings;
+use crate::requests::tell_end;
 use crate::running::{copy_of, opened, send, tell_failure};
 use crate::supply::{moment_and_draw, supply_of};
 use crate::turns::take_turn;
@@ -60,7 +62,7 @@ pub fn ask<R: Clock + Eprint + Seeds + Sockets, I: Read, L: Log, W: Write>(
     ensures told { (result ≡ Ended.Done) ⊎ (result ≡ Ended.NotDone) → (first last : AnyClient) × (outcome : AnyOutcome) × (settings : AnySettings)
         × IfSome (I.remaining reader.old) (λ text. StandsFor AreClientSettings text settings) × spec.IsClientOf settings first
         × (talks : spec.Talks words.now.turns words.now.request first outcome last)
-        × system.RunsOn (R.gave runtime.now) (R.opened runtime.now (settings.bind ∷ []) (Some settings.peer)) R.Socket.sent talks.start talks.sent
+        × system.RunsOn (R.gave runtime.now) (R.opened runtime.now (settings.bind ∷ []) (Some settings.peer)) R.Socket.received R.Socket.sent talks.start talks.passed
         × (result ≡ spec.ended_by_outcome outcome) × Appends (W.contents writer.old) (W.contents writer.new) (spec.printed_text words.now.raw outcome) }
     ensures bad { result ≡ Ended.BadSettings → TellsWhy (λ document. IsKeyFault (IsClientFault document)) (I.remaining reader.old) (L.told log.old) (L.told log.new) }
     ensures short { (result ≡ Ended.Done) ⊎ (result ≡ Ended.NotDone) → IsWithin longest_settings (I.remaining reader.old) }
@@ -87,9 +89,11 @@ fn tell_aside<R: Eprint>(alloc: Global, runtime: &R, raw: bool, outcome: &AskEnd
     }
 }
 
-fn told<W: Write>(alloc: Global, writer: &mut W, raw: bool, outcome: &AskEnd) -> Ended
+pub(crate) fn told<W: Write>(alloc: Global, writer: &mut W, raw: bool, outcome: &AskEnd) -> Ended
     ensures told { (result ≡ Ended.Done) ⊎ (result ≡ Ended.NotDone) → (result ≡ spec.ended_by_outcome outcome.now)
         × Appends (W.contents writer.old) (W.contents writer.new) (spec.printed_text raw outcome.now) }
+    ensures cut { result ≡ Ended.OutOfMemory → Appends (W.contents writer.old) (W.contents writer.new) [] }
+    ensures begun { result ≡ Ended.Failed → IsBegun (spec.printed_text raw outcome.now) (W.contents writer.old) (W.contents writer.new) }
     ensures ends { ends.EndsTold result }
 {
     let Ok(text) = printed(alloc, raw, outcome) else {
@@ -121,7 +125,7 @@ fn payload_of(outcome: &AskEnd) -> &[u8]
     }
 }
 
-fn outcome_line(alloc: Global, outcome: &AskEnd) -> Result<String, AllocError>
+pub(crate) fn outcome_line(alloc: Global, outcome: &AskEnd) -> Result<String, AllocError>
     ensures { IfOk result (λ line. string_bytes line ≡ spec.outcome_text outcome.now) }
 {
     match outcome {
@@ -155,7 +159,7 @@ fn outcome_of<R: Clock + Eprint + Seeds + Sockets, I: Read, L: Log>(
     ensures talks { IfOk result (λ outcome. (first last : AnyClient) × (settings : AnySettings)
         × IfSome (I.remaining reader.old) (λ text. StandsFor AreClientSettings text settings) × spec.IsClientOf settings first
         × (talks : spec.Talks words.now.turns words.now.request first outcome last)
-        × system.RunsOn (R.gave runtime.now) (R.opened runtime.now (settings.bind ∷ []) (Some settings.peer)) R.Socket.sent talks.start talks.sent) }
+        × system.RunsOn (R.gave runtime.now) (R.opened runtime.now (settings.bind ∷ []) (Some settings.peer)) R.Socket.received R.Socket.sent talks.start talks.passed) }
     ensures bad { IfErr result (λ ended. ended ≡ Ended.BadSettings → TellsWhy (λ document. IsKeyFault (IsClientFault document)) (I.remaining reader.old) (L.told log.old) (L.told log.new)) }
     ensures short { IfOk result (λ _. IsWithin longest_settings (I.remaining reader.old)) }
     ensures end { TakesAtMost (longest_settings + 1) (I.remaining reader.old) (I.remaining reader.new) }
@@ -169,7 +173,7 @@ fn outcome_of<R: Clock + Eprint + Seeds + Sockets, I: Read, L: Log>(
 }
 
 // A client with this grant. Settings have the lengths that a grant and an origin need.
-fn client_of(alloc: Global, settings: ClientSettings) -> Result<Client, Ended>
+pub(crate) fn client_of(alloc: Global, settings: ClientSettings) -> Result<Client, Ended>
     ensures client { IfOk result (λ client. spec.IsClientOf settings client) }
     ensures fault { IfErr result ends.IsFault }
 {
@@ -214,10 +218,10 @@ fn origin_of(named: Option<(Bytes, u16)>) -> Result<Option<Origin>, Ended>
 
 // A client that runs in a program: itself, the pace that it keeps, and what hands it moments and draws.
 #[derive(Drop)]
-struct Talking<W: Watch + Drop> {
-    client: Client,
-    pace: Pace,
-    supply: ClockAndRandom<W>,
+pub(crate) struct Talking<W: Watch + Drop> {
+    pub client: Client,
+    pub pace: Pace,
+    pub supply: ClockAndRandom<W>,
 }
 
 // The client's conversation at its own address, with the peer that everything goes to.
@@ -230,7 +234,7 @@ fn run_at<R: Clock + Eprint + Seeds + Sockets>(
     words: &ClientWords,
 ) -> Result<AskEnd, Ended>
     ensures talks { IfOk result (λ outcome. (last : AnyClient) × (talks : spec.Talks words.now.turns words.now.request client outcome last)
-        × system.RunsOn (R.gave runtime.now) (R.opened runtime.now (bind ∷ []) (Some peer)) R.Socket.sent talks.start talks.sent) }
+        × system.RunsOn (R.gave runtime.now) (R.opened runtime.now (bind ∷ []) (Some peer)) R.Socket.received R.Socket.sent talks.start talks.passed) }
     ensures ends { IfErr result (ends.CannotTalk words.now.request) }
 {
     let mut port = opened(alloc, runtime, &[bind], Some(peer))?;
@@ -242,6 +246,7 @@ fn run_at<R: Clock + Eprint + Seeds + Sockets>(
     };
     let outcome = run(alloc, &mut port, &mut talking, words);
     tell_failure(alloc, runtime, &port);
+    tell_end(alloc, runtime, &talking.client, &outcome);
     outcome
 }
 
@@ -252,9 +257,9 @@ fn run<W: Watch + Drop, P: Port>(
     talking: &mut Talking<W>,
     words: &ClientWords,
 ) -> Result<AskEnd, Ended>
-    ensures converses { IfOk result (λ outcome. (sent : List AnyDatagram)
-        × spec.Converses words.now.turns words.now.request (record { node = talking.old.client; busy = talking.old.pace.busy_since; supply = talking.old.supply }) (record { sent = sent; outcome = outcome }) (record { node = talking.new.client; busy = talking.new.pace.busy_since; supply = talking.new.supply })
-        × (P.sent port.new ≡ grown (P.sent port.old) sent)) }
+    ensures converses { IfOk result (λ outcome. (passed : AnyPassed)
+        × spec.Converses words.now.turns words.now.request (record { node = talking.old.client; busy = talking.old.pace.busy_since; supply = talking.old.supply }) (record { passed = passed; outcome = outcome }) (record { node = talking.new.client; busy = talking.new.pace.busy_since; supply = talking.new.supply })
+        × system.Passes P.received P.sent port.old port.new passed) }
     ensures ends { IfErr result (ends.CannotTalk words.now.request) }
 {
     let mut turns = words.turns;
@@ -272,9 +277,9 @@ fn go_on<W: Watch + Drop, P: Port>(
     words: &ClientWords,
     exchanged: AskEnd,
 ) -> Result<AskEnd, Ended>
-    ensures goes_on { IfOk result (λ outcome. (sent : List AnyDatagram)
-        × spec.GoesOn turns.old words.now.request exchanged (record { node = talking.old.client; busy = talking.old.pace.busy_since; supply = talking.old.supply }) (record { sent = sent; outcome = outcome }) (record { node = talking.new.client; busy = talking.new.pace.busy_since; supply = talking.new.supply })
-        × (P.sent port.new ≡ grown (P.sent port.old) sent)) }
+    ensures goes_on { IfOk result (λ outcome. (passed : AnyPassed)
+        × spec.GoesOn turns.old words.now.request exchanged (record { node = talking.old.client; busy = talking.old.pace.busy_since; supply = talking.old.supply }) (record { passed = passed; outcome = outcome }) (record { node = talking.new.client; busy = talking.new.pace.busy_since; supply = talking.new.supply })
+        × system.Passes P.received P.sent port.old port.new passed) }
     ensures ends { IfErr result (ends.CannotTalk words.now.request) }
 {
     match exchanged {
@@ -292,9 +297,9 @@ fn go_on_by<W: Watch + Drop, P: Port>(
     words: &ClientWords,
     told: ClientResult,
 ) -> Result<AskEnd, Ended>
-    ensures goes_on { IfOk result (λ outcome. (sent : List AnyDatagram)
-        × spec.GoesOnBy turns.old words.now.request told (record { node = talking.old.client; busy = talking.old.pace.busy_since; supply = talking.old.supply }) (record { sent = sent; outcome = outcome }) (record { node = talking.new.client; busy = talking.new.pace.busy_since; supply = talking.new.supply })
-        × (P.sent port.new ≡ grown (P.sent port.old) sent)) }
+    ensures goes_on { IfOk result (λ outcome. (passed : AnyPassed)
+        × spec.GoesOnBy turns.old words.now.request told (record { node = talking.old.client; busy = talking.old.pace.busy_since; supply = talking.old.supply }) (record { passed = passed; outcome = outcome }) (record { node = talking.new.client; busy = talking.new.pace.busy_since; supply = talking.new.supply })
+        × system.Passes P.received P.sent port.old port.new passed) }
     ensures ends { IfErr result (ends.CannotTalk words.now.request) }
 {
     match told {
@@ -311,9 +316,9 @@ fn ask_and_wait<W: Watch + Drop, P: Port>(
     turns: &mut u64,
     words: &ClientWords,
 ) -> Result<AskEnd, Ended>
-    ensures requests { IfOk result (λ outcome. (sent : List AnyDatagram)
-        × spec.Requests turns.old words.now.request (record { node = talking.old.client; busy = talking.old.pace.busy_since; supply = talking.old.supply }) (record { sent = sent; outcome = outcome }) (record { node = talking.new.client; busy = talking.new.pace.busy_since; supply = talking.new.supply })
-        × (P.sent port.new ≡ grown (P.sent port.old) sent)) }
+    ensures requests { IfOk result (λ outcome. (passed : AnyPassed)
+        × spec.Requests turns.old words.now.request (record { node = talking.old.client; busy = talking.old.pace.busy_since; supply = talking.old.supply }) (record { passed = passed; outcome = outcome }) (record { node = talking.new.client; busy = talking.new.pace.busy_since; supply = talking.new.supply })
+        × system.Passes P.received P.sent port.old port.new passed) }
     ensures ends { IfErr result (ends.CannotTalk words.now.request) }
 {
     let learnt = send_request(alloc, port, talking, &words.request)?;
@@ -321,13 +326,13 @@ fn ask_and_wait<W: Watch + Drop, P: Port>(
 }
 
 // Posts the token.
-fn post<W: Watch + Drop, P: Port>(
+pub(crate) fn post<W: Watch + Drop, P: Port>(
     alloc: Global,
     port: &mut P,
     talking: &mut Talking<W>,
 ) -> Result<Option<ClientResult>, Ended>
     ensures posts { IfOk result (λ learnt. (step : AnyStep) × spec.Posts (record { node = talking.old.client; busy = talking.old.pace.busy_since; supply = talking.old.supply }) step (record { node = talking.new.client; busy = talking.new.pace.busy_since; supply = talking.new.supply })
-        × (step.notes.result ≡ learnt) × (P.sent port.new ≡ grown (P.sent port.old) step.out)) }
+        × (step.notes.result ≡ learnt) × system.Passes P.received P.sent port.old port.new (spec.sent_alone step)) }
     ensures fault { IfErr result ends.IsFault }
 {
     let (now, draw) = moment_and_draw(&mut talking.supply)?;
@@ -338,14 +343,14 @@ fn post<W: Watch + Drop, P: Port>(
 }
 
 // Sends the request, protected. One with the code 0.00 is no request.
-fn send_request<W: Watch + Drop, P: Port>(
+pub(crate) fn send_request<W: Watch + Drop, P: Port>(
     alloc: Global,
     port: &mut P,
     talking: &mut Talking<W>,
     request: &Request,
 ) -> Result<Option<ClientResult>, Ended>
     ensures sends { IfOk result (λ learnt. (step : AnyStep) × spec.Sends request.now (record { node = talking.old.client; busy = talking.old.pace.busy_since; supply = talking.old.supply }) step (record { node = talking.new.client; busy = talking.new.pace.busy_since; supply = talking.new.supply })
-        × (step.notes.result ≡ learnt) × (P.sent port.new ≡ grown (P.sent port.old) step.out)) }
+        × (step.notes.result ≡ learnt) × system.Passes P.received P.sent port.old port.new (spec.sent_alone step)) }
     ensures ends { IfErr result (ends.CannotTalk request.now) }
 {
     if request.code.0 == 0 {
@@ -361,7 +366,7 @@ fn send_request<W: Watch + Drop, P: Port>(
 // Sends what the step sends: what the client learnt by it, if it did.
 fn sent<P: Port>(port: &mut P, step: Step) -> Result<Option<ClientResult>, Ended>
     ensures learnt { IfOk result (λ learnt. learnt ≡ step.notes.result) }
-    ensures sent { IfOk result (λ _. P.sent port.new ≡ grown (P.sent port.old) step.out) }
+    ensures passed { IfOk result (λ _. system.Passes P.received P.sent port.old port.new (spec.sent_alone step)) }
     ensures fault { IfErr result ends.IsFault }
 {
     let learnt = sent_by(port, &step);
@@ -372,7 +377,7 @@ fn sent<P: Port>(port: &mut P, step: Step) -> Result<Option<ClientResult>, Ended
 // The same of a step that somebody else drops.
 fn sent_by<P: Port>(port: &mut P, step: &Step) -> Result<Option<ClientResult>, Ended>
     ensures learnt { IfOk result (λ learnt. learnt ≡ step.now.notes.result) }
-    ensures sent { IfOk result (λ _. P.sent port.new ≡ grown (P.sent port.old) step.now.out) }
+    ensures passed { IfOk result (λ _. system.Passes P.received P.sent port.old port.new (spec.sent_alone step.now)) }
     ensures fault { IfErr result ends.IsFault }
 {
     send(port, &step.out)?;
@@ -380,16 +385,16 @@ fn sent_by<P: Port>(port: &mut P, step: &Step) -> Result<Option<ClientResult>, E
 }
 
 // Turns until the client has learnt something, if it hasn't yet.
-fn awaited<W: Watch + Drop, P: Port>(
+pub(crate) fn awaited<W: Watch + Drop, P: Port>(
     alloc: Global,
     port: &mut P,
     talking: &mut Talking<W>,
     turns: &mut u64,
     learnt: Option<ClientResult>,
 ) -> Result<AskEnd, Ended>
-    ensures waits { IfOk result (λ outcome. (sent : List AnyDatagram)
-        × spec.Waits turns.old learnt (record { node = talking.old.client; busy = talking.old.pace.busy_since; supply = talking.old.supply }) (record { sent = sent; outcome = outcome }) turns.new (record { node = talking.new.client; busy = talking.new.pace.busy_since; supply = talking.new.supply })
-        × (P.sent port.new ≡ grown (P.sent port.old) sent)) }
+    ensures waits { IfOk result (λ outcome. (passed : AnyPassed)
+        × spec.Waits turns.old learnt (record { node = talking.old.client; busy = talking.old.pace.busy_since; supply = talking.old.supply }) (record { passed = passed; outcome = outcome }) turns.new (record { node = talking.new.client; busy = talking.new.pace.busy_since; supply = talking.new.supply })
+        × system.Passes P.received P.sent port.old port.new passed) }
     ensures fault { IfErr result ends.IsFault }
 {
     match learnt {
@@ -405,9 +410,9 @@ fn wait<W: Watch + Drop, P: Port>(
     talking: &mut Talking<W>,
     turns: &mut u64,
 ) -> Result<AskEnd, Ended>
-    ensures waits { IfOk result (λ outcome. (sent : List AnyDatagram)
-        × spec.Waits turns.old None (record { node = talking.old.client; busy = talking.old.pace.busy_since; supply = talking.old.supply }) (record { sent = sent; outcome = outcome }) turns.new (record { node = talking.new.client; busy = talking.new.pace.busy_since; supply = talking.new.supply })
-        × (P.sent port.new ≡ grown (P.sent port.old) sent)) }
+    ensures waits { IfOk result (λ outcome. (passed : AnyPassed)
+        × spec.Waits turns.old None (record { node = talking.old.client; busy = talking.old.pace.busy_since; supply = talking.old.supply }) (record { passed = passed; outcome = outcome }) turns.new (record { node = talking.new.client; busy = talking.new.pace.busy_since; supply = talking.new.supply })
+        × system.Passes P.received P.sent port.old port.new passed) }
     ensures fault { IfErr result ends.IsFault }
 {
     let most = *turns;
@@ -423,13 +428,13 @@ fn wait<W: Watch + Drop, P: Port>(
 }
 
 // What the client learnt by a turn, if it did.
-fn client_turn<W: Watch + Drop, P: Port>(
+pub(crate) fn client_turn<W: Watch + Drop, P: Port>(
     alloc: Global,
     port: &mut P,
     talking: &mut Talking<W>,
 ) -> Result<Option<ClientResult>, Ended>
-    ensures takes { IfOk result (λ learnt. (step : AnyStep) × turning.TakesTurn acts_at (IsStep is_sealing) (record { node = talking.old.client; busy = talking.old.pace.busy_since; supply = talking.old.supply }) step (record { node = talking.new.client; busy = talking.new.pace.busy_since; supply = talking.new.supply })
-        × (step.notes.result ≡ learnt) × (P.sent port.new ≡ grown (P.sent port.old) step.out)) }
+    ensures takes { IfOk result (λ learnt. (received : List (Option Received)) × (step : AnyStep) × turning.TakesTurn acts_at (IsStep is_sealing) (record { node = talking.old.client; busy = talking.old.pace.busy_since; supply = talking.old.supply }) received step (record { node = talking.new.client; busy = talking.new.pace.busy_since; supply = talking.new.supply })
+        × (step.notes.result ≡ learnt) × system.Passes P.received P.sent port.old port.new (record { received = received; sent = step.out })) }
     ensures fault { IfErr result ends.IsFault }
 {
     match take_turn(
@@ -447,6 +452,7 @@ fn client_turn<W: Watch + Drop, P: Port>(
 // What the client learnt, if all that it sent went out.
 fn learnt_of(turned: Turned) -> Result<Option<ClientResult>, Ended>
     ensures learnt { IfOk result (λ learnt. learnt ≡ turned.step.notes.result) }
+    ensures lost { turned.fault ≢ None → result ≡ Err Ended.PortFailed }
     ensures fault { IfErr result ends.IsFault }
 {
     let learnt = learnt_by(&turned);
@@ -457,6 +463,7 @@ fn learnt_of(turned: Turned) -> Result<Option<ClientResult>, Ended>
 // The same of a turn that somebody else drops.
 fn learnt_by(turned: &Turned) -> Result<Option<ClientResult>, Ended>
     ensures learnt { IfOk result (λ learnt. learnt ≡ turned.now.step.notes.result) }
+    ensures lost { turned.now.fault ≢ None → result ≡ Err Ended.PortFailed }
     ensures fault { IfErr result ends.IsFault }
 {
     match turned.fault {

@@ -7,6 +7,7 @@ ghost use Rattle.osc_diagram.specs.declared.diagram.Diagram.{Diagram as AnyDiagr
 ghost use Rattle.osc_programs.specs.Drawing as spec;
 ghost use Rattle.osc_programs.specs.Ended as ends;
 ghost use Rattle.osc_programs.specs.Input.{IsBeyond, TakesAtMost, longest_script};
+ghost use Rattle.osc_programs.specs.Written.{IsBegun, last_line};
 ghost use Rattle.osc_script.specs.{IsFirstBad};
 ghost use Rattle.osc_simulation.specs.{bad_line_text};
 
@@ -33,6 +34,7 @@ pub fn draw<R: Read, W: Write>(
         × Appends (W.contents writer.old) (W.contents writer.new) (spec.drawn_as form diagram)) }
     ensures bad { (n : ℕ) → result ≡ Ended.BadLine n → IfSome (R.remaining reader.old) (λ script. IsFirstBad script n
         × Appends (W.contents writer.old) (W.contents writer.new) (bad_line_text n)) }
+    ensures cut { result ≡ Ended.OutOfMemory → IsBegun last_line (W.contents writer.old) (W.contents writer.new) }
     ensures long { result ≡ Ended.TooLong → IsBeyond longest_script (R.remaining reader.old) × (writer.new ≡ writer.old) }
     ensures end { TakesAtMost (longest_script + 1) (R.remaining reader.old) (R.remaining reader.new) }
     ensures words { result ≢ Ended.BadCommandLine }
@@ -50,6 +52,7 @@ fn run<R: Read, W: Write>(alloc: Global, reader: &mut R, writer: &mut W, form: D
         × Appends (W.contents writer.old) (W.contents writer.new) (spec.drawn_as form diagram)) }
     ensures bad { (n : ℕ) → result ≡ Ended.BadLine n → IfSome (R.remaining reader.old) (λ script. IsFirstBad script n
         × Appends (W.contents writer.old) (W.contents writer.new) (bad_line_text n)) }
+    ensures cut { result ≡ Ended.OutOfMemory → writer.new ≡ writer.old }
     ensures long { result ≡ Ended.TooLong → IsBeyond longest_script (R.remaining reader.old) × (writer.new ≡ writer.old) }
     ensures end { TakesAtMost (longest_script + 1) (R.remaining reader.old) (R.remaining reader.new) }
     ensures words { result ≢ Ended.BadCommandLine }
@@ -66,6 +69,7 @@ fn draw_script<W: Write>(alloc: Global, script: &[u8], form: DiagramForm, writer
     ensures done { result ≡ Ended.Done → (diagram : AnyDiagram) × IsDiagramOf script.now diagram
         × Appends (W.contents writer.old) (W.contents writer.new) (spec.drawn_as form diagram) }
     ensures bad { (n : ℕ) → result ≡ Ended.BadLine n → IsFirstBad script.now n × Appends (W.contents writer.old) (W.contents writer.new) (bad_line_text n) }
+    ensures cut { result ≡ Ended.OutOfMemory → writer.new ≡ writer.old }
     ensures whole { result ≢ Ended.TooLong }
     ensures words { result ≢ Ended.BadCommandLine }
     ensures ends { ends.EndsSim result }
@@ -85,6 +89,7 @@ fn write_diagram<W: Write>(
 ) -> Ended
     ensures done { result ≡ Ended.Done → Appends (W.contents writer.old) (W.contents writer.new) (spec.drawn_as form diagram.now) }
     ensures bad { (n : ℕ) → result ≢ Ended.BadLine n }
+    ensures cut { result ≡ Ended.OutOfMemory → writer.new ≡ writer.old }
     ensures whole { result ≢ Ended.TooLong }
     ensures words { result ≢ Ended.BadCommandLine }
     ensures ends { ends.EndsSim result }
@@ -131,6 +136,8 @@ pub fn write_capture<F: Write, K: Write>(
     ensures done { result ≡ Ended.Done → (diagram : AnyDiagram) × IsDiagramOf script.now diagram
         × Appends (F.contents file.old) (F.contents file.new) (capture_of diagram.marks.items)
         × Appends (K.contents keys.old) (K.contents keys.new) (spec.joined diagram.keys.items) }
+    ensures bad { (n : ℕ) → result ≡ Ended.BadLine n → IsFirstBad script.now n × (file.new ≡ file.old) × (keys.new ≡ keys.old) }
+    ensures cut { result ≡ Ended.OutOfMemory → (file.new ≡ file.old) × (keys.new ≡ keys.old) }
     ensures ends { ends.EndsSim result }
 {
     match diagram_of(alloc, script) {
@@ -148,6 +155,8 @@ fn write_both<F: Write, K: Write>(
 ) -> Ended
     ensures done { result ≡ Ended.Done → Appends (F.contents file.old) (F.contents file.new) (capture_of diagram.now.marks.items)
         × Appends (K.contents keys.old) (K.contents keys.new) (spec.joined diagram.now.keys.items) }
+    ensures bad { (n : ℕ) → result ≢ Ended.BadLine n }
+    ensures cut { result ≡ Ended.OutOfMemory → (file.new ≡ file.old) × (keys.new ≡ keys.old) }
     ensures ends { ends.EndsSim result }
 {
     match both_of(alloc, diagram) {
@@ -159,6 +168,8 @@ fn write_both<F: Write, K: Write>(
 fn put_both<F: Write, K: Write>(file: &mut F, datagrams: &[u8], keys: &mut K, lines: &[u8]) -> Ended
     ensures done { result ≡ Ended.Done → Appends (F.contents file.old) (F.contents file.new) datagrams.now
         × Appends (K.contents keys.old) (K.contents keys.new) lines.now }
+    ensures cases { (result ≡ Ended.Done) ⊎ (result ≡ Ended.Failed) }
+    ensures bad { (n : ℕ) → result ≢ Ended.BadLine n }
     ensures ends { ends.EndsSim result }
 {
     match put(file, datagrams) {

@@ -113,7 +113,7 @@ fn bad_line(alloc: Global, number: u64) -> Result<Option<String>, AllocError>
     Ok(Some(format!(in alloc; "line {number}: bad")?))
 }
 
-fn said(alloc: Global, text: &str) -> Result<Option<String>, AllocError>
+pub(crate) fn said(alloc: Global, text: &str) -> Result<Option<String>, AllocError>
     ensures { IfOk result (λ line. option_map string_bytes line ≡ Some text.now) }
 {
     Ok(Some(text.to_string(alloc)?))

@@ -6,9 +6,11 @@ ghost use Rattle.osc_token.specs.{most_claims, claims_item};
 ghost use Rattle.osc_turn.specs.{IsDrawn};
 ghost use Rattle.osc_programs.specs.Ended as ends;
 ghost use Rattle.osc_programs.specs.TokenLine as spec;
+ghost use Rattle.osc_programs.specs.Written.{IsBegun};
 
 use crate::ended::{Ended, ended_by_io};
 use osc_ccm::Ccm;
+use osc_log::write_some;
 use osc_token::{MintError, mint};
 use osc_turn::{Seeds, generator_of};
 use osc_words::TokenWords;
@@ -95,14 +97,18 @@ pub fn issue_token<S: Seeds, W: Write>(
     }
 }
 
-/// Writes all of it.
+/// Writes all of it; of an output that fails, it has a beginning then.
 pub fn written<W: Write>(writer: &mut W, text: &[u8]) -> Ended
     ensures done { result ≡ Ended.Done → Appends (W.contents writer.old) (W.contents writer.new) text.now }
+    ensures begun { IsBegun text.now (W.contents writer.old) (W.contents writer.new) }
     ensures cases { (result ≡ Ended.Done) ⊎ (result ≡ Ended.Failed) }
     ensures ends { ends.EndsToken result }
 {
-    if writer.write_all(text).is_err() || writer.flush().is_err() {
+    if write_some(writer, text) < text.len() {
         return Ended::Failed;
     }
-    Ended::Done
+    match writer.flush() {
+        Ok(()) => Ended::Done,
+        Err(_) => Ended::Failed,
+    }
 }

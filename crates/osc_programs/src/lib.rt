@@ -4,6 +4,8 @@
 mod asking;
 mod checked;
 mod checking;
+mod context;
+mod context_text;
 mod copies;
 mod drawing;
 mod dumping;
@@ -15,6 +17,7 @@ mod key;
 mod noted;
 mod payload_file;
 mod reading;
+mod requests;
 mod revoking;
 mod running;
 mod saving;
@@ -31,6 +34,7 @@ mod ways;
 
 pub use asking::ask;
 pub use checking::{check_client, check_proxy, check_server};
+pub use context::make_context;
 pub use drawing::{draw, write_capture};
 pub use ended::{
     Ended, ended_by, ended_by_io, running_fault, started_by_io, status, token_fault, token_warning,
@@ -43,8 +47,9 @@ pub use key::issue_key;
 pub use noted::{FaultKeeper, KeepingReader};
 pub use osc_simulation::TraceForm;
 pub use payload_file::with_payload;
+pub use requests::{Asked, Manner, ask_each, requests_fault, requests_from};
 pub use revoking::KeepsServer;
-pub use running::{bound, forward, send, serve};
+pub use running::{Served, bound, forward, send, serve};
 pub use simulate::{run_script, sim};
 pub use store::{Stores, list_store};
 pub use supply::{moment_and_draw, supply_of};

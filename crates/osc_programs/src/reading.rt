@@ -1,5 +1,5 @@
 //! Settings that a reader gives, and what is told where they are none.
-ghost use Rattle.std.specs.Prelude.{◌≡◌, ◌+◌, List, ℕ, IfErr, IfOk, IfSome, MatchResult, OnOk};
+ghost use Rattle.std.specs.Prelude.{◌≡◌, ◌≢◌, ◌+◌, List, ℕ, IfErr, IfOk, IfSome, MatchResult, OnOk};
 ghost use Rattle.osc_programs.specs.Ended as ends;
 ghost use Rattle.osc_log.specs.{Writes};
 ghost use Rattle.osc_programs.specs.Input.{IsWithin, TakesAtMost, longest_settings};
@@ -130,19 +130,17 @@ fn settings_bytes<I: Read, L: Log>(
     }
 }
 
-// The log tells that the text is too long, or that there was no memory to say so.
+// The log tells that the text is too long.
 fn tell_long<L: Log>(alloc: Global, log: &mut L)
     ensures { (text : List ℕ) × spec.IsLongText (L.told log.old).form text × Writes (L.told log.old) (L.told log.new) text }
 {
-    match long_words(alloc) {
-        Ok(words) => log.no_settings(alloc, Some(&words)),
-        Err(_) => log.no_settings(alloc, None),
-    }
+    log.no_settings(alloc, Some(long_words()));
 }
 
 // How a program ends without settings. The log tells why, but for lack of memory.
 fn ended_without<L: Log>(alloc: Global, log: &mut L, why: &SettingsError) -> Ended
     ensures memory { why.now ≡ SettingsError.Memory → result ≡ Ended.OutOfMemory }
+    ensures bad { why.now ≢ SettingsError.Memory → result ≡ Ended.BadSettings }
     ensures told { result ≡ Ended.BadSettings → (text : List ℕ) × spec.IsUnreadText (L.told log.old).form why.now text × Writes (L.told log.old) (L.told log.new) text }
     ensures ends { ends.NoSettings result }
 {

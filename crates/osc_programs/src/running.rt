@@ -1,18 +1,16 @@
 //! Nodes that run on a socket: a server, and a proxy.
 ghost use Rattle.std.specs.FinMap as map;
 ghost use Rattle.std.specs.FinSet as set;
-ghost use Rattle.std.specs.Prelude.{◌≡◌, ◌<◌, ◌≤◌, ◌+◌, List, IfErr, IfOk, IfSome, OnOk, None, Some, length, map, option_map};
+ghost use Rattle.std.specs.Prelude.{◌≡◌, ◌⊎◌, ◌<◌, ◌≤◌, ◌+◌, List, IfErr, IfOk, IfSome, IsSome, OnOk, None, Some, length, map, option_map, string_bytes};
 ghost use Rattle.osc_model.specs.{longest_payload, most_resources, exactly};
 ghost use Rattle.osc_model.specs.declared.code.Method.TheVariants as AnyMethod;
-ghost use Rattle.osc_turn.specs.{IsOfSeed, grown};
+ghost use Rattle.osc_turn.specs.{grown};
 ghost use Rattle.osc_programs.specs.Ended as ends;
 ghost use Rattle.osc_log.specs.{Event, Tells};
 ghost use Rattle.osc_programs.specs.Input.{IsWithin, TakesAtMost, longest_settings};
-ghost use Rattle.osc_programs.specs.Kept.{StaysKept};
-ghost use Rattle.osc_programs.specs.Revoking.{AreRevoked, KeepsTree, with_revoked};
+ghost use Rattle.osc_programs.specs.Kept.{HasCause, LeavesKept};
 ghost use Rattle.osc_programs.specs.Serving as spec;
-ghost use Rattle.osc_programs.specs.Storing.{BeginsWith, IsKept, SomeKeeps};
-ghost use Rattle.osc_programs.specs.System as system;
+ghost use Rattle.osc_programs.specs.Storing.{IsKeptIn, KeptBy};
 ghost use Rattle.osc_model.specs.Tree.{Tree as AnyTree};
 ghost use Rattle.osc_programs.specs.Turning as turning;
 ghost use Rattle.osc_programs.specs.Unread.{TellsWhy};
@@ -23,7 +21,6 @@ ghost use Rattle.osc_words.specs.declared.settings.server.ServerSettings.{Server
 use crate::ended::Ended;
 use crate::holding::Holding;
 use crate::reading::{proxy_settings, server_settings};
-use crate::revoking::{KeepsServer, revoke_at_start};
 use crate::store::{Stores, tell_unkept};
 use crate::storing::serve_stored;
 use crate::supply::supply_of;
@@ -32,6 +29,7 @@ use crate::udp::{SocketPort, Sockets, Why};
 use osc_authz::{ContextRules, DeskParts, ServerDesk};
 use osc_ccm::Suite;
 use osc_log::Log;
+use osc_log::laws::telling_goes_on;
 use osc_model::laws::permissions_are_ordered;
 use osc_model::limits::REMEMBERED_POSTS;
 use osc_model::{ClientResult, Datagrams, Method, Path, Peer, Resource};
@@ -47,34 +45,56 @@ use std::alloc::{AllocError, Global};
 use std::io::{Eprint, ErrorKind, Read};
 use std::time::Clock;
 
+/// How a server ended, and what keeps its changes.
+pub struct Served<K> {
+    /// How it ended.
+    pub ended: Ended,
+    /// What keeps its changes, where its settings name a store and that was opened.
+    pub keeper: Option<K>,
+}
+
+impl<K: Drop> Drop for Served<K> {
+    fn drop(self) {
+        let Served {
+            ended: _,
+            keeper: _,
+        } = self;
+    }
+}
+
 /// Runs a server with the settings that the reader gives, for this number of turns. It tells once, on the standard error, where it
 /// listens, if that can be written, and the log tells of each turn. A datagram that can't be sent is lost, as on the way, and so is one
 /// for whose step there is no memory; a receive that fails ends it. Where there are no settings, the log tells why.
 ///
 /// The tokens of the ids in the settings are revoked before its first turn. Where the settings name a store, its resources are those that the store
-/// holds, and what a step changed is kept before anything of the step is
+/// holds, and what the steps of a turn changed is kept before anything of the turn is
 /// sent; a store that isn't opened, or doesn't keep a change, ends it, and a line on the standard error tells why.
+///
+/// Whatever ends it once the store is opened, its store is as after the turns that were taken; or where a change isn't kept, as before that or after it.
 pub fn serve<R: Clock + Eprint + Seeds + Sockets + Stores, I: Read, L: Log>(
     alloc: Global,
     runtime: &R,
     reader: &mut I,
     log: &mut L,
     turns: u64,
-) -> Ended
-    ensures done { result ≡ Ended.Done → (settings : ServedBy) × (tree : AnyTree) × (text : List Event) × IfSome (I.remaining reader.old) (λ bytes. StandsFor AreServerSettings bytes settings)
-        × BeginsWith (R.holds runtime.now) settings tree
-        × (serves : spec.Serves settings (with_revoked settings.revoked settings.revoked_ids.items tree) turns text) × system.RunsOn (R.gave runtime.now) (R.opened runtime.now settings.bind.items None) R.Socket.sent serves.runs.start serves.runs.sent
-        × IsKept R.Keeper.keeps settings.store serves.last
-        × AreRevoked settings.revoked serves.first.tree settings.revoked_ids.items
-        × Tells (L.told log.old) (L.told log.new) text }
-    ensures bad { result ≡ Ended.BadSettings → TellsWhy (λ document. IsKeyFault (IsServerFault document)) (I.remaining reader.old) (L.told log.old) (L.told log.new) }
-    ensures short { result ≡ Ended.Done → IsWithin longest_settings (I.remaining reader.old) }
+) -> Served<R::Keeper>
+    ensures served { (ends.NoServer result.ended × (result.keeper ≡ None)) ⊎ ((settings : ServedBy) × IfSome (I.remaining reader.old) (λ bytes. StandsFor AreServerSettings bytes settings)
+        × (tree : AnyTree) × (events : List Event) × (before after : AnyTree)
+        × spec.Lives (R.gave runtime.now) (R.opened runtime.now) R.Socket.received R.Socket.sent settings tree turns result.ended events before after
+        × Tells (L.told log.old) (L.told log.new) events
+        × KeptBy (R.holds runtime.now) R.Keeper.file R.Keeper.keeps R.Keeper.may_hold R.Keeper.trusted R.Keeper.faults R.Keeper.too_long
+        settings.store settings.resources.items tree result.ended before after result.keeper) }
+    ensures bad { result.ended ≡ Ended.BadSettings → TellsWhy (λ document. IsKeyFault (IsServerFault document)) (I.remaining reader.old) (L.told log.old) (L.told log.new) }
+    ensures short { result.ended ≡ Ended.Done → IsWithin longest_settings (I.remaining reader.old) }
     ensures end { TakesAtMost (longest_settings + 1) (I.remaining reader.old) (I.remaining reader.new) }
-    ensures ends { ends.EndsServer result }
+    ensures ends { ends.EndsServer result.ended }
 {
     match server_settings(alloc, reader, log) {
         Ok(settings) => serve_by(alloc, runtime, settings, log, turns),
-        Err(ended) => ended,
+        Err(ended) => Served {
+            ended,
+            keeper: None,
+        },
     }
 }
 
@@ -86,9 +106,10 @@ pub fn forward<R: Clock + Eprint + Seeds + Sockets, I: Read, L: Log>(
     log: &mut L,
     turns: u64,
 ) -> Ended
-    ensures done { result ≡ Ended.Done → (settings : ForwardedBy) × (text : List Event) × IfSome (I.remaining reader.old) (λ bytes. StandsFor AreProxySettings bytes settings)
-        × (forwards : spec.Forwards settings turns text) × system.RunsOn (R.gave runtime.now) (R.opened runtime.now settings.bind.items None) R.Socket.sent forwards.runs.start forwards.runs.sent
-        × Tells (L.told log.old) (L.told log.new) text }
+    ensures forwarded { ends.NoSettings result ⊎ ((settings : ForwardedBy) × IfSome (I.remaining reader.old) (λ bytes. StandsFor AreProxySettings bytes settings)
+        × (events : List Event)
+        × spec.Forwards (R.gave runtime.now) (R.opened runtime.now) R.Socket.received R.Socket.sent settings turns result events
+        × Tells (L.told log.old) (L.told log.new) events) }
     ensures bad { result ≡ Ended.BadSettings → TellsWhy IsFaultOfProxy (I.remaining reader.old) (L.told log.old) (L.told log.new) }
     ensures short { result ≡ Ended.Done → IsWithin longest_settings (I.remaining reader.old) }
     ensures end { TakesAtMost (longest_settings + 1) (I.remaining reader.old) (I.remaining reader.new) }
@@ -108,51 +129,62 @@ fn serve_by<R: Clock + Eprint + Seeds + Sockets + Stores, L: Log>(
     settings: ServerSettings,
     log: &mut L,
     turns: u64,
-) -> Ended
-    ensures done { result ≡ Ended.Done → (tree : AnyTree) × (text : List Event) × BeginsWith (R.holds runtime.now) settings tree
-        × (serves : spec.Serves settings (with_revoked settings.revoked settings.revoked_ids.items tree) turns text) × system.RunsOn (R.gave runtime.now) (R.opened runtime.now settings.bind.items None) R.Socket.sent serves.runs.start serves.runs.sent
-        × IsKept R.Keeper.keeps settings.store serves.last
-        × AreRevoked settings.revoked serves.first.tree settings.revoked_ids.items
-        × Tells (L.told log.old) (L.told log.new) text }
-    ensures ends { ends.EndsServing result }
+) -> Served<R::Keeper>
+    ensures served { (ends.NoServer result.ended × (result.keeper ≡ None)) ⊎ ((tree : AnyTree) × (events : List Event) × (before after : AnyTree)
+        × spec.Lives (R.gave runtime.now) (R.opened runtime.now) R.Socket.received R.Socket.sent settings tree turns result.ended events before after
+        × Tells (L.told log.old) (L.told log.new) events
+        × KeptBy (R.holds runtime.now) R.Keeper.file R.Keeper.keeps R.Keeper.may_hold R.Keeper.trusted R.Keeper.faults R.Keeper.too_long
+        settings.store settings.resources.items tree result.ended before after result.keeper) }
+    ensures ends { ends.EndsServing result.ended }
 {
     let file = match &settings.store {
-        None => return serve_from_settings(alloc, runtime, settings, log, turns),
+        None => {
+            return Served {
+                ended: serve_from_settings(alloc, runtime, settings, log, turns),
+                keeper: None,
+            };
+        }
         Some(file) => String::from_str(alloc, file.as_str()),
     };
     match file {
-        Ok(file) => match runtime.open_store(file.as_str(), &settings.resources) {
-            Ok(stored) => {
-                let ended = serve_revoking(alloc, runtime, settings, stored, log, turns);
-                tell_unkept(alloc, runtime, file.as_str(), ended);
-                ended
-            }
-            Err(ended) => ended,
+        Ok(file) => serve_from_store(alloc, runtime, settings, file, log, turns),
+        Err(_) => Served {
+            ended: Ended::OutOfMemory,
+            keeper: None,
         },
-        Err(_) => Ended::OutOfMemory,
     }
 }
 
-// With these resources, of which this keeps the changes.
-fn serve_revoking<R: Clock + Eprint + Seeds + Sockets, K: KeepsServer + Drop, L: Log>(
+// With the resources of the store in this file.
+fn serve_from_store<R: Clock + Eprint + Seeds + Sockets + Stores, L: Log>(
     alloc: Global,
     runtime: &R,
     settings: ServerSettings,
-    stored: (K, Tree),
+    file: String,
     log: &mut L,
     turns: u64,
-) -> Ended
-    ensures done { result ≡ Ended.Done → (text : List Event)
-        × (serves : spec.Serves settings (with_revoked settings.revoked settings.revoked_ids.items stored.1) turns text) × system.RunsOn (R.gave runtime.now) (R.opened runtime.now settings.bind.items None) R.Socket.sent serves.runs.start serves.runs.sent
-        × (KeepsTree K.keeps stored.0 stored.1 → SomeKeeps K.keeps serves.last)
-        × AreRevoked settings.revoked serves.first.tree settings.revoked_ids.items
-        × Tells (L.told log.old) (L.told log.new) text }
-    ensures ends { ends.EndsKept result }
+) -> Served<R::Keeper>
+    ensures served { (ends.NoServer result.ended × (result.keeper ≡ None)) ⊎ ((tree : AnyTree) × (events : List Event) × (before after : AnyTree)
+        × spec.Lives (R.gave runtime.now) (R.opened runtime.now) R.Socket.received R.Socket.sent settings tree turns result.ended events before after
+        × Tells (L.told log.old) (L.told log.new) events
+        × IfSome result.keeper (IsKeptIn (R.holds runtime.now) R.Keeper.file R.Keeper.keeps R.Keeper.may_hold R.Keeper.trusted R.Keeper.faults R.Keeper.too_long
+        (string_bytes file) settings.resources.items tree result.ended before after)
+        × IsSome result.keeper) }
+    ensures ends { ends.EndsServing result.ended }
 {
-    let (mut keeper, mut tree) = stored;
-    match revoke_at_start(alloc, runtime, &mut keeper, &mut tree, &settings) {
-        Ok(()) => serve_stored(alloc, runtime, settings, (keeper, tree), log, turns),
-        Err(ended) => ended,
+    match runtime.open_store(file.as_str(), &settings.resources) {
+        Ok(stored) => {
+            let (ended, keeper) = serve_stored(alloc, runtime, settings, stored, log, turns);
+            tell_unkept(alloc, runtime, file.as_str(), ended);
+            Served {
+                ended,
+                keeper: Some(keeper),
+            }
+        }
+        Err(ended) => Served {
+            ended,
+            keeper: None,
+        },
     }
 }
 
@@ -164,14 +196,23 @@ fn serve_from_settings<R: Clock + Eprint + Seeds + Sockets, L: Log>(
     log: &mut L,
     turns: u64,
 ) -> Ended
-    ensures done { result ≡ Ended.Done → (text : List Event)
-        × (serves : spec.Serves settings (with_revoked settings.revoked settings.revoked_ids.items (spec.tree_of settings.resources.items)) turns text) × system.RunsOn (R.gave runtime.now) (R.opened runtime.now settings.bind.items None) R.Socket.sent serves.runs.start serves.runs.sent
-        × AreRevoked settings.revoked serves.first.tree settings.revoked_ids.items
-        × Tells (L.told log.old) (L.told log.new) text }
+    ensures served { ends.NoServer result ⊎ ((events : List Event) × (before after : AnyTree)
+        × spec.Lives (R.gave runtime.now) (R.opened runtime.now) R.Socket.received R.Socket.sent settings (spec.tree_of settings.resources.items) turns result events before after
+        × Tells (L.told log.old) (L.told log.new) events) }
     ensures ends { ends.EndsKept result }
 {
-    match tree_of(alloc, &settings.resources) {
-        Ok(tree) => serve_revoking(alloc, runtime, settings, (Forgetful, tree), log, turns),
+    match first_tree(alloc, &settings.resources) {
+        Ok(tree) => {
+            let (ended, _keeper) = serve_stored(
+                alloc,
+                runtime,
+                settings,
+                (Forgetful, tree),
+                log,
+                turns,
+            );
+            ended
+        }
         Err(ended) => ended,
     }
 }
@@ -183,9 +224,9 @@ fn forward_by<R: Clock + Eprint + Seeds + Sockets, L: Log>(
     log: &mut L,
     turns: u64,
 ) -> Ended
-    ensures done { result ≡ Ended.Done → (text : List Event)
-        × (forwards : spec.Forwards settings turns text) × system.RunsOn (R.gave runtime.now) (R.opened runtime.now settings.bind.items None) R.Socket.sent forwards.runs.start forwards.runs.sent
-        × Tells (L.told log.old) (L.told log.new) text }
+    ensures forwarded { ends.IsFault result ⊎ ((events : List Event)
+        × spec.Forwards (R.gave runtime.now) (R.opened runtime.now) R.Socket.received R.Socket.sent settings turns result events
+        × Tells (L.told log.old) (L.told log.new) events) }
     ensures ends { ends.EndsTurns result }
 {
     match proxy_of(alloc, settings) {
@@ -241,8 +282,8 @@ pub(crate) fn server_with(
     Ok((Server::new(alloc, tree, desk, open_scope)?, bind))
 }
 
-// What a server has at first.
-fn tree_of(alloc: Global, resources: &[ResourceSetting]) -> Result<Tree, Ended>
+/// What a server has at first.
+pub(crate) fn first_tree(alloc: Global, resources: &[ResourceSetting]) -> Result<Tree, Ended>
     ensures tree { IfOk result (λ tree. tree ≡ spec.tree_of resources.now) }
     ensures fault { IfErr result ends.IsFault }
 {
@@ -344,13 +385,18 @@ pub(crate) fn run<
     log: &mut L,
     turns: u64,
 ) -> Ended
-    ensures done { result ≡ Ended.Done → (text : List Event)
-        × (runs : turning.Runs N.acts N.is_step N.held turns text kept.old.node kept.new.node) × system.RunsOn (R.gave runtime.now) (R.opened runtime.now bind.now None) R.Socket.sent runs.start runs.sent
-        × Tells (L.told log.old) (L.told log.new) text }
-    ensures kept { K.keeps kept.old.keeper kept.old.node → StaysKept K.keeps K.may_hold result kept.new.node kept.new.keeper }
-    ensures fails { (error : _) → result ≡ Ended.NotKept error → (keeper : K) × K.may_fail keeper }
+    ensures ran { (events : List Event) × (before : N)
+        × turning.Ran (R.gave runtime.now) (R.opened runtime.now bind.now None) R.Socket.received R.Socket.sent N.acts N.is_step N.held turns kept.old.node result events before kept.new.node
+        × Tells (L.told log.old) (L.told log.new) events
+        × (K.keeps kept.old.keeper kept.old.node → LeavesKept K.keeps K.may_hold result before kept.new.node kept.new.keeper) }
+    ensures cause { K.keeps kept.old.keeper kept.old.node → HasCause K.trusted K.faults (K.too_long kept.new.node) kept.old.keeper kept.new.keeper result }
+    ensures fails { (error : _) → result ≡ Ended.NotKept error → K.may_fail }
+    ensures counts { K.faults kept.old.keeper ≤ K.faults kept.new.keeper }
+    ensures trust { K.trusted kept.new.keeper → K.trusted kept.old.keeper }
+    ensures file { K.file kept.new.keeper ≡ K.file kept.old.keeper }
     ensures ends { ends.EndsKept result }
 {
+    telling_goes_on();
     match opened(alloc, runtime, bind, None) {
         Ok(mut port) => {
             tell_addresses(alloc, runtime, &port, bind.len());
@@ -440,16 +486,21 @@ fn started<
     log: &mut L,
     turns: u64,
 ) -> Ended
-    ensures done { result ≡ Ended.Done → (text : List Event)
-        × (runs : turning.Runs N.acts N.is_step N.held turns text kept.old.node kept.new.node) × IsOfSeed (R.gave runtime.now) runs.start.generator
-        × (P.sent port.new ≡ grown (P.sent port.old) runs.sent) × Tells (L.told log.old) (L.told log.new) text }
-    ensures kept { K.keeps kept.old.keeper kept.old.node → StaysKept K.keeps K.may_hold result kept.new.node kept.new.keeper }
-    ensures fails { (error : _) → result ≡ Ended.NotKept error → (keeper : K) × K.may_fail keeper }
+    ensures ran { (events : List Event) × (before : N)
+        × turning.Ran (R.gave runtime.now) (λ first. first ≡ port.old) P.received P.sent N.acts N.is_step N.held turns kept.old.node result events before kept.new.node
+        × Tells (L.told log.old) (L.told log.new) events
+        × (K.keeps kept.old.keeper kept.old.node → LeavesKept K.keeps K.may_hold result before kept.new.node kept.new.keeper) }
+    ensures cause { K.keeps kept.old.keeper kept.old.node → HasCause K.trusted K.faults (K.too_long kept.new.node) kept.old.keeper kept.new.keeper result }
+    ensures fails { (error : _) → result ≡ Ended.NotKept error → K.may_fail }
+    ensures counts { K.faults kept.old.keeper ≤ K.faults kept.new.keeper }
+    ensures trust { K.trusted kept.new.keeper → K.trusted kept.old.keeper }
+    ensures file { K.file kept.new.keeper ≡ K.file kept.old.keeper }
     ensures ends { ends.EndsKept result }
 {
+    telling_goes_on();
     match supply_of(runtime) {
-        Ok(mut supply) => {
-            let ended = take_turns(alloc, &mut supply, port, kept, log, turns);
+        Ok(supply) => {
+            let ended = take_turns(alloc, supply, port, kept, log, turns);
             tell_end(alloc, runtime, port, ended);
             ended
         }
@@ -503,6 +554,7 @@ fn address_line(alloc: Global, peer: Peer) -> Result<String, AllocError> {
 /// Sends these datagrams.
 pub fn send<P: Port>(port: &mut P, out: &Datagrams) -> Result<(), Ended>
     ensures sent { P.sent port.new ≡ grown (P.sent port.old) out.now }
+    ensures not_received { P.received port.new ≡ P.received port.old }
     ensures fault { IfErr result ends.IsFault }
 {
     match send_all(port, out.as_slice()) {

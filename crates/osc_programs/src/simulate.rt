@@ -3,6 +3,7 @@ ghost use Rattle.std.specs.Prelude.{◌≡◌, ◌≢◌, ◌⊎◌, ◌+◌, �
 ghost use Rattle.std.specs.Io.KnownBytes.{Appends};
 ghost use Rattle.osc_programs.specs.Ended as ends;
 ghost use Rattle.osc_programs.specs.Input.{IsBeyond, TakesAtMost, longest_script};
+ghost use Rattle.osc_programs.specs.Written.{IsBegun, IsBegunAfter, last_line};
 ghost use Rattle.osc_script.specs.{IsFirstBad};
 ghost use Rattle.osc_simulation.specs.{CutShort, Simulates, bad_line_text};
 
@@ -29,6 +30,8 @@ pub fn sim<R: Read, W: Write>(
         × Appends (W.contents writer.old) (W.contents writer.new) text) }
     ensures bad { (n : ℕ) → result ≡ Ended.BadLine n → IfSome (R.remaining reader.old) (λ script. IsFirstBad script n
         × Appends (W.contents writer.old) (W.contents writer.new) (bad_line_text n)) }
+    ensures cut { result ≡ Ended.OutOfMemory → (printed : List ℕ) × IfSome (R.remaining reader.old) (λ script. CutShort form script printed)
+        × IsBegunAfter printed last_line (W.contents writer.old) (W.contents writer.new) }
     ensures long { result ≡ Ended.TooLong → IsBeyond longest_script (R.remaining reader.old) × (writer.new ≡ writer.old) }
     ensures end { TakesAtMost (longest_script + 1) (R.remaining reader.old) (R.remaining reader.new) }
     ensures words { result ≢ Ended.BadCommandLine }
@@ -42,7 +45,8 @@ pub fn sim<R: Read, W: Write>(
 
 /// Tells last that memory ran out; where this can't be written, the first fault counts.
 pub(crate) fn told_last<W: Write>(writer: &mut W) -> Ended
-    ensures { result ≡ Ended.OutOfMemory }
+    ensures ended { result ≡ Ended.OutOfMemory }
+    ensures last { IsBegun last_line (W.contents writer.old) (W.contents writer.new) }
 {
     let _last = written(writer, b"out of memory\n");
     Ended::OutOfMemory
@@ -60,6 +64,8 @@ fn run<R: Read, W: Write>(
         × Appends (W.contents writer.old) (W.contents writer.new) text) }
     ensures bad { (n : ℕ) → result ≡ Ended.BadLine n → IfSome (R.remaining reader.old) (λ script. IsFirstBad script n
         × Appends (W.contents writer.old) (W.contents writer.new) (bad_line_text n)) }
+    ensures cut { result ≡ Ended.OutOfMemory → (printed : List ℕ) × IfSome (R.remaining reader.old) (λ script. CutShort form script printed)
+        × Appends (W.contents writer.old) (W.contents writer.new) printed }
     ensures long { result ≡ Ended.TooLong → IsBeyond longest_script (R.remaining reader.old) × (writer.new ≡ writer.old) }
     ensures end { TakesAtMost (longest_script + 1) (R.remaining reader.old) (R.remaining reader.new) }
     ensures words { result ≢ Ended.BadCommandLine }

@@ -1,38 +1,44 @@
 //! The store of a server: opened, made where there is none yet, and listed.
 ghost use Rattle.std.specs.FinMap as map;
 ghost use Rattle.std.specs.Io.KnownBytes.{Appends};
-ghost use Rattle.std.specs.Prelude.{◌≡◌, ◌≤◌, ◌++◌, [], IfErr, IfOk, IfSome, List, OnOk, fold, ℕ, ⊤};
+ghost use Rattle.std.specs.Prelude.{◌≡◌, ◌≤◌, ◌++◌, [], Bool, IfErr, IfOk, IfSome, IsSome, IsTrue, List, OnOk, Some, false, fold, is_some, string_bytes, true, ℕ, ⊤};
 ghost use Rattle.std.specs.List.{flat_map};
-ghost use Rattle.sqlite_store.specs.FileStore.{recovers, view};
+ghost use Rattle.sqlite_disk.specs.Disk.{MoreFaults};
+ghost use Rattle.sqlite_store.specs.FileStore.{blamed, faults, recovers, view};
 ghost use Rattle.sqlite_trees.specs.View.{IsClean, doubt};
-ghost use Rattle.osc_store.specs.{IsWhole, Keeps, MayLeave};
+ghost use Rattle.osc_store.specs.{IsWhole, Keeps, MayLeave, Writes};
+ghost use Rattle.osc_store.specs.Causes.{IsNamedBy, WhyNotKept};
+ghost use Rattle.osc_store.specs.Keeping.{keeps_writes, may_leave_either, may_leave_first};
 ghost use Rattle.sqlite_wal.specs.Files.{image_at};
 ghost use Rattle.osc_model.specs.Tree.{Tree as AnyTree};
 ghost use Rattle.osc_server.specs.State.{State as AnyServer};
+ghost use Rattle.osc_turn.specs.Kept.Changes.{HasTooLong};
+ghost use Rattle.osc_turn.specs.Kept.Turns.{may_leave_last};
 ghost use Rattle.osc_words.specs.declared.settings.resource.ResourceSetting.{ResourceSetting as AnySetting};
 ghost use Rattle.osc_programs.specs.Ended as ends;
-ghost use Rattle.osc_programs.specs.Serving.{with_resource};
+ghost use Rattle.osc_programs.specs.Serving.{tree_of, with_resource};
 ghost use Rattle.osc_programs.specs.Storing as spec;
+ghost use Rattle.osc_programs.specs.Storing.{keeps_same, leaves_same};
 
 use crate::checked::resource_text;
 use crate::checking::said;
-use crate::copies::{Uncopied, copy_files};
+use crate::copies::{Copies, Uncopied, copy_files};
 use crate::dumping::dump_text;
 use crate::ended::{Ended, ended_by_io};
 use crate::revoking::KeepsServer;
-use crate::running::add_resource;
+use crate::running::{add_resource, first_tree};
 use crate::saving::save_tree;
 use osc_ccm::Suite;
 use osc_model::laws::paths_are_ordered;
-use osc_model::{Code, Entry, Path, Resource, StepNotes};
+use osc_model::{Path, Resource, StepNotes};
 use osc_server::Server;
 use osc_store::{
     FRAMED_LOG, FileKeeper, KeepError, Keeper, Keeping, OpenStoreError, Start, Unknown, Wary,
-    draw_mark, read_store,
+    are_same, draw_mark, read_store, read_until_damage,
 };
 use osc_tree::Tree;
 use osc_turn::laws::one_path_changes;
-use osc_turn::{KeepsSteps, keep_change, since_boot};
+use osc_turn::{KeepsSteps, since_boot, write_change};
 use osc_words::{FileName, ResourceSetting, StoreWords};
 use sqlite_std_file::FileFrom;
 use sqlite_store::FileStore;
@@ -60,14 +66,17 @@ pub trait Stores {
         ensures opened { IfOk result (λ stored. holds self.now file.now first.now stored.0 stored.1) }
         // Whatever a crash leaves from then on, the next start finds these resources.
         ensures kept { IfOk result (λ stored. (server : AnyServer) → server.tree ≡ stored.1 → Self.Keeper.keeps stored.0 server) }
+        ensures file { IfOk result (λ stored. Self.Keeper.file stored.0 ≡ Some file.now) }
         ensures ends { IfErr result ends.NoStore };
 
-    // The store in the file of this name was read, and held these resources.
-    ghost held: { Self → List ℕ → AnyTree → Type 0 };
+    // The store in the file of this name was read, and held these resources; or where that is asked for, they are those that stand in its log before
+    // damage.
+    ghost held: { Self → List ℕ → Bool → AnyTree → Type 0 };
 
-    /// The resources of the store in this file, where there is one; it is only read. A line on the standard error tells why it isn't read.
-    fn find_store(&self, file: &str) -> Result<Tree, Ended>
-        ensures found { IfOk result (held self.now file.now) }
+    /// The resources of the store in this file, where there is one; it is only read. Where its log is damaged it isn't read, unless what stands before the
+    /// damage is asked for. A line on the standard error tells why it isn't read.
+    fn find_store(&self, file: &str, until_damage: bool) -> Result<Tree, Ended>
+        ensures found { IfOk result (held self.now file.now until_damage) }
         ensures ends { IfErr result ends.NotOpened };
 
     // The file of this name was written: it alone is found as these resources.
@@ -87,48 +96,51 @@ const IDLE_SECONDS: u64 = 10;
 #[derive(Drop)]
 pub struct StoreFile {
     keeper: FileKeeper<FileFrom<Wary>>,
+    // The file's name.
+    file: String,
+    // Whether the store was made first, as it was opened.
+    made: bool,
     // When the last change came that the file itself doesn't hold yet.
     changed: Option<u64>,
 }
 
 impl StoreFile {
-    fn new(keeper: FileKeeper<FileFrom<Wary>>) -> StoreFile
-        ensures { result.keeper.store ≡ keeper.store }
-    {
-        StoreFile {
-            keeper,
-            changed: None,
-        }
-    }
-
     // Puts into the file itself all that was kept.
     fn make_whole(&mut self) -> Result<(), KeepError>
         ensures kept { (tree : AnyTree) → Keeps view recovers self.old.keeper.store tree → IsClean (view self.new.keeper.store)
             → OnOk result (Keeps view recovers self.new.keeper.store tree) }
         ensures crash { (tree : AnyTree) → Keeps view recovers self.old.keeper.store tree → IsClean (view self.new.keeper.store)
             → MayLeave view recovers self.new.keeper.store tree tree }
+        ensures cause { (tree : AnyTree) → Keeps view recovers self.old.keeper.store tree → IsClean (view self.new.keeper.store)
+            → IfErr result (WhyNotKept (MoreFaults (faults self.old.keeper.store) (faults self.new.keeper.store)) ⊥) }
+        ensures named { IfErr result (IsNamedBy (blamed self.new.keeper.store)) }
+        ensures done { OnOk result (self.new.keeper.pending ≡ false) }
+        ensures counts { faults self.old.keeper.store ≤ faults self.new.keeper.store }
         ensures clean { doubt (view self.old.keeper.store).is_clean ≤ doubt (view self.new.keeper.store).is_clean }
+        ensures file { self.new.file ≡ self.old.file }
     {
         self.changed = None;
         self.keeper.make_whole()
     }
 
-    // The same, where no change has come for long enough.
-    fn settle(&mut self, is_change: bool) -> Result<(), KeepError>
-        ensures kept { (tree : AnyTree) → Keeps view recovers self.old.keeper.store tree → IsClean (view self.new.keeper.store)
-            → OnOk result (Keeps view recovers self.new.keeper.store tree) }
-        ensures crash { (tree : AnyTree) → Keeps view recovers self.old.keeper.store tree → IsClean (view self.new.keeper.store)
-            → MayLeave view recovers self.new.keeper.store tree tree }
-        ensures clean { doubt (view self.old.keeper.store).is_clean ≤ doubt (view self.new.keeper.store).is_clean }
+    // Where something is written, a change has come now.
+    fn note_change(&mut self)
+        ensures keeper { self.new.keeper ≡ self.old.keeper }
+        ensures file { self.new.file ≡ self.old.file }
+        ensures nothing { self.old.keeper.pending ≡ false → self.new ≡ self.old }
     {
-        let now = seconds();
-        if is_change {
-            self.changed = Some(now);
-            return Ok(());
+        if self.keeper.pending {
+            self.changed = Some(seconds());
         }
+    }
+
+    // Whether a change has come that the file itself doesn't hold yet, and none for long enough.
+    fn is_idle(&self) -> bool
+        ensures { IsTrue result → IsSome self.now.changed }
+    {
         match self.changed {
-            Some(changed) if now.saturating_sub(changed) >= IDLE_SECONDS => self.make_whole(),
-            _ => Ok(()),
+            Some(changed) => seconds().saturating_sub(changed) >= IDLE_SECONDS,
+            None => false,
         }
     }
 }
@@ -141,66 +153,102 @@ fn seconds() -> u64 {
     }
 }
 
-// Whether the reply of a served request tells of a change.
-fn is_change(served: Option<&Entry>) -> bool {
-    match served {
-        Some(entry) => {
-            let code = entry.reply.code;
-            code == Code::CREATED || code == Code::DELETED || code == Code::CHANGED
-        }
-        None => false,
-    }
-}
-
 impl KeepsSteps<Suite, Server> for StoreFile {
     ghost keeps = { λ it node. IsClean (view it.keeper.store) → Keeps view recovers it.keeper.store node.tree };
 
+    ghost writes = { λ it first last. IsClean (view it.keeper.store) → Writes view recovers it.keeper.store it.keeper.pending first.tree last.tree };
+
     ghost may_hold = { λ it before after. IsClean (view it.keeper.store) → MayLeave view recovers it.keeper.store before.tree after.tree };
 
-    ghost may_fail = { λ _. ⊤ };
+    ghost pending = { λ it. it.keeper.pending };
 
-    fn keep_step(&mut self, node: &Server, notes: &StepNotes) -> Result<(), KeepError> {
+    ghost owes = { λ it. is_some it.changed };
+
+    ghost may_fail = { ⊤ };
+
+    ghost faults = { λ it. faults it.keeper.store };
+
+    ghost trusted = { λ it. IsClean (view it.keeper.store) };
+
+    ghost names = { λ it error. IsNamedBy (blamed it.keeper.store) error };
+
+    ghost too_long = { λ node. HasTooLong node.tree };
+
+    ghost file = { λ it. Some (string_bytes it.file) };
+
+    fn write_step(&mut self, node: &Server, notes: &StepNotes) -> Result<(), KeepError> {
         one_path_changes();
-        keep_change(&mut self.keeper, node.tree(), notes.served())?;
-        self.settle(is_change(notes.served()))
+        write_change(&mut self.keeper, node.tree(), notes.served())
     }
+
+    fn commit(&mut self) -> Result<(), KeepError> {
+        self.note_change();
+        self.keeper.commit()
+    }
+
+    // Where no change has come for long enough, the file itself is to hold all that was kept.
+    fn rest(&mut self) -> Result<(), KeepError> {
+        if self.is_idle() {
+            self.make_whole()
+        } else {
+            Ok(())
+        }
+    }
+
+    ghost writes_first = { λ it node keeps clean. keeps_writes view recovers it.keeper.store it.keeper.pending node.tree (keeps clean) };
+
+    ghost holds_first = { λ it first last keeps clean. may_leave_first view recovers it.keeper.store first.tree last.tree (keeps clean) };
+
+    ghost holds_either = { λ it first last holds clean. may_leave_either view recovers it.keeper.store first.tree last.tree (holds clean) };
+
+    ghost holds_second = { λ it first last holds clean. may_leave_last view recovers it.keeper.store first.tree last.tree (holds clean) };
 }
 
 impl KeepsServer for StoreFile {
     fn keep_start(&mut self, path: &Path, resource: Option<&Resource>) -> Result<(), KeepError> {
-        self.changed = Some(seconds());
-        self.keeper.keep(path, resource)
+        paths_are_ordered();
+        match self.keeper.write(path, resource) {
+            Ok(()) => {
+                self.changed = Some(seconds());
+                self.keeper.commit()
+            }
+            Err(error) => Err(error),
+        }
     }
 
     fn keep_end(&mut self) -> Result<(), KeepError> {
         self.make_whole()
     }
+
+    ghost keeps_tree = { λ it one other same keeps clean. keeps_same view recovers it.keeper.store one.tree other.tree same (keeps clean) };
+
+    ghost holds_trees = { λ it before one after other same too holds clean. leaves_same view recovers it.keeper.store before.tree one.tree after.tree other.tree same too (holds clean) };
 }
 
-/// The stores in files of this system. Nothing is supposed of what they hold.
+/// The stores in files of this system. Nothing is supposed of what they hold. A store that was made first holds the first resources.
 impl Stores for HostRuntime {
     type Keeper = StoreFile;
 
-    ghost holds = { λ _ _ _ kept tree. spec.IsOpened view recovers (image_at ⟦<Wary as Start>⟧) kept.keeper.store tree };
+    ghost holds = { λ _ file first kept tree. spec.IsStoreAt view recovers (image_at ⟦<Wary as Start>⟧) file first kept.keeper.store (string_bytes kept.file) kept.made tree };
 
     fn open_store(
         &self,
         file: &str,
         first: &[ResourceSetting],
     ) -> Result<(StoreFile, Tree), Ended> {
-        if is_missing(self, file) {
+        let made = is_missing(self, file);
+        if made {
             make_store(self, file, first)?;
         }
-        match whole_store(self, file, Wary) {
-            Ok((keeper, tree)) => Ok((StoreFile::new(keeper), tree)),
-            Err(ended) => Err(ended),
-        }
+        let (kept, tree) = store_at(self, file, made)?;
+        is_as_made(self, &kept, &tree, first)?;
+        Ok((kept, tree))
     }
 
-    ghost held = { λ _ _ tree. spec.IsRead tree };
+    ghost held = { λ _ _ _ tree. spec.IsRead tree };
 
-    fn find_store(&self, file: &str) -> Result<Tree, Ended> {
-        read_tree(self, file)
+    fn find_store(&self, file: &str, until_damage: bool) -> Result<Tree, Ended> {
+        read_tree(self, file, until_damage)
     }
 
     ghost saves = { λ _ _ tree. spec.IsSaved tree };
@@ -211,7 +259,7 @@ impl Stores for HostRuntime {
 }
 
 // The resources that copies of the files hold, which are only read.
-fn read_tree(rt: &HostRuntime, file: &str) -> Result<Tree, Ended>
+fn read_tree(rt: &HostRuntime, file: &str, until_damage: bool) -> Result<Tree, Ended>
     ensures found { IfOk result spec.IsRead }
     ensures ends { IfErr result ends.NotOpened }
 {
@@ -220,9 +268,19 @@ fn read_tree(rt: &HostRuntime, file: &str) -> Result<Tree, Ended>
         Err(Uncopied::Io(error)) => return Err(refused_by_io(rt, file, &error)),
         Err(Uncopied::Refused(error)) => return Err(refused(rt, file, file, error)),
     };
-    match read_store(rt.alloc(), &copies.log, &copies.db) {
+    match tree_in(rt.alloc(), &copies, until_damage) {
         Ok(tree) => Ok(tree),
         Err(error) => Err(refused(rt, file, file, error)),
+    }
+}
+
+fn tree_in(alloc: Global, copies: &Copies, until_damage: bool) -> Result<Tree, OpenStoreError>
+    ensures { IfOk result spec.IsRead }
+{
+    if until_damage {
+        read_until_damage(alloc, &copies.log, &copies.db)
+    } else {
+        read_store(alloc, &copies.log, &copies.db)
     }
 }
 
@@ -235,12 +293,12 @@ pub fn list_store<R: Stores, W: Write>(
     words: &StoreWords,
     writer: &mut W,
 ) -> Ended
-    ensures done { result ≡ Ended.Done → (tree : AnyTree) × R.held runtime.now words.now.file tree
+    ensures done { result ≡ Ended.Done → (tree : AnyTree) × R.held runtime.now words.now.file words.now.until_damage tree
         × IfSome words.now.backup (λ to. R.saves runtime.now to tree)
         × Appends (W.contents writer.old) (W.contents writer.new) (spec.printed words.now.dump tree) }
     ensures ends { ends.EndsStore result }
 {
-    match runtime.find_store(words.file.as_str()) {
+    match runtime.find_store(words.file.as_str(), words.until_damage) {
         Ok(tree) => match back_up(runtime, &words.backup, &tree) {
             Ok(()) => print_tree(alloc, &tree, words.dump, writer),
             Err(ended) => ended,
@@ -296,6 +354,52 @@ fn stored_line(alloc: Global, path: &Path, resource: &Resource) -> Result<Vec<u8
 }
 
 // ---- a store that is there
+
+// The store in this file, whose database file alone holds it.
+fn store_at(rt: &HostRuntime, file: &str, made: bool) -> Result<(StoreFile, Tree), Ended>
+    ensures opened { IfOk result (λ opened. spec.IsOpened view recovers (image_at ⟦<Wary as Start>⟧) opened.0.keeper.store opened.1) }
+    ensures file { IfOk result (λ opened. string_bytes opened.0.file ≡ file.now) }
+    ensures made { IfOk result (λ opened. opened.0.made ≡ made) }
+    ensures ends { IfErr result ends.NoStore }
+{
+    let Ok(name) = String::from_str(rt.alloc(), file) else {
+        return Err(Ended::OutOfMemory);
+    };
+    match whole_store(rt, name.as_str(), Wary) {
+        Ok((keeper, tree)) => {
+            let kept = StoreFile {
+                keeper,
+                file: name,
+                made,
+                changed: None,
+            };
+            Ok((kept, tree))
+        }
+        Err(ended) => Err(ended),
+    }
+}
+
+// Where the store was made first, it has to have the first resources, and nothing else.
+fn is_as_made(
+    rt: &HostRuntime,
+    kept: &StoreFile,
+    tree: &Tree,
+    first: &[ResourceSetting],
+) -> Result<(), Ended>
+    ensures as_made { OnOk result (kept.now.made ≡ true → tree.now ≡ tree_of first.now) }
+    ensures ends { IfErr result ends.NoStore }
+{
+    if !kept.made {
+        return Ok(());
+    }
+    let wanted = first_tree(rt.alloc(), first)?;
+    if are_same(tree, &wanted) {
+        Ok(())
+    } else {
+        let file = kept.file.as_str();
+        Err(refused(rt, file, file, OpenStoreError::Damaged))
+    }
+}
 
 // The store, whose database file alone holds it.
 fn whole_store<S: Start>(
@@ -425,7 +529,7 @@ fn named(rt: &HostRuntime, file: &str, new: &NewFiles) -> Result<(), Ended>
     }
 }
 
-// Keeps these resources, each over one of the same path.
+// Keeps these resources, each over one of the same path, by one commit.
 fn keep_first<K: Keeping>(
     alloc: Global,
     keeper: &mut K,
@@ -436,25 +540,42 @@ fn keep_first<K: Keeping>(
     ensures tree { OnOk result (tree.new ≡ fold with_resource tree.old first.now) }
     ensures ends { IfErr result ends.NoStore }
 {
+    write_first(alloc, keeper, tree, first)?;
+    match keeper.commit() {
+        Ok(()) => Ok(()),
+        Err(error) => Err(Ended::NotKept(error)),
+    }
+}
+
+fn write_first<K: Keeping>(
+    alloc: Global,
+    keeper: &mut K,
+    tree: &mut Tree,
+    first: &[ResourceSetting],
+) -> Result<(), Ended>
+    ensures written { (kept : AnyTree) → K.writes keeper.old kept tree.old → OnOk result (K.writes keeper.new kept tree.new) }
+    ensures tree { OnOk result (tree.new ≡ fold with_resource tree.old first.now) }
+    ensures ends { IfErr result ends.NoStore }
+{
     for resource in first {
-        keep_one(alloc, keeper, tree, resource)?;
+        write_one(alloc, keeper, tree, resource)?;
     }
     Ok(())
 }
 
-fn keep_one<K: Keeping>(
+fn write_one<K: Keeping>(
     alloc: Global,
     keeper: &mut K,
     tree: &mut Tree,
     setting: &ResourceSetting,
 ) -> Result<(), Ended>
-    ensures kept { K.keeps keeper.old tree.old → OnOk result (K.keeps keeper.new tree.new) }
+    ensures written { (kept : AnyTree) → K.writes keeper.old kept tree.old → OnOk result (K.writes keeper.new kept tree.new) }
     ensures tree { OnOk result (tree.new ≡ with_resource tree.old setting.now) }
     ensures ends { IfErr result ends.NoStore }
 {
     paths_are_ordered();
     add_resource(alloc, tree, setting)?;
-    match keeper.keep(&setting.path, tree.get(&setting.path)) {
+    match keeper.write(&setting.path, tree.get(&setting.path)) {
         Ok(()) => Ok(()),
         Err(error) => Err(Ended::NotKept(error)),
     }
@@ -571,6 +692,9 @@ fn refused_line(alloc: Global, file: &str, error: OpenStoreError) -> Result<Stri
         OpenStoreError::ForeignLog => {
             Ok(format!(in alloc; "store {file}: its log {file}-wal is that of another file")?)
         }
+        OpenStoreError::DamagedLog => Ok(format!(in alloc;
+            "store {file}: its log {file}-wal is damaged"
+        )?),
         _ => Ok(format!(in alloc; "store {file}: {error}")?),
     }
 }

@@ -1,13 +1,14 @@
 //! Turns of a node at a port, at the moments of a clock and with the bytes of a generator.
-ghost use Rattle.std.specs.Prelude.{◌≡◌, ◌≢◌, ◌⊎◌, ◌<◌, ◌∷◌, [], ℕ, List, None, IfErr, IfOk, OnErr, OnOk};
-ghost use Rattle.osc_model.specs.declared.step.Datagram.{Datagram as AnyDatagram};
-ghost use Rattle.osc_turn.specs.{grown};
+ghost use Rattle.std.specs.Prelude.{◌≡◌, ◌≤◌, ◌++◌, ◌∷◌, [], ℕ, List, None, Option, Some, IfErr, IfOk, IfSome, OnErr, OnOk};
+ghost use Rattle.osc_turn.specs.{Received};
+ghost use Rattle.osc_turn.specs.Running.{EndsBy, Running, running};
 ghost use Rattle.osc_programs.specs.Ended as ends;
-ghost use Rattle.osc_programs.specs.Kept.{LeavesKept, LeavesNode};
-ghost use Rattle.osc_log.specs.{Event, Tells, turned as turned_event};
+ghost use Rattle.osc_programs.specs.Kept.{HasCause, LeavesKept};
+ghost use Rattle.osc_log.specs.{Tells};
+ghost use Rattle.osc_programs.specs.System as system;
 ghost use Rattle.osc_programs.specs.Turning as spec;
 
-use crate::ended::Ended;
+use crate::ended::{Ended, ended_by_io};
 use crate::holding::{AskedNode, Holding};
 use crate::supply::moment_and_draw;
 use osc_ccm::Suite;
@@ -16,13 +17,21 @@ use osc_log::{Log, Turn};
 use osc_model::Moment;
 use osc_run::Node;
 use osc_turn::{
-    ClockAndRandom, KeepsSteps, KeptNode, Pace, Port, TurnError, Turned, Unsent, Watch, kept_turn,
-    paced_turn,
+    Batch, ClockAndRandom, KeepsSteps, KeptNode, Pace, Port, Stepped, TurnError, Turned, Unsent,
+    Watch, kept_turn, paced_turn,
 };
 use std::alloc::Global;
 
-/// The node takes this number of turns, unless one fails, and the log tells of each. What a step changed is kept before anything of the step is handed
-/// to the port; where it isn't kept, nothing of that step is sent, and the turns end. A datagram that can't be sent is lost, as on the way; so
+/// What a node takes its turns by: what hands it moments and draws, the pace that it keeps, and room for the steps of one turn.
+#[derive(Drop)]
+pub(crate) struct Rhythm<W: Watch + Drop> {
+    supply: ClockAndRandom<W>,
+    pace: Pace,
+    batch: Batch,
+}
+
+/// The node takes this number of turns, unless one fails, and the log tells of each. What its steps changed is kept before anything of the turn is handed
+/// to the port; where it isn't kept, nothing of that turn is sent, and the turns end. A datagram that can't be sent is lost, as on the way; so
 /// is what came where there is no memory for its step.
 pub(crate) fn take_turns<
     W: Watch + Drop,
@@ -32,74 +41,155 @@ pub(crate) fn take_turns<
     L: Log,
 >(
     alloc: Global,
-    supply: &mut ClockAndRandom<W>,
+    supply: ClockAndRandom<W>,
     port: &mut P,
     kept: &mut KeptNode<N, K>,
     log: &mut L,
     turns: u64,
 ) -> Ended
-    ensures turns { (taken : ℕ) × (out : List AnyDatagram) × (events : List Event) × (last : spec.Running N)
-        × spec.Turns N.acts N.is_step N.held taken
-        (record { node = kept.old.node; busy = None; supply = supply.old }) (record { sent = out; events = events }) last
-        × LeavesNode N.is_step result last.node kept.new.node
-        × (P.sent port.new ≡ grown (P.sent port.old) out) × Tells (L.told log.old) (L.told log.new) events
-        × (((result ≡ Ended.Done) × (taken ≡ turns)) ⊎ ((result ≢ Ended.Done) × (taken < turns)))
+    ensures turns { (taken : ℕ) × (turned : spec.Shown) × (last : Running N) × (came : List (Option Received))
+        × spec.Turns N.acts N.is_step N.held taken (running kept.old.node None supply) turned last
+        × spec.LeavesNode N.acts N.is_step last result came kept.new.node
+        × (taken ≤ turns) × (result ≡ Ended.Done → taken ≡ turns)
+        × system.Passes P.received P.sent port.old port.new (system.then_passed turned.passed (record { received = came; sent = [] }))
+        × Tells (L.told log.old) (L.told log.new) turned.events
         × (K.keeps kept.old.keeper kept.old.node → LeavesKept K.keeps K.may_hold result last.node kept.new.node kept.new.keeper) }
-    ensures fails { (error : _) → result ≡ Ended.NotKept error → (keeper : K) × K.may_fail keeper }
+    ensures cause { K.keeps kept.old.keeper kept.old.node → HasCause K.trusted K.faults (K.too_long kept.new.node) kept.old.keeper kept.new.keeper result }
+    ensures fails { (error : _) → result ≡ Ended.NotKept error → K.may_fail }
+    ensures counts { K.faults kept.old.keeper ≤ K.faults kept.new.keeper }
+    ensures trust { K.trusted kept.new.keeper → K.trusted kept.old.keeper }
+    ensures file { K.file kept.new.keeper ≡ K.file kept.old.keeper }
     ensures ends { ends.EndsKept result }
 {
     telling_goes_on();
-    let mut pace = Pace::START;
+    match Batch::new(alloc, Moment::START) {
+        Ok(batch) => {
+            let mut rhythm = Rhythm {
+                supply,
+                pace: Pace::START,
+                batch,
+            };
+            turns_in(alloc, &mut rhythm, port, kept, log, turns)
+        }
+        Err(_) => Ended::OutOfMemory,
+    }
+}
+
+// The same in this rhythm.
+fn turns_in<W: Watch + Drop, P: Port, N: Node<Suite> + Holding, K: KeepsSteps<Suite, N>, L: Log>(
+    alloc: Global,
+    rhythm: &mut Rhythm<W>,
+    port: &mut P,
+    kept: &mut KeptNode<N, K>,
+    log: &mut L,
+    turns: u64,
+) -> Ended
+    ensures turns { (taken : ℕ) × (turned : spec.Shown) × (last : Running N) × (came : List (Option Received))
+        × spec.Turns N.acts N.is_step N.held taken (running kept.old.node rhythm.old.pace.busy_since rhythm.old.supply) turned last
+        × spec.LeavesNode N.acts N.is_step last result came kept.new.node
+        × (taken ≤ turns) × (result ≡ Ended.Done → taken ≡ turns)
+        × system.Passes P.received P.sent port.old port.new (system.then_passed turned.passed (record { received = came; sent = [] }))
+        × Tells (L.told log.old) (L.told log.new) turned.events
+        × (K.keeps kept.old.keeper kept.old.node → LeavesKept K.keeps K.may_hold result last.node kept.new.node kept.new.keeper) }
+    ensures cause { K.keeps kept.old.keeper kept.old.node → HasCause K.trusted K.faults (K.too_long kept.new.node) kept.old.keeper kept.new.keeper result }
+    ensures fails { (error : _) → result ≡ Ended.NotKept error → K.may_fail }
+    ensures counts { K.faults kept.old.keeper ≤ K.faults kept.new.keeper }
+    ensures trust { K.trusted kept.new.keeper → K.trusted kept.old.keeper }
+    ensures file { K.file kept.new.keeper ≡ K.file kept.old.keeper }
+    ensures ends { ends.EndsKept result }
+{
+    telling_goes_on();
     for _ in 0..turns {
-        match one_turn(alloc, supply, port, kept, log, &mut pace) {
-            Ok(()) => {}
+        match one_turn(alloc, rhythm, port, kept, log) {
+            Ok(None) => {}
+            Ok(Some(ended)) => return ended,
             Err(ended) => return ended,
         }
     }
     Ended::Done
 }
 
-// One turn, of which the log tells.
+// One turn, of which the log tells, and how it ended the node, if it did. An error where it made no step that is kept.
 fn one_turn<W: Watch + Drop, P: Port, N: Node<Suite> + Holding, K: KeepsSteps<Suite, N>, L: Log>(
     alloc: Global,
-    supply: &mut ClockAndRandom<W>,
+    rhythm: &mut Rhythm<W>,
     port: &mut P,
     kept: &mut KeptNode<N, K>,
     log: &mut L,
-    pace: &mut Pace,
-) -> Result<(), Ended>
-    ensures ok { OnOk result ((events : List Event) × (out : List AnyDatagram)
-        × spec.GoesOn N.acts N.is_step N.held
-        (record { node = kept.old.node; busy = pace.old.busy_since; supply = supply.old }) (record { sent = out; events = events })
-        (record { node = kept.new.node; busy = pace.new.busy_since; supply = supply.new })
-        × (P.sent port.new ≡ grown (P.sent port.old) out) × Tells (L.told log.old) (L.told log.new) events) }
+) -> Result<Option<Ended>, Ended>
+    ensures ok { OnOk result ((shown : spec.Shown)
+        × spec.GoesOn N.acts N.is_step N.held (running kept.old.node rhythm.old.pace.busy_since rhythm.old.supply) shown (running kept.new.node rhythm.new.pace.busy_since rhythm.new.supply)
+        × system.Passes P.received P.sent port.old port.new shown.passed × Tells (L.told log.old) (L.told log.new) shown.events) }
     ensures kept { OnOk result (K.keeps kept.old.keeper kept.old.node → K.keeps kept.new.keeper kept.new.node) }
-    ensures err { OnErr result ((P.sent port.new ≡ P.sent port.old) × (log.new ≡ log.old)) }
-    ensures left { IfErr result (λ ended. LeavesNode N.is_step ended kept.old.node kept.new.node) }
+    ensures over { IfOk result (λ ended. IfSome ended ends.IsFault) }
+    ensures err { IfErr result (λ ended. (came : List (Option Received))
+        × spec.LeavesNode N.acts N.is_step (running kept.old.node rhythm.old.pace.busy_since rhythm.old.supply) ended came kept.new.node
+        × system.Passes P.received P.sent port.old port.new (record { received = came; sent = [] }) × (log.new ≡ log.old)) }
     ensures held { IfErr result (λ ended. K.keeps kept.old.keeper kept.old.node
         → LeavesKept K.keeps K.may_hold ended kept.old.node kept.new.node kept.new.keeper) }
-    ensures fails { IfErr result (λ ended. (error : _) → ended ≡ Ended.NotKept error → K.may_fail kept.old.keeper) }
+    ensures cause { IfErr result (λ ended. K.keeps kept.old.keeper kept.old.node
+        → HasCause K.trusted K.faults (K.too_long kept.new.node) kept.old.keeper kept.new.keeper ended) }
+    ensures fails { IfErr result (λ ended. (error : _) → ended ≡ Ended.NotKept error → K.may_fail) }
+    ensures counts { K.faults kept.old.keeper ≤ K.faults kept.new.keeper }
+    ensures trust { K.trusted kept.new.keeper → K.trusted kept.old.keeper }
+    ensures file { K.file kept.new.keeper ≡ K.file kept.old.keeper }
     ensures fault { IfErr result ends.EndsUnkept }
 {
-    telling_goes_on();
-    let (now, draw) = moment_and_draw(supply)?;
-    match kept_turn::<Suite, _, _, _>(alloc, port, kept, pace, now, &draw) {
-        Ok(turned) => {
-            tell_clock(log, now, supply);
-            tell_turn(alloc, log, now, &turned, &kept.node);
-            drop(turned);
-            Ok(())
-        }
-        Err(Unsent::NoStep(TurnError::Memory)) => {
-            // Before the next tick it takes what comes, so a node without memory waits between its turns.
-            *pace = Pace::START;
-            tell_clock(log, now, supply);
-            log.lost(now);
-            Ok(())
-        }
-        Err(Unsent::NoStep(TurnError::Port(_))) => Err(Ended::PortFailed),
-        Err(Unsent::NotKept(error)) => Err(Ended::NotKept(error)),
+    match kept_turn::<Suite, _, _, _, _>(
+        alloc,
+        &mut rhythm.supply,
+        port,
+        kept,
+        &mut rhythm.pace,
+        &mut rhythm.batch,
+    ) {
+        Ok(taken) => Ok(tell_turn(alloc, log, rhythm, &kept.node, taken.ended)),
+        Err(unsent) => match unsent {
+            Unsent::NoMoment(error) => Err(ended_by_io(&error)),
+            Unsent::NoStep(error) => match error {
+                TurnError::Memory => {
+                    tell_lost(log, rhythm);
+                    Ok(None)
+                }
+                TurnError::Port(_) => Err(Ended::PortFailed),
+            },
+            Unsent::NotKept(error) => Err(Ended::NotKept(error)),
+        },
     }
+}
+
+// ---- what is told
+
+// The log tells of a turn of this node, and of what was lost, if anything was. Answers how the node ends that took nothing more for this reason, if
+// it does.
+fn tell_turn<W: Watch + Drop, N: Holding, L: Log>(
+    alloc: Global,
+    log: &mut L,
+    rhythm: &Rhythm<W>,
+    node: &N,
+    ended: Option<TurnError>,
+) -> Option<Ended>
+    ensures told { (lost : Option Received) (before after : ℕ) → EndsBy ended lost before after → Tells (L.told log.old) (L.told log.new)
+        (spec.of_clock rhythm.now.batch.at rhythm.now.supply
+        ++ (spec.of_steps rhythm.now.batch.at (N.held node.now) rhythm.now.batch.steps ++ spec.of_lost rhythm.now.batch.at lost)) }
+    ensures over { IfSome result ends.IsFault }
+{
+    telling_goes_on();
+    let now = rhythm.batch.at();
+    tell_clock(log, now, &rhythm.supply);
+    tell_steps(alloc, log, now, rhythm.batch.steps(), node);
+    tell_end(log, now, ended)
+}
+
+// The log tells that what came is lost.
+fn tell_lost<W: Watch + Drop, L: Log>(log: &mut L, rhythm: &Rhythm<W>)
+    ensures { (came : Received) → Tells (L.told log.old) (L.told log.new)
+        (spec.of_clock rhythm.now.batch.at rhythm.now.supply ++ spec.of_lost rhythm.now.batch.at (Some came)) }
+{
+    telling_goes_on();
+    let now = rhythm.batch.at();
+    tell_clock(log, now, &rhythm.supply);
+    log.lost(now);
 }
 
 // The log tells by how much the wall clock is behind this moment, where that is due.
@@ -113,20 +203,69 @@ fn tell_clock<W: Watch + Drop, L: Log>(log: &mut L, now: Moment, supply: &ClockA
     }
 }
 
-// The log tells of a turn of this node.
-fn tell_turn<N: Holding, L: Log>(alloc: Global, log: &mut L, now: Moment, turned: &Turned, node: &N)
-    ensures { Tells (L.told log.old) (L.told log.new)
-        (turned_event (record { now = now; received = turned.now.received; step = turned.now.step }) (N.held node.now) ∷ []) }
+// The log tells of these steps of this node, at this moment.
+fn tell_steps<N: Holding, L: Log>(
+    alloc: Global,
+    log: &mut L,
+    now: Moment,
+    steps: &[Stepped],
+    node: &N,
+)
+    ensures { Tells (L.told log.old) (L.told log.new) (spec.of_steps now (N.held node.now) steps.now) }
+{
+    telling_goes_on();
+    for stepped in steps {
+        tell_step(alloc, log, now, stepped, node);
+    }
+}
+
+fn tell_step<N: Holding, L: Log>(
+    alloc: Global,
+    log: &mut L,
+    now: Moment,
+    stepped: &Stepped,
+    node: &N,
+)
+    ensures { Tells (L.told log.old) (L.told log.new) (spec.of_step now (N.held node.now) stepped.now ∷ []) }
 {
     let turn = Turn {
         now,
-        received: turned.received,
-        step: &turned.step,
+        received: stepped.received,
+        step: &stepped.step,
     };
     log.turn(alloc, &turn, &AskedNode { node });
 }
 
-/// One turn of the node, at the next moment and with the next draw.
+// The log tells of what was lost, if anything was. A receive that failed ends the node.
+fn tell_end<L: Log>(log: &mut L, now: Moment, ended: Option<TurnError>) -> Option<Ended>
+    ensures told { (lost : Option Received) (before after : ℕ) → EndsBy ended lost before after → Tells (L.told log.old) (L.told log.new) (spec.of_lost now lost) }
+    ensures over { IfSome result ends.IsFault }
+{
+    telling_goes_on();
+    match ended {
+        None => None,
+        Some(error) => tell_error(log, now, error),
+    }
+}
+
+// The same, where the turn ended by this error.
+fn tell_error<L: Log>(log: &mut L, now: Moment, error: TurnError) -> Option<Ended>
+    ensures told { (lost : Option Received) (before after : ℕ) → EndsBy (Some error) lost before after → Tells (L.told log.old) (L.told log.new) (spec.of_lost now lost) }
+    ensures over { IfSome result ends.IsFault }
+{
+    telling_goes_on();
+    match error {
+        TurnError::Memory => {
+            log.lost(now);
+            None
+        }
+        TurnError::Port(_) => Some(Ended::PortFailed),
+    }
+}
+
+// ---- one step
+
+/// One turn of the node, of one step, at the next moment and with the next draw.
 pub fn take_turn<W: Watch + Drop, P: Port, N: Node<Suite>>(
     alloc: Global,
     supply: &mut ClockAndRandom<W>,
@@ -134,10 +273,9 @@ pub fn take_turn<W: Watch + Drop, P: Port, N: Node<Suite>>(
     node: &mut N,
     pace: &mut Pace,
 ) -> Result<Turned, Ended>
-    ensures takes { IfOk result (λ turned. spec.TakesTurn N.acts N.is_step
-        (record { node = node.old; busy = pace.old.busy_since; supply = supply.old }) turned.step
-        (record { node = node.new; busy = pace.new.busy_since; supply = supply.new })) }
-    ensures sent { IfOk result (λ turned. P.sent port.new ≡ grown (P.sent port.old) turned.step.out) }
+    ensures takes { IfOk result (λ turned. (received : List (Option Received)) × spec.TakesTurn N.acts N.is_step
+        (running node.old pace.old.busy_since supply.old) received turned.step (running node.new pace.new.busy_since supply.new)
+        × system.Passes P.received P.sent port.old port.new (record { received = received; sent = turned.step.out })) }
     ensures err { OnErr result ((node.new ≡ node.old) × (P.sent port.new ≡ P.sent port.old)) }
     ensures fault { IfErr result ends.IsFault }
 {

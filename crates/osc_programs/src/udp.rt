@@ -130,18 +130,59 @@ impl UdpPort {
     {
         match &mut self.several {
             None => Ok(Some(0)),
-            Some(several) => several.ready(),
+            Some(several) => several.ready(WAIT_MILLIS),
         }
     }
 
-    // What came, and from whom.
+    // The number of one where something waits already, if there is one.
+    fn ready_now(&mut self) -> io::Result<Option<usize>>
+        ensures failures { self.new.failures ≡ self.old.failures }
+    {
+        match &mut self.several {
+            None => self.first_ready_now(),
+            Some(several) => several.ready(0),
+        }
+    }
+
+    // The number of the first socket, where something waits there.
+    fn first_ready_now(&self) -> io::Result<Option<usize>> {
+        let Some(socket) = self.sockets.get(0) else {
+            return Ok(None);
+        };
+        let mut asked = [asked_of(socket)];
+        if poll(&mut asked, 0) < 0 {
+            return Err(last_error());
+        }
+        Ok(first_ready(&asked))
+    }
+
+    // What came, and from whom, after a wait of at most 10 milliseconds.
     fn received(&mut self, buffer: &mut [u8; 1153]) -> io::Result<Option<(Peer, usize)>>
         ensures within { IfOk result (λ got. IfSome got (λ datagram. datagram.1 ≤ 1153)) }
         ensures failures { self.new.failures ≡ self.old.failures }
     {
-        let Some(number) = self.ready()? else {
-            return Ok(None);
-        };
+        match self.ready()? {
+            Some(number) => self.read(number, buffer),
+            None => Ok(None),
+        }
+    }
+
+    // What came already, and from whom.
+    fn received_already(&mut self, buffer: &mut [u8; 1153]) -> io::Result<Option<(Peer, usize)>>
+        ensures within { IfOk result (λ got. IfSome got (λ datagram. datagram.1 ≤ 1153)) }
+        ensures failures { self.new.failures ≡ self.old.failures }
+    {
+        match self.ready_now()? {
+            Some(number) => self.read(number, buffer),
+            None => Ok(None),
+        }
+    }
+
+    // What came in at the socket of this number, and from whom.
+    fn read(&mut self, number: usize, buffer: &mut [u8; 1153]) -> io::Result<Option<(Peer, usize)>>
+        ensures within { IfOk result (λ got. IfSome got (λ datagram. datagram.1 ≤ 1153)) }
+        ensures failures { self.new.failures ≡ self.old.failures }
+    {
         let Some(socket) = self.sockets.get(number) else {
             return Ok(None);
         };
@@ -201,6 +242,27 @@ impl UdpPort {
         }
     }
 
+    // A receive ended so: nothing came, or the port failed.
+    fn not_received(&mut self, kind: ErrorKind) -> Result<Option<(Peer, usize)>, PortFault>
+        ensures failed { OnErr result (self.old.failures < self.new.failures) }
+        ensures nothing { IfOk result (λ got. got ≡ None) }
+        ensures kept { OnOk result (self.new.failures ≡ self.old.failures) }
+    {
+        match kind {
+            ErrorKind::WouldBlock | ErrorKind::TimedOut | ErrorKind::Interrupted => Ok(None),
+            // The peer's machine said that nothing listens there (RFC 1122 section 4.1.3.3): nothing came.
+            ErrorKind::ConnectionRefused => Ok(None),
+            kind => {
+                self.why = Some(Why {
+                    what: "receive",
+                    peer: self.peer,
+                    kind,
+                });
+                self.fail(None)
+            }
+        }
+    }
+
     // Counts a failure. One that can't be counted any more isn't told, as if nothing had come or all had gone.
     fn fail<T>(&mut self, untold: T) -> Result<T, PortFault>
     where
@@ -225,11 +287,7 @@ impl Several {
     {
         let mut asked = Vec::new(alloc);
         for socket in sockets {
-            asked.push(pollfd {
-                fd: socket.fd(),
-                events: POLLIN,
-                revents: 0,
-            })?;
+            asked.push(asked_of(socket))?;
         }
         Ok(Several {
             asked,
@@ -238,14 +296,14 @@ impl Several {
         })
     }
 
-    // Waits until something comes in, and answers the number of the socket that is to be read, if one is: the first where something waits, from
-    // the one after that which was read last on.
-    fn ready(&mut self) -> io::Result<Option<usize>>
+    // Waits until something comes in, for so many milliseconds at most, and answers the number of the socket that is to be read, if one is: the first
+    // where something waits, from the one after that which was read last on.
+    fn ready(&mut self, wait: u16) -> io::Result<Option<usize>>
         ensures next { IfOk result (λ number. number ≡ spec.next_ready self.new.asked.items self.old.from) }
         ensures after { IfOk result (λ number. IfSome number (λ number. self.new.from ≡ number + 1)) }
         ensures ways { self.new.ways ≡ self.old.ways }
     {
-        if poll(&mut self.asked, i32::from(WAIT_MILLIS)) < 0 {
+        if poll(&mut self.asked, i32::from(wait)) < 0 {
             return Err(last_error());
         }
         let number = next_ready(&self.asked, self.from);
@@ -282,19 +340,17 @@ impl Port for UdpPort {
     fn receive(&mut self, buffer: &mut [u8; 1153]) -> Result<Option<(Peer, usize)>, PortFault> {
         match self.received(buffer) {
             Ok(received) => Ok(received),
-            Err(fault) => match fault.kind() {
-                ErrorKind::WouldBlock | ErrorKind::TimedOut | ErrorKind::Interrupted => Ok(None),
-                // The peer's machine said that nothing listens there (RFC 1122 section 4.1.3.3): nothing came.
-                ErrorKind::ConnectionRefused => Ok(None),
-                kind => {
-                    self.why = Some(Why {
-                        what: "receive",
-                        peer: self.peer,
-                        kind,
-                    });
-                    self.fail(None)
-                }
-            },
+            Err(error) => self.not_received(error.kind()),
+        }
+    }
+
+    fn receive_waiting(
+        &mut self,
+        buffer: &mut [u8; 1153],
+    ) -> Result<Option<(Peer, usize)>, PortFault> {
+        match self.received_already(buffer) {
+            Ok(received) => Ok(received),
+            Err(error) => self.not_received(error.kind()),
         }
     }
 
@@ -313,6 +369,15 @@ impl Port for UdpPort {
                 self.fail(())
             }
         }
+    }
+}
+
+// What the system is asked of a socket: whether something waits there.
+fn asked_of(socket: &BoundSocket) -> pollfd {
+    pollfd {
+        fd: socket.fd(),
+        events: POLLIN,
+        revents: 0,
     }
 }
 

@@ -22,10 +22,10 @@ pub fn unread_words(alloc: Global, why: &SettingsError) -> Result<String, AllocE
 }
 
 /// The words of a text that is too long.
-pub(crate) fn long_words(alloc: Global) -> Result<String, AllocError>
-    ensures { IfOk result (λ text. string_bytes text ≡ spec.long_words) }
+pub(crate) fn long_words() -> &'static str
+    ensures { result.now ≡ spec.long_words }
 {
-    String::from_str(alloc, "settings: the text has more than 1048576 bytes")
+    "settings: the text has more than 1048576 bytes"
 }
 
 fn why_text(alloc: Global, why: &SettingsError) -> Result<String, AllocError>

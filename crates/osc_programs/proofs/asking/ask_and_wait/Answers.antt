@@ -1,6 +1,8 @@
-use Rattle.std.proofs.Common.{◌++◌, refl}
+use Rattle.std.proofs.Common.{refl}
 use Rattle.std.proofs.lemmas.Result.{IfOk-weaker, IfErr-weaker}
-use Rattle.osc_programs.proofs.Taken.{grown_more, fault_talk}
+use Rattle.osc_programs.specs.{sent_alone, then_passed}
+use Rattle.osc_programs.proofs.Passing.{passes_more}
+use Rattle.osc_programs.proofs.Taken.{fault_talk}
 use Rattle.osc_programs.proofs.Talking.{waits_as}
 use Rattle.osc_programs.proofs.asking.ask_and_wait.Goals as goal
 
@@ -9,17 +11,17 @@ returns-clause-requests g c =
     let sent = c.in_ok-learnt.ensures.sends in
     IfOk-weaker c.awaited.result _ _
     (λ outcome waited. (
-      sent.0.out ++ waited.0,
+      then_passed (sent_alone sent.0) waited.0,
       record {
         step = sent.0;
         begun = _;
         sends = sent.1;
-        waited = record { sent = waited.0; outcome = outcome };
+        waited = record { passed = waited.0; outcome = outcome };
         rest = _;
         waits = waits_as _ _ _ _ _ _ _ sent.2 waited.1;
         is = refl;
       },
-      grown_more _ _ _ sent.0.out waited.0 sent.3 waited.2,
+      passes_more g.P.Port.received g.P.Port.sent _ _ _ (sent_alone sent.0) waited.0 sent.3 waited.2,
     ))
     c.awaited.ensures.waits
 

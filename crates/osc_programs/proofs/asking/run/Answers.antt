@@ -1,6 +1,7 @@
-use Rattle.std.proofs.Common.{◌++◌, refl}
+use Rattle.std.proofs.Common.{refl}
 use Rattle.std.proofs.lemmas.Result.{IfOk-weaker}
-use Rattle.osc_programs.proofs.Taken.{grown_more}
+use Rattle.osc_programs.specs.{sent_alone, then_passed}
+use Rattle.osc_programs.proofs.Passing.{passes_more}
 use Rattle.osc_programs.proofs.Talking.{waits_as}
 use Rattle.osc_programs.proofs.asking.run.Goals as goal
 
@@ -10,19 +11,20 @@ returns-clause-converses g c =
     let waited = c.in_ok-exchanged.ensures.waits in
     IfOk-weaker c.go_on.result _ _
     (λ outcome goes. (
-      posted.0.out ++ (waited.0 ++ goes.0),
+      then_passed (sent_alone posted.0) (then_passed waited.0 goes.0),
       record {
         step = posted.0;
         begun = _;
         posts = posted.1;
-        exchanged = record { sent = waited.0; outcome = c.in_ok-exchanged.exchanged };
+        exchanged = record { passed = waited.0; outcome = c.in_ok-exchanged.exchanged };
         left = _;
         between = _;
         waits = waits_as _ _ _ _ _ _ _ posted.2 waited.1;
-        further = record { sent = goes.0; outcome = outcome };
+        further = record { passed = goes.0; outcome = outcome };
         goes_on = goes.1;
         is = refl;
       },
-      grown_more _ _ _ posted.0.out (waited.0 ++ goes.0) posted.3 (grown_more _ _ _ waited.0 goes.0 waited.2 goes.2),
+      passes_more g.P.Port.received g.P.Port.sent _ _ _ (sent_alone posted.0) (then_passed waited.0 goes.0) posted.3
+          (passes_more g.P.Port.received g.P.Port.sent _ _ _ waited.0 goes.0 waited.2 goes.2),
     ))
     c.go_on.ensures.goes_on

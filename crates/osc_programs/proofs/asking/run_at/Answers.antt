@@ -10,7 +10,7 @@ returns-clause-talks g c =
       record {
         start = c.in_ok-supply.supply;
         seeded = c.in_ok-supply.ensures.seeded;
-        sent = talked.0;
+        passed = talked.0;
         last = _;
         talks = talked.1;
         ends = refl;
@@ -20,7 +20,7 @@ returns-clause-talks g c =
         first = c.in_ok-port.port;
         last = c.run-outcome.new.port;
         opened = c.in_ok-port.ensures.opened;
-        handed = talked.2;
+        passes = talked.2;
       },
     ))
     c.run-outcome.ensures.converses

@@ -11,4 +11,4 @@ returns-in-Ok-clause-sends g c =
       sym is,
       gone,
     ))
-    c.sent.ensures.learnt c.sent.ensures.sent
+    c.sent.ensures.learnt c.sent.ensures.passed

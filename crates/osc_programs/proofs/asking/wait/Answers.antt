@@ -1,28 +1,31 @@
-use Rattle.std.proofs.Common.{◌∙◌, [], ◌++◌, arith}
-use Rattle.osc_programs.proofs.Taken.{grown_none, grown_more}
+use Rattle.std.proofs.Common.{◌∙◌, arith}
+use Rattle.osc_programs.specs.{Passed, nothing_passed, then_passed}
+use Rattle.osc_programs.proofs.Passing.{passes_none, passes_more}
 use Rattle.osc_programs.proofs.Talking.{starts, goes_on, learns, still_open}
 use Rattle.osc_programs.proofs.asking.wait.Goals as goal
 
 pub loop-taken-init : goal.loop-taken-init
-loop-taken-init g c = (omega arith, [], grown_none _, starts c.args.turns.now _)
+loop-taken-init g c = (omega arith, nothing_passed, passes_none g.P.Port.received g.P.Port.sent _, starts c.args.turns.now _)
 
 pub loop-taken-preserved : goal.loop-taken-preserved
 loop-taken-preserved g c =
     let so_far = c.loop-taken.invariant in
-    let turn = c.in_ok-learnt.ensures.takes in (
+    let turn = c.in_ok-learnt.ensures.takes in
+    let own : Passed = record { received = turn.0; sent = turn.1.out } in (
       omega (arith, c.loop-taken-test.true),
-      so_far.1 ++ turn.0.out,
-      grown_more _ _ _ so_far.1 turn.0.out so_far.2 turn.3,
-      goes_on c.args.turns.now c.loop-taken.taken _ _ _ so_far.1 turn.0 c.loop-taken-test.true turn.1 (turn.2 ∙ c.in_default.is) so_far.3,
+      then_passed so_far.1 own,
+      passes_more g.P.Port.received g.P.Port.sent _ _ _ so_far.1 own so_far.2 turn.4,
+      goes_on c.args.turns.now c.loop-taken.taken _ _ _ so_far.1 turn.0 turn.1 c.loop-taken-test.true turn.2 (turn.3 ∙ c.in_default.is) so_far.3,
     )
 
 pub returns-in-Some-clause-waits : goal.returns-in-Some-clause-waits
 returns-in-Some-clause-waits g c =
     let so_far = c.loop-taken.invariant in
-    let turn = c.in_ok-learnt.ensures.takes in (
-      so_far.1 ++ turn.0.out,
-      learns c.args.turns.now c.loop-taken.taken _ _ _ _ so_far.1 turn.0 c.in-Some.result c.loop-taken-test.true (omega arith) turn.1 (turn.2 ∙ c.in-Some.is) so_far.3,
-      grown_more _ _ _ so_far.1 turn.0.out so_far.2 turn.3,
+    let turn = c.in_ok-learnt.ensures.takes in
+    let own : Passed = record { received = turn.0; sent = turn.1.out } in (
+      then_passed so_far.1 own,
+      learns c.args.turns.now c.loop-taken.taken _ _ _ _ so_far.1 turn.0 turn.1 c.in-Some.result c.loop-taken-test.true (omega arith) turn.2 (turn.3 ∙ c.in-Some.is) so_far.3,
+      passes_more g.P.Port.received g.P.Port.sent _ _ _ so_far.1 own so_far.2 turn.4,
     )
 
 pub returns-clause-waits : goal.returns-clause-waits

@@ -1,16 +1,30 @@
-use Rattle.osc_programs.proofs.Stored.{fault_kept, fault_keeps, held_alone}
+use Rattle.std.proofs.Common.{[], None, arith, refl, subst, sym}
+use Rattle.osc_programs.specs.{never}
+use Rattle.osc_programs.proofs.Lasting.{left_alone, no_cause, opened_so}
+use Rattle.osc_programs.proofs.Stored.{fault_kept, fault_keeps}
 use Rattle.osc_programs.proofs.Taken.{no_end}
 use Rattle.osc_programs.proofs.running.run.Goals as goal
 
-pub returns-in-Ok-clause-done : goal.returns-in-Ok-clause-done
-returns-in-Ok-clause-done g c = λ done.
-    let told = c.started.ensures.done done in
-    (told.0, told.1, record { seed = told.2; first = c.in-Ok.port; last = c.started.new.port; opened = c.in-Ok.ensures.opened; handed = told.3 }, told.4)
+pub returns-in-Ok-clause-ran : goal.returns-in-Ok-clause-ran
+returns-in-Ok-clause-ran g c =
+    let told = c.started.ensures.ran in (
+      told.0,
+      told.1,
+      opened_so _ _ _ _ _ g.N.Node.acts g.N.Node.is_step g.N.Holding.held _ _ _ _ _ _ (λ port is. subst (g.R.Sockets.opened c.args.runtime.now c.args.bind.now None) (sym is) c.in-Ok.ensures.opened) told.2,
+      told.3,
+      told.4,
+    )
 
 pub returns-in-Err : goal.returns-in-Err
-returns-in-Err g c = record {
-  done = λ done. absurd (no_end c.in-Err.ended c.in-Err.ensures.fault done);
-  kept = λ keeps. (_, held_alone g.K.KeepsSteps.keeps g.K.KeepsSteps.may_hold c.in-Err.ended _ _ c.in-Err.ensures.fault keeps);
-  fails = λ error is. absurd (fault_keeps c.in-Err.ended error c.in-Err.ensures.fault is);
-  ends = fault_kept c.in-Err.ended c.in-Err.ensures.fault;
-}
+returns-in-Err g c =
+    let ended = c.in-Err.ended in
+    let fault = c.in-Err.ensures.fault in
+    record {
+      ran = ([], _, never ended (no_end ended fault), c.telling_goes_on.ensures.none _, λ keeps. left_alone g.K.KeepsSteps.keeps g.K.KeepsSteps.may_hold ended _ _ _ fault keeps);
+      cause = λ keeps. no_cause g.K.KeepsSteps.trusted g.K.KeepsSteps.faults _ _ _ ended fault;
+      fails = λ error is. absurd (fault_keeps ended error fault is);
+      counts = omega arith;
+      trust = λ trust. trust;
+      file = refl;
+      ends = fault_kept ended fault;
+    }

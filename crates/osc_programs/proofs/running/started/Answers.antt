@@ -1,31 +1,50 @@
-use Rattle.std.proofs.Common.{subst}
-use Rattle.osc_programs.specs.{LeavesNode}
-use Rattle.osc_programs.proofs.Stored.{fault_kept, fault_keeps, held_alone}
-use Rattle.osc_programs.proofs.Taken.{no_end, runs}
+use Rattle.std.proofs.Common.{[], arith, refl}
+use Rattle.osc_programs.specs.{never, ran, shown_after}
+use Rattle.osc_programs.proofs.Lasting.{left_alone, no_cause}
+use Rattle.osc_programs.proofs.Stored.{fault_kept, fault_keeps}
+use Rattle.osc_programs.proofs.Taken.{no_end}
 use Rattle.osc_programs.proofs.running.started.Goals as goal
 
-pub returns-in-Ok-clause-done : goal.returns-in-Ok-clause-done
-returns-in-Ok-clause-done g c = λ done.
-    let t = c.take_turns-ended.ensures.turns in
-    let ends = subst (λ ended. LeavesNode g.N.Node.is_step ended t.3.node c.take_turns-ended.new.kept.node) done t.5 in
-    let all = runs _ g.N.Node.acts g.N.Node.is_step g.N.Holding.held c.args.turns t.0 _ _ _ t.1 t.2 t.3 _ _ _ c.in-Ok.ensures.seeded c.in-Ok.ensures.given t.4 ends t.6 t.8 done in
-    (t.2, all.0, all.1, all.2, t.7)
-
-pub returns-in-Ok-clause-kept : goal.returns-in-Ok-clause-kept
-returns-in-Ok-clause-kept g c = λ keeps.
-    let t = c.take_turns-ended.ensures.turns in
-    (t.3.node, t.9 keeps)
-
-pub returns-in-Ok-clause-fails : goal.returns-in-Ok-clause-fails
-returns-in-Ok-clause-fails g c = c.take_turns-ended.ensures.fails
-
-pub returns-in-Ok-clause-ends : goal.returns-in-Ok-clause-ends
-returns-in-Ok-clause-ends g c = c.take_turns-ended.ensures.ends
+pub returns-in-Ok-clause-ran : goal.returns-in-Ok-clause-ran
+returns-in-Ok-clause-ran g c =
+    let t = c.take_turns-ended.ensures.turns in (
+      t.1.events,
+      t.2.node,
+      ran c.take_turns-ended.result (shown_after t.1 t.3) _
+          (record {
+            start = c.in-Ok.supply;
+            seeded = c.in-Ok.ensures.seeded;
+            taken = t.0;
+            few = t.6;
+            all = t.7;
+            earlier = t.1;
+            last = t.2;
+            takes = t.4;
+            came = t.3;
+            leaves = t.5;
+            is = refl;
+          })
+          (record {
+            seed = c.in-Ok.ensures.given;
+            first = c.args.port.now;
+            last = c.take_turns-ended.new.port;
+            opened = refl;
+            passes = t.8;
+          }),
+      t.9,
+      t.10,
+    )
 
 pub returns-in-Err : goal.returns-in-Err
-returns-in-Err g c = record {
-  done = λ done. absurd (no_end c.in-Err.ended c.in-Err.ensures.fault done);
-  kept = λ keeps. (_, held_alone g.K.KeepsSteps.keeps g.K.KeepsSteps.may_hold c.in-Err.ended _ _ c.in-Err.ensures.fault keeps);
-  fails = λ error is. absurd (fault_keeps c.in-Err.ended error c.in-Err.ensures.fault is);
-  ends = fault_kept c.in-Err.ended c.in-Err.ensures.fault;
-}
+returns-in-Err g c =
+    let ended = c.in-Err.ended in
+    let fault = c.in-Err.ensures.fault in
+    record {
+      ran = ([], _, never ended (no_end ended fault), c.telling_goes_on.ensures.none _, λ keeps. left_alone g.K.KeepsSteps.keeps g.K.KeepsSteps.may_hold ended _ _ _ fault keeps);
+      cause = λ keeps. no_cause g.K.KeepsSteps.trusted g.K.KeepsSteps.faults _ _ _ ended fault;
+      fails = λ error is. absurd (fault_keeps ended error fault is);
+      counts = omega arith;
+      trust = λ trust. trust;
+      file = refl;
+      ends = fault_kept ended fault;
+    }

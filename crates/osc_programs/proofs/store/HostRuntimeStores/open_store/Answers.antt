@@ -1,13 +1,17 @@
-use Rattle.std.proofs.Common.{subst, sym}
+use Rattle.std.proofs.Common.{Some, ap, subst, sym}
 use Rattle.sqlite_store.specs.FileStore.{recovers, view}
 use Rattle.osc_store.specs.{Keeps}
-use Rattle.osc_programs.proofs.Openings.{opened_same}
 use Rattle.osc_programs.proofs.store.HostRuntimeStores.open_store.Goals as goal
 
-pub returns-in-Ok-clause-opened : goal.returns-in-Ok-clause-opened
-returns-in-Ok-clause-opened c = opened_same view recovers _ _ _ c.in-Ok.tree c.new.ensures c.in-Ok.ensures.opened
+pub returns-clause-opened : goal.returns-clause-opened
+returns-clause-opened c = record {
+  name = c.in_ok-kept.ensures.file;
+  opened = c.in_ok-kept.ensures.opened;
+  as_made = c.in_ok-is_as_made.ensures.as_made;
+}
 
-pub returns-in-Ok-clause-kept : goal.returns-in-Ok-clause-kept
-returns-in-Ok-clause-kept c server same clean =
-    let it = opened_same view recovers _ _ c.new.result.keeper.store c.in-Ok.tree c.new.ensures c.in-Ok.ensures.opened in
-    subst (Keeps view recovers c.new.result.keeper.store) (sym same) (it.kept clean)
+pub returns-clause-kept : goal.returns-clause-kept
+returns-clause-kept c = λ server same clean. subst (Keeps view recovers c.in_ok-kept.kept.keeper.store) (sym same) (c.in_ok-kept.ensures.opened.kept clean)
+
+pub returns-clause-file : goal.returns-clause-file
+returns-clause-file c = ap Some c.in_ok-kept.ensures.file

@@ -14,3 +14,12 @@ returns-clause-crash c server held clean =
     let old = c.args.self.now.keeper.store in
     let new = c.make_whole.new.self.keeper.store in
     c.make_whole.ensures.crash server.tree (held (clean_before (view old) (view new) c.make_whole.ensures.clean clean)) clean
+
+pub returns-clause-cause : goal.returns-clause-cause
+returns-clause-cause c server held clean =
+    let old = c.args.self.now.keeper.store in
+    let new = c.make_whole.new.self.keeper.store in
+    c.make_whole.ensures.cause server.tree (held (clean_before (view old) (view new) c.make_whole.ensures.clean clean)) clean
+
+pub returns-clause-trust : goal.returns-clause-trust
+returns-clause-trust c clean = clean_before (view c.args.self.now.keeper.store) (view c.make_whole.new.self.keeper.store) c.make_whole.ensures.clean clean
