@@ -19,6 +19,7 @@ const char *nzf_outcome_text(int32_t outcome) {
     case NZF_UNVERIFIED: return "it ended without a protected answer";
     case NZF_NOT_NOW: return "the proxy has heard something already";
     case NZF_REFUSED: return "it was answered, and refused";
+    case NZF_NOT_KEPT: return "what a step changed isn't kept";
     default: return "no outcome of the library";
     }
 }

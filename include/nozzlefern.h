@@ -3,13 +3,16 @@
  * here: the caller hands in what came, when it came and random bytes, and sends what comes out.
  *
  * Calls. Each answers a number of nzf_outcome: NZF_DONE, or why not. NZF_LOST, NZF_UNVERIFIED and NZF_REFUSED say that something was done. After any
- * other number than these and NZF_DONE the node is as it was before the call. NZF_BAD_ARGUMENT says that an argument is out of its range, whatever memory there
- * is: a call with such an argument never answers NZF_NO_MEMORY, but where it says so.
+ * other number than these and NZF_DONE the node is as it was before the call, but for `keep`. NZF_BAD_ARGUMENT says that an argument is out of its range,
+ * whatever memory there is: a call with such an argument never answers NZF_NO_MEMORY, but where it says so.
  *
- * Steps. What a step leaves is there until the next: the datagrams that are to be sent, and what was served, refused or learnt. So take the
+ * Steps. What a step leaves is there until the next: the datagrams that are to be sent, and what was served, changed, refused or learnt. So take the
  * datagrams by `next` before another step. A device's own calls (`open`, `put` and the like) leave nothing of the step before them, once
  * something was begun. A call that is refused leaves the last step as it was: look at what was served, refused or learnt only after NZF_DONE, and
  * after a tick's NZF_LOST.
+ *
+ * Keeping. A device whose owner calls `keep` after each step hands out nothing of a step before what it changed is kept, and makes no other: until then
+ * `next` and each call that makes a step answer NZF_NOT_KEPT, and all stays. Where it couldn't be kept they answer so for good; what only looks goes on.
  *
  * Structs. The larger ones begin with `size`, which the caller sets, to the sizeof, and no call changes. Begin with the initializer that is named after the
  * struct (NZF_DEVICE_SETTINGS for nzf_device_settings; NZF_REFUSAL for nzf_refused), and set what differs. A struct that a call fills may also have the
@@ -49,9 +52,11 @@ extern "C" {
 #if defined(__GNUC__) || defined(__clang__)
 #define NZF_POINTERS __attribute__((nonnull))
 #define NZF_CALL __attribute__((nonnull, warn_unused_result))
+#define NZF_ANSWER __attribute__((warn_unused_result))
 #else
 #define NZF_POINTERS
 #define NZF_CALL
+#define NZF_ANSWER
 #endif
 
 /* a function that a program makes for itself */
@@ -96,7 +101,8 @@ typedef enum nzf_outcome {
     NZF_LOST = 35,         /* there was no memory on the way: what is open stays so, and a later tick goes on with it */
     NZF_UNVERIFIED = 36,   /* what was begun ended by an unprotected answer, whose code is told, or by none in time: the code is 0 then */
     NZF_NOT_NOW = 37,      /* the proxy has heard something already */
-    NZF_REFUSED = 39       /* what was asked was answered, and refused: the code is told */
+    NZF_REFUSED = 39,      /* what was asked was answered, and refused: the code is told */
+    NZF_NOT_KEPT = 40      /* what the last step changed isn't kept, or not yet: nothing of it is sent, and no other step is made */
 } nzf_outcome;
 
 /* An outcome in English, without a full stop; of another number that it is none. The text is the library's and stays. */
@@ -355,6 +361,22 @@ typedef struct nzf_refused {
 
 #define NZF_REFUSAL {sizeof(nzf_refused), NZF_PEER, 0, 0, 0, NZF_ID}
 
+/* what a step of a device changed */
+typedef struct nzf_change {
+    size_t size;        /* of this struct */
+    uint8_t is_there;   /* 1 where something is at the path now; 0 where it was deleted */
+    uint8_t waits;      /* 1 where that waits to be kept; else 0 */
+    int32_t format;     /* the Content-Format, or NZF_NO_FORMAT */
+    size_t path_length;
+    size_t payload_length; /* 0 to NZF_PAYLOAD_MAX */
+} nzf_change;
+
+#define NZF_CHANGE {sizeof(nzf_change), 0, 0, NZF_NO_FORMAT, 0, 0}
+
+/* What keeps a resource for the device's owner: `value` is what is at the path from now on, and null where that was deleted. 0 says that it is kept, so
+ * that it is found after the power was cut; another number that it couldn't be. It may not call the device. */
+typedef int (*nzf_keep)(void *context, const void *path, size_t path_length, const void *value, size_t length, int32_t format);
+
 /* how something that a client began went on */
 typedef enum nzf_result_kind {
     NZF_RESULT_MADE = 1,      /* the exchange made a security context */
@@ -367,7 +389,7 @@ typedef enum nzf_result_kind {
 typedef struct nzf_result {
     size_t size;    /* of this struct */
     uint8_t what;   /* nzf_result_kind */
-    uint8_t code;
+    uint8_t code;   /* of an answer, or of what ended it, where a Reset has 0; the nzf_reason of a refusal; 0 of what was made or timed out */
     int32_t format; /* of an answer: its Content-Format, or NZF_NO_FORMAT */
     size_t length;  /* of an answer's payload */
     /* may be left out */
@@ -392,6 +414,11 @@ typedef struct nzf_proxy { void *held; } nzf_proxy;
  * NZF_BAD_ARGUMENT: the size, an audience that is no UTF-8, a flag that is neither 0 nor 1, a revocation path that is none or has more than 4 segments.
  * Also NZF_NO_MEMORY, whatever the scopes are. */
 int32_t nzf_device_new(nzf_device *device, const nzf_device_settings *settings, const nzf_draw *draw) NZF_CALL;
+
+/* The same with these resources, as those that were kept of a device that is gone: they are there from the start, and none of them is a change. Of two for
+ * a path the later counts. NZF_BAD_ARGUMENT also where one of them isn't a value for a path, has a payload of more than NZF_PAYLOAD_MAX bytes, or there are
+ * more than 1,024 paths; or NZF_NO_MEMORY in its place. With a count of 0 it is `new`; hand in a pointer all the same. Heap: what is stored, too. */
+int32_t nzf_device_new_with(nzf_device *device, const nzf_device_settings *settings, const nzf_resource *first, size_t count, const nzf_draw *draw) NZF_CALL;
 
 /* Gives the device a security context with its server, which `put`, `append`, `remove`, `revoke` and `allow` need; also after `restart`.
  * NZF_UNVERIFIED with the code where the server refuses it; else `code` is 0. Also NZF_BUSY, NZF_LOST, NZF_BAD_ARGUMENT, NZF_NO_MEMORY. Heap: while
@@ -455,6 +482,23 @@ int32_t nzf_device_served(const nzf_device *device, nzf_served *served, void *by
  * so that it is genuine, `token` is its id. Of a protected request none is told: nothing proves who sent it. Heap: none. */
 int32_t nzf_device_refused(const nzf_device *device, nzf_refused *refused) NZF_CALL;
 
+/* What the last step changed: at most one path, whether the request was another's or the device's own (`put`, `append`, `remove`, `revoke`, `allow`, or a
+ * tick that went on with one). The path and the payload that it has now are written one after the other, where there is room for both: NZF_PATH_MAX +
+ * NZF_PAYLOAD_MAX bytes are always enough. NZF_NOTHING where it changed nothing; NZF_TOO_SHORT where `room` is less than the two lengths together, and all
+ * but these bytes is told then, too. NZF_BAD_ARGUMENT for the size. Heap: none. */
+int32_t nzf_device_changed(const nzf_device *device, nzf_change *change, void *bytes, size_t room) NZF_CALL;
+
+/* Keeps what the last step changed, if it changed something that isn't kept yet, by this function, and switches keeping on. So call it after each step,
+ * before `next`. NZF_DONE: nothing is left to be kept. NZF_NOT_KEPT: it couldn't be kept, now or before; then free the device, and make it of what is kept.
+ * It is `keeps`, `changed` and `kept`, one after the other. `context` is handed on, and may be null. Heap: none. */
+int32_t nzf_device_keep(nzf_device *device, nzf_keep keep, void *context) NZF_ANSWER;
+
+/* The same by hand. `keeps` switches keeping on: from now on what a step changes, the last one's too, is kept before anything of the step is sent. `kept`
+ * says whether what waits is kept: 1, or 0 where it couldn't be. NZF_NOTHING where nothing waits, NZF_BAD_ARGUMENT where it is neither 1 nor 0. Both:
+ * NZF_NOT_KEPT where something couldn't be kept before. Heap: none. */
+int32_t nzf_device_keeps(nzf_device *device) NZF_CALL;
+int32_t nzf_device_kept(nzf_device *device, uint8_t is_kept) NZF_CALL;
+
 /* Starts again: resources stay, security contexts are gone, and holders post their tokens again. The device does so by `open`. */
 int32_t nzf_device_restart(nzf_device *device) NZF_CALL;
 
@@ -510,7 +554,7 @@ int32_t nzf_proxy_new(nzf_proxy *proxy) NZF_CALL;
 int32_t nzf_proxy_add_target(nzf_proxy *proxy, const void *host, size_t host_length, uint16_t port, const nzf_peer *to) NZF_CALL;
 
 /* Up to so many of its confirmable messages may be outstanding to a peer, 1 to 16, as long as none to it is lost; one at a time where this isn't said.
- * Before its first datagram and tick only, else NZF_NOT_NOW. NZF_BAD_ARGUMENT for another number. Heap: then some 7 KiB more for each above 1. */
+ * Before its first datagram and tick only, else NZF_NOT_NOW. NZF_BAD_ARGUMENT for another number. Heap: then some 6 KiB more for each above 1. */
 int32_t nzf_proxy_set_outstanding(nzf_proxy *proxy, uint8_t most) NZF_CALL;
 
 /* These bytes came from there as one datagram, as for a device. Also NZF_BAD_ARGUMENT, NZF_NO_MEMORY. Heap: for the step, and for what is forwarded. */

@@ -98,6 +98,7 @@ numbered which.Lost is = absurd (omega (arith, is))
 numbered which.Unverified is = absurd (omega (arith, is))
 numbered which.NotNow is = absurd (omega (arith, is))
 numbered which.Refused is = absurd (omega (arith, is))
+numbered which.NotKept is = absurd (omega (arith, is))
 
 pub apart : {number : ℤ} (told : Outcome) → number ≡ pos (number_of told) → told ≢ which.TooLong → number ≢ pos 14
 apart told is other at = other (numbered told (ap (λ (z : ℤ). nat_abs z) (sym is ∙ at)))

@@ -5,3 +5,5 @@ pub mod Lending
 pub mod Refused
 pub mod ServedParts
 pub mod Texts
+pub mod Changing
+pub mod Firsts

@@ -15,7 +15,7 @@ use Rattle.osc_server.specs.State.{State as Server}
 use Rattle.osc_device.specs.{AskedOfServer, AsksItsServer, Carries, ComesBack, Reaches, asked_by, at_server}
 use Rattle.osc_device.specs.State.{State}
 use Rattle.osc_device.specs.declared.round.Round.{Round}
-use Rattle.osc_c.specs.{LastStep, nothing, IsRefusal, is_refused_by, last_after, begun_as, learnt_as, refused_as, told_by, told_of}
+use Rattle.osc_c.specs.{LastStep, since_own, IsRefusal, is_refused_by, last_after, begun_as, learnt_as, refused_as, told_by, told_of}
 use Rattle.osc_c.specs.declared.calls.device.DeviceNode.{DeviceNode}
 use Rattle.osc_c.specs.declared.calls.outcome.Outcome.TheVariants as outcome
 use Rattle.osc_c.specs.declared.calls.round.Told.{Told}
@@ -115,5 +115,5 @@ pub kept : (old : DeviceNode) (device : State) (last : LastStep) (round : Round)
 kept old device last round told is_told is_last same is =
     let why = refused_by round.begun.notes.result round.learnt (subst (λ (t : Told). IsRefusal t.outcome) is_told is) in
     let devices = same why.0 why.1 in
-    let lasts : last ≡ old.last = is_last ∙ ap (λ (result : Option ClientResult). if is_refused_by result then old.last else nothing) why.1 in
+    let lasts : last ≡ old.last = is_last ∙ ap (λ (result : Option ClientResult). if is_refused_by result then old.last else since_own round) why.1 in
     (λ i. record { device = devices i; last = lasts i })

@@ -21,6 +21,7 @@ never_done outcome.Lost is = let wrong : outcome.Lost ≡ outcome.Done = is in c
 never_done outcome.Unverified is = let wrong : outcome.Unverified ≡ outcome.Done = is in cc
 never_done outcome.NotNow is = let wrong : outcome.NotNow ≡ outcome.Done = is in cc
 never_done outcome.Refused is = let wrong : outcome.Refused ≡ outcome.Done = is in cc
+never_done outcome.NotKept is = let wrong : outcome.NotKept ≡ outcome.Done = is in cc
 
 pub done_is_so : (is_so : Bool) (told : Told) → (settled is_so told).outcome ≡ outcome.Done → is_so ≡ true
 done_is_so true told done = refl
@@ -41,6 +42,7 @@ same_refusal outcome.Lost is = is
 same_refusal outcome.Unverified is = is
 same_refusal outcome.NotNow is = is
 same_refusal outcome.Refused is = is
+same_refusal outcome.NotKept is = is
 
 pub refusal_is_told : (is_so : Bool) (told : Told) → IsRefusal (settled is_so told).outcome → IsRefusal told.outcome
 refusal_is_told true told is = is

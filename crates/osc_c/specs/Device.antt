@@ -14,10 +14,11 @@ use Rattle.osc_server.specs.{IsStep}
 use Rattle.osc_device.specs.{Carries, AllGoOn, IsOfAnEntry, ServerTakesMemory, noted, restarts}
 use Rattle.osc_device.specs.State.{State}
 use Rattle.osc_run.specs.{Came, Due, by_server}
+use Rattle.osc_turn.specs.Kept.{IsChangeOf}
 use Rattle.osc_device.specs.declared.round.Round.{Round}
 use Rattle.osc_c.specs.Ends.{At, DueAt, Stays}
 use Rattle.osc_c.specs.Given.{GivenDatagram, came_at}
-use Rattle.osc_c.specs.Last.{nothing, since, since_tick}
+use Rattle.osc_c.specs.Last.{entry_in, nothing, since, since_tick}
 use Rattle.osc_c.specs.declared.calls.device.DeviceNode.{DeviceNode}
 use Rattle.osc_c.specs.declared.calls.outcome.Outcome.{Outcome}
 use Rattle.osc_c.specs.declared.calls.outcome.Outcome.TheVariants.{BadArgument, Done, Nothing}
@@ -44,13 +45,15 @@ UnlessNowhere false old outcome new Does = Does
 
 -- `is_sealing algorithm` is the relation of the algorithm's cipher
 module _ (is_sealing : Sealings) where
-  -- The server hears these bytes, and its step is the last one; the device itself isn't changed by it. Each run goes on by that step.
+  -- The server hears these bytes, and its step is the last one; the device itself isn't changed by it. Each run goes on by that step. Of its resources
+  -- that of the path alone has changed which the step says.
   pub record HeardAt (old : DeviceNode) (came : Arrival (List ℕ)) (new : DeviceNode) : Type 0 where
     pub step : Step
     pub is_step : IsStep is_sealing old.device.server (Came came) step new.device.server
     pub own : new.device.own ≡ old.device.own
     pub last : new.last ≡ since step
     pub run : AllGoOn old.device (λ number. by_server step.notes ∷ []) new.device
+    pub change : IsChangeOf step.notes.served old.device.server.tree new.device.server.tree
 
   -- What the server doesn't answer takes no memory.
   abbrev pub HeardBy : DeviceNode → GivenDatagram → Draw → Outcome → DeviceNode → Type 0
@@ -59,7 +62,8 @@ module _ (is_sealing : Sealings) where
       (At given.ms old outcome new (λ now. ServerTakesMemory old.device.server (came_at given now draw)) (λ now. HeardAt old (came_at given now draw) new))
 
   -- The device itself ticks, what it sends is carried to its server and back, and nothing goes to others; what it learns is kept to be told. Each
-  -- run goes on by these steps, and a reply that it learns is that of an entry of the history.
+  -- run goes on by these steps, and a reply that it learns is that of an entry of the history. Of its resources that of the path alone has changed which the
+  -- server's step says.
   pub record TickedAt (old : DeviceNode) (now : Moment) (server_draw : Draw) (lost : Bool) (new : DeviceNode) : Type 0 where
     pub round : Round
     pub loses : round.begun.notes.lost ≡ lost
@@ -70,6 +74,7 @@ module _ (is_sealing : Sealings) where
     pub last : new.last ≡ since_tick round
     pub run : AllGoOn old.device (λ number. noted number round) new.device
     pub entry : IsOfAnEntry old.device round
+    pub change : IsChangeOf (entry_in round.served) old.device.server.tree new.device.server.tree
 
   abbrev pub TickedBy : DeviceNode → ℕ → Draw → Outcome → DeviceNode → Type 0
   TickedBy old ms draw outcome new = DueAt ms old outcome new (λ now lost. TickedAt old now draw lost new)

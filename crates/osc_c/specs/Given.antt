@@ -45,6 +45,9 @@ refused_size = 104
 abbrev pub result_size : ℕ
 result_size = 40
 
+abbrev pub change_size : ℕ
+change_size = 32
+
 -- ---- what the structs say
 
 -- what a token is to claim

@@ -17,6 +17,9 @@ pub mod Tokens
 pub mod Told
 pub mod Device
 pub mod Own
+pub mod Keeping
+pub mod Changes
+pub mod First
 pub mod Values
 pub mod Making
 pub mod Serving
@@ -35,7 +38,7 @@ pub use Ends.{At}
 pub use Given.{GivenDatagram, GivenDevice, GivenGrant, GivenRequest, GivenRules, GivenValue, came_at, claims_given, device_given, grant_given, request_given, rules_given, value_given}
 pub use Granted.{FitsClient}
 pub use Held.{holds}
-pub use Last.{LastStep, nothing}
+pub use Last.{LastStep, nothing, since_own}
 pub use Making.{AreParts, FitsDevice, IsNewDevice, IsNoNewDevice, IsOwnToken, rules_of}
 pub use Nodes.{ClientType, DeviceType, ProxyType}
 pub use Outcome.{number_of}

@@ -5,6 +5,7 @@ use Rattle.std.specs.FinMap as map
 use Rattle.std.specs.FinSet as set
 use Rattle.osc_model.specs.{IsPath, segments_of}
 use Rattle.osc_model.specs.Scope.{Scope}
+use Rattle.osc_model.specs.Tree.{Tree}
 use Rattle.osc_ccm.specs.{Sealings}
 use Rattle.osc_scope.specs.{Entry, IsScope, scope_of}
 use Rattle.osc_device.specs.{IsBegun, IsGranted, IsNoDevice, own_claims}
@@ -15,6 +16,7 @@ use Rattle.osc_device.specs.declared.own_token.OwnToken.{OwnToken}
 use Rattle.osc_device.specs.declared.own_token.ServerParts.{ServerParts}
 use Rattle.osc_authz.specs.declared.enrolling.EnrollError.TheVariants as enroll
 use Rattle.osc_c.specs.Arguments.{IsUnfit}
+use Rattle.osc_c.specs.First.{FitAll, with_all}
 use Rattle.osc_c.specs.Given.{GivenDevice, GivenRules, device_settings_size}
 use Rattle.osc_c.specs.Last.{nothing}
 use Rattle.osc_c.specs.Tokens.{IsNoScopeText, IsScopeOf}
@@ -22,6 +24,7 @@ use Rattle.osc_c.specs.declared.calls.device.DeviceNode.{DeviceNode}
 use Rattle.osc_c.specs.declared.calls.making.Rules.{Rules}
 use Rattle.osc_c.specs.declared.calls.outcome.Outcome.{Outcome}
 use Rattle.osc_c.specs.declared.calls.outcome.Outcome.TheVariants.{BadArgument, BadScope, NoMemory, TooLong}
+use Rattle.osc_c.specs.declared.calls.plain.PlainResource.{PlainResource}
 
 -- ---- what its server rules
 
@@ -66,10 +69,10 @@ IsOpenScope text scope =
     ((text ≡ []) × (scope ≡ set.empty))
     ⊎ ((bytes : List ℕ) × (entries : List Entry) × IsScopeOf text bytes × IsScope bytes entries × (scope ≡ scope_of entries))
 
--- a server without resources
-abbrev pub AreParts : GivenDevice → Rules → ServerParts → Type 0
-AreParts given rules parts =
-    (parts.tree ≡ map.empty) × IsOpenScope given.free parts.open_scope × (parts.key ≡ given.key) × (parts.old_key ≡ rules.old_key)
+-- a server with these resources
+abbrev pub AreParts : GivenDevice → Tree → Rules → ServerParts → Type 0
+AreParts given tree rules parts =
+    (parts.tree ≡ tree) × IsOpenScope given.free parts.open_scope × (parts.key ≡ given.key) × (parts.old_key ≡ rules.old_key)
     × (parts.audience ≡ given.audience) × (parts.revoked ≡ rules.revoked) × (parts.context_seconds ≡ rules.seconds)
     × (parts.subtrees ≡ rules.subtrees)
 
@@ -105,21 +108,24 @@ FitsDevice given = (given.size ≡ device_settings_size) × IsUtf8 given.audienc
 abbrev pub HasNoScope : GivenDevice → Type 0
 HasNoScope given = IsNoOpenScope given.free ⊎ IsNoScopeText given.own
 
--- Why there is none. What can be told without memory is told first; it takes memory to tell that a text says no scope, or why parts make no device.
-abbrev pub IsNoNewDevice : GivenDevice → List ℕ → Outcome → Type 0
-IsNoNewDevice given draw outcome =
-    IsUnfit (FitsDevice given) outcome ⊎ ((outcome ≡ BadScope) × FitsDevice given × HasNoScope given)
-    ⊎ ((parts : ServerParts) × (token : OwnToken) × (error : NewError) × FitsDevice given × AreParts given (rules_of given.rules) parts
+-- Why there is none. What can be told of the settings without memory is told first; it takes memory to tell that a first resource doesn't fit, that a text
+-- says no scope, or why parts make no device.
+abbrev pub IsNoNewDevice : GivenDevice → List PlainResource → List ℕ → Outcome → Type 0
+IsNoNewDevice given first draw outcome =
+    IsUnfit (FitsDevice given) outcome ⊎ ((outcome ≡ BadArgument) × FitsDevice given × ¬ FitAll map.empty first)
+    ⊎ ((outcome ≡ BadScope) × FitsDevice given × HasNoScope given)
+    ⊎ ((parts : ServerParts) × (token : OwnToken) × (error : NewError) × FitsDevice given × AreParts given (with_all map.empty first) (rules_of given.rules) parts
     × IsOwnToken given.own draw token × IsNoDevice parts token error × (outcome ≡ unmade_as error))
 
 -- `is_sealing algorithm` is the relation of the algorithm's cipher
 module _ (is_sealing : Sealings) where
-  -- It begins with these parts and this token, which counts at its server, and has made no step.
-  pub record IsNewDevice (given : GivenDevice) (draw : List ℕ) (node : DeviceNode) : Type 0 where
+  -- It begins with these parts and this token, which counts at its server, and with these resources, and has made no step.
+  pub record IsNewDevice (given : GivenDevice) (first : List PlainResource) (draw : List ℕ) (node : DeviceNode) : Type 0 where
     pub parts : ServerParts
     pub token : OwnToken
     pub fits : FitsDevice given
-    pub are_parts : AreParts given (rules_of given.rules) parts
+    pub fit_all : FitAll map.empty first
+    pub are_parts : AreParts given (with_all map.empty first) (rules_of given.rules) parts
     pub is_token : IsOwnToken given.own draw token
     pub begun : IsBegun is_sealing parts token node.device
     pub granted : (entries : List Entry) × IsScope token.scope entries × IsGranted is_sealing node.device (own_claims parts token) entries

@@ -1,7 +1,7 @@
 -- The types of what handles hold.
 use denote.RattleType.{RattleType}
 use Rattle.osc_c.specs.contracts.calls.client.ClientNode as client
-use Rattle.osc_c.specs.contracts.calls.device.DeviceNode as device
+use Rattle.osc_c.specs.contracts.calls.keeping.KeptNode as device
 use Rattle.osc_c.specs.contracts.calls.proxy.ProxyNode as proxy
 
 abbrev pub DeviceType : RattleType

@@ -2,7 +2,7 @@
 use Rattle.std.specs.Prelude.{ℕ}
 use Rattle.osc_model.specs.Refusals as refusal
 use Rattle.osc_c.specs.declared.calls.outcome.Outcome.{Outcome}
-use Rattle.osc_c.specs.declared.calls.outcome.Outcome.TheVariants.{Done, TooShort, NoMemory, TooLong, Busy, Exhausted, NoContext, BadScope, Nothing, BadArgument, Lost, Unverified, NotNow, Refused}
+use Rattle.osc_c.specs.declared.calls.outcome.Outcome.TheVariants.{Done, TooShort, NoMemory, TooLong, Busy, Exhausted, NoContext, BadScope, Nothing, BadArgument, Lost, Unverified, NotNow, Refused, NotKept}
 
 abbrev pub number_of : Outcome → ℕ
 number_of Done = 0
@@ -19,3 +19,4 @@ number_of Lost = refusal.lost
 number_of Unverified = refusal.unverified
 number_of NotNow = refusal.not_now
 number_of Refused = 39
+number_of NotKept = 40

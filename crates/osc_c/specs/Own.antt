@@ -11,6 +11,7 @@ use Rattle.osc_authz.specs.{ClientContextState}
 use Rattle.osc_client.specs.{Begins, IsFree}
 use Rattle.osc_client.specs.State.{State as Own}
 use Rattle.osc_ccm.specs.{Sealings, Tags}
+use Rattle.osc_turn.specs.Kept.{IsChangeOf}
 use Rattle.osc_scope.specs.{Entry}
 use Rattle.osc_token.specs.declared.claims.Claims.{Claims}
 use Rattle.osc_device.specs.{IsAnsweredWhereReady, IsOpen, IsWhole, MayOpen, MayReturn, method_of, own_request, AskedOfServer, AsksItsServer, Carries, asked_by, AllGoOn, IsOfAnEntry, noted}
@@ -19,7 +20,7 @@ use Rattle.osc_device.specs.declared.ruling.Ruling.{Ruling}
 use Rattle.osc_device.specs.declared.ruling.Ruling.TheVariants.{Allow, Revoke}
 use Rattle.osc_c.specs.Arguments.{IsFormat, IsFormatNumber, IsUnfit}
 use Rattle.osc_c.specs.Given.{GivenId, GivenPath, GivenValue, resource_size}
-use Rattle.osc_c.specs.Last.{LastStep, nothing}
+use Rattle.osc_c.specs.Last.{LastStep, entry_in, since_own}
 use Rattle.osc_c.specs.Plain.{draw_of}
 use Rattle.osc_c.specs.Told.{bare, settled, told_of}
 use Rattle.osc_c.specs.declared.calls.device.DeviceNode.{DeviceNode}
@@ -35,7 +36,7 @@ is_refused_by result = false
 
 -- Where nothing was begun the last step stays, and else there is none for others.
 abbrev pub last_after : Round → LastStep → LastStep
-last_after round last = if is_refused_by round.begun.notes.result then last else nothing
+last_after round last = if is_refused_by round.begun.notes.result then last else since_own round
 
 -- nothing was begun: something is open, there is no context, its numbers are used up, or it would be too long
 abbrev pub IsRefusal : Outcome → Type 0
@@ -100,6 +101,10 @@ asked_for draws now request = record { at = now; draw = draw_of draws.own; serve
 abbrev pub IsRejected : Type 0 → DeviceNode → Told → DeviceNode → Type 0
 IsRejected Fit old told new = IsUnfit Fit told.outcome × (told.code ≡ 0) × (new ≡ old)
 
+-- of its resources that of the path alone has changed which the server's step says, if it made one
+abbrev pub ChangesOne : DeviceNode → Round → DeviceNode → Type 0
+ChangesOne old round new = IsChangeOf (entry_in round.served) old.device.server.tree new.device.server.tree
+
 -- `is_sealing algorithm` is the relation of the algorithm's cipher, and `tag algorithm` how long its tag is
 module _ (is_sealing : Sealings) where
   -- The device posts its token, and what it sends is carried to its server and back; where it may, and no step wants memory, it has a context: a place is
@@ -113,6 +118,7 @@ module _ (is_sealing : Sealings) where
       × ((claims : Claims) (entries : List Entry) → MayReturn is_sealing old.device now (draw_of draws.own) claims entries → IsWhole round
       → IsOpen now entries new.device)
       × AllGoOn old.device (λ number. noted number round) new.device
+      × ChangesOne old round new
 
   abbrev pub OpensBy : DeviceNode → ℕ → PlainDraws → Told → DeviceNode → Type 0
   OpensBy old ms draws told new =
@@ -128,6 +134,7 @@ module _ (is_sealing : Sealings) where
         × IsAnsweredWhereReady old.device (asked_by asked) round new.device
         × AllGoOn old.device (λ number. noted number round) new.device
         × IsOfAnEntry old.device round
+        × ChangesOne old round new
 
     -- nothing hinders the request
     abbrev pub IsBegun : DeviceNode → PlainDraws → Request → Type 0

@@ -1,9 +1,12 @@
 //! Nodes by calls of plain numbers and bytes: each with the step that it made last, of which the datagrams are taken one by one.
 mod arguments;
+mod changes;
 mod client;
 mod device;
 mod filling;
+mod first;
 mod granted;
+mod keeping;
 mod last;
 mod making;
 mod outcome;
@@ -19,14 +22,15 @@ mod tokens;
 
 pub use client::ClientNode;
 pub use device::DeviceNode;
-pub use filling::{fill, fill_three};
+pub use filling::{fill, fill_three, fill_two};
+pub use keeping::{Keeping, KeptNode};
 pub use last::Last;
 pub use making::Rules;
 pub use outcome::Outcome;
 pub use plain::{
-    PlainBytes, PlainClaims, PlainClientSettings, PlainDeviceSettings, PlainDraw, PlainDraws,
-    PlainEtag, PlainId, PlainIv, PlainKey, PlainOptions, PlainPeer, PlainRefused, PlainRequest,
-    PlainResource, PlainResult, PlainServed, PlainValue,
+    PlainBytes, PlainChange, PlainClaims, PlainClientSettings, PlainDeviceSettings, PlainDraw,
+    PlainDraws, PlainEtag, PlainId, PlainIv, PlainKey, PlainOptions, PlainPeer, PlainRefused,
+    PlainRequest, PlainResource, PlainResult, PlainServed, PlainValue,
 };
 pub use proxy::{Forwarding, ProxyNode};
 pub use round::Told;

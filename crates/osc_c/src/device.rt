@@ -1,16 +1,17 @@
 //! A device.
-ghost use Rattle.std.specs.Prelude.{◌≡◌};
+ghost use Rattle.std.specs.Prelude.{◌≡◌, []};
 ghost use Rattle.std.specs.declared.option.Option.TheVariants.{None};
 ghost use Rattle.osc_c.specs.Device.{HeardBy, Restarts, TellsDeadline, TickedBy};
 ghost use Rattle.osc_c.specs.Given.{device_given};
-ghost use Rattle.osc_c.specs.Last.{HandsOut};
+ghost use Rattle.osc_c.specs.Keeping.{HandsOutKept, StepsBy};
 ghost use Rattle.osc_c.specs.Making.{IsNewDevice, IsNoNewDevice};
 ghost use Rattle.osc_c.specs.Plain.{draw_of, peer_of};
+ghost use Rattle.osc_c.specs.declared.calls.keeping.Keeping.TheVariants.{Off};
 ghost use Rattle.osc_c.specs.declared.calls.outcome.Outcome.TheVariants.{Done};
 ghost use Rattle.osc_c.specs.Calls.{Calls, Looks, Makes};
 ghost use Rattle.osc_c.specs.Ciphers.{sealing};
 
-use crate::calls::{DeviceNode, Outcome, PlainDeviceSettings, PlainDraw, PlainPeer};
+use crate::calls::{KeptNode, PlainDeviceSettings, PlainDraw, PlainPeer, PlainResource};
 use crate::handle::{hold, taken, with};
 use crate::handles::DeviceHandle;
 use osc_ccm::Suite;
@@ -30,21 +31,45 @@ pub extern "C" fn nzf_device_new(
     settings: &PlainDeviceSettings<'_>,
     draw: &PlainDraw,
 ) -> i32
-    ensures { Makes device.old.held result device.new.held (λ node. IsNewDevice sealing (device_given settings.now) draw.now.bytes node)
-        (IsNoNewDevice (device_given settings.now) draw.now.bytes) }
+    ensures { Makes device.old.held result device.new.held (λ kept. IsNewDevice sealing (device_given settings.now) [] draw.now.bytes kept.node × (kept.keeping ≡ Off))
+        (IsNoNewDevice (device_given settings.now) [] draw.now.bytes) }
 {
     hold(
         alloc,
         device,
-        DeviceNode::new::<Suite>(alloc, settings, draw),
+        KeptNode::new::<Suite>(alloc, settings, &[], draw),
+    )
+    .number()
+}
+
+/// Makes a device with these resources: those that were kept of one that is gone. None of them is a change.
+///
+/// Answers as `nzf_device_new`; and 34 where one of them isn't a value for a path, has a payload of more than 512 bytes, or there are more than 1,024
+/// paths. Heap: that of `nzf_device_new`, and what is stored.
+#[unsafe(no_mangle)]
+pub extern "C" fn nzf_device_new_with(
+    alloc: Global,
+    device: &mut DeviceHandle,
+    settings: &PlainDeviceSettings<'_>,
+    first: &[PlainResource<'_>],
+    draw: &PlainDraw,
+) -> i32
+    ensures { Makes device.old.held result device.new.held
+        (λ kept. IsNewDevice sealing (device_given settings.now) first.now draw.now.bytes kept.node × (kept.keeping ≡ Off))
+        (IsNoNewDevice (device_given settings.now) first.now draw.now.bytes) }
+{
+    hold(
+        alloc,
+        device,
+        KeptNode::new::<Suite>(alloc, settings, first, draw),
     )
     .number()
 }
 
 /// These bytes came from this peer at this moment as one datagram.
 ///
-/// Answers 0; or 9 without memory to answer them, 34 where the moment isn't one or the peer is 0.0.0.0, and 33 where nothing is held: then what was held
-/// is held. Heap: for the step.
+/// Answers 0; or 9 without memory to answer them, 34 where the moment isn't one or the peer is 0.0.0.0, 40 where what the last step changed isn't kept,
+/// and 33 where nothing is held: then what was held is held. Heap: for the step.
 #[unsafe(no_mangle)]
 pub extern "C" fn nzf_device_on_datagram(
     alloc: Global,
@@ -54,14 +79,15 @@ pub extern "C" fn nzf_device_on_datagram(
     bytes: &[u8],
     draw: &PlainDraw,
 ) -> i32
-    ensures { Calls device.old.held result device.new.held (λ old outcome new.
-        HeardBy sealing old (record { ms = now; from = peer_of from.now; bytes = bytes.now }) (draw_of draw.now) outcome new) }
+    ensures { Calls device.old.held result device.new.held (λ old outcome new. StepsBy old outcome new (λ old outcome new.
+        HeardBy sealing old (record { ms = now; from = peer_of from.now; bytes = bytes.now }) (draw_of draw.now) outcome new)) }
 {
     with(
         alloc,
         device,
         &mut |node|
-            ensures { HeardBy sealing node.old (record { ms = now; from = peer_of from.entry.now; bytes = bytes.entry.now }) (draw_of draw.entry.now) result node.new }
+            ensures { StepsBy node.old result node.new (λ old outcome new.
+                HeardBy sealing old (record { ms = now; from = peer_of from.entry.now; bytes = bytes.entry.now }) (draw_of draw.entry.now) outcome new) }
         { node.on_datagram::<Suite>(alloc, now, from, bytes, draw) },
     )
     .number()
@@ -69,8 +95,8 @@ pub extern "C" fn nzf_device_on_datagram(
 
 /// What is due by now is done, whatever memory there is.
 ///
-/// Answers 0, or 35 where what should have gone out was lost for lack of memory; or 34 where the moment isn't one, and 33 where nothing is held: then
-/// what was held is held. Heap: for what is sent.
+/// Answers 0, or 35 where what should have gone out was lost for lack of memory; or 34 where the moment isn't one, 40 where what the last step changed
+/// isn't kept, and 33 where nothing is held: then what was held is held. Heap: for what is sent.
 #[unsafe(no_mangle)]
 pub extern "C" fn nzf_device_on_tick(
     alloc: Global,
@@ -78,13 +104,14 @@ pub extern "C" fn nzf_device_on_tick(
     now: u64,
     draw: &PlainDraw,
 ) -> i32
-    ensures { Calls device.old.held result device.new.held (λ old outcome new. TickedBy sealing old now (draw_of draw.now) outcome new) }
+    ensures { Calls device.old.held result device.new.held (λ old outcome new. StepsBy old outcome new (λ old outcome new.
+        TickedBy sealing old now (draw_of draw.now) outcome new)) }
 {
     with(
         alloc,
         device,
         &mut |node|
-            ensures { TickedBy sealing node.old now (draw_of draw.entry.now) result node.new }
+            ensures { StepsBy node.old result node.new (λ old outcome new. TickedBy sealing old now (draw_of draw.entry.now) outcome new) }
         { node.on_tick::<Suite>(alloc, now, draw) },
     )
     .number()
@@ -99,15 +126,15 @@ pub extern "C" fn nzf_device_next_deadline(
     device: &mut DeviceHandle,
     moment: &mut u64,
 ) -> i32
-    ensures { Looks device.old.held result device.new.held (λ node outcome. TellsDeadline node moment.old outcome moment.new) }
+    ensures { Looks device.old.held result device.new.held (λ kept outcome. TellsDeadline kept.node moment.old outcome moment.new) }
 {
-    with(alloc, device, &mut |node| node.next_deadline(moment)).number()
+    with(alloc, device, &mut |kept| kept.node.next_deadline(moment)).number()
 }
 
 /// Takes the next datagram of the last step.
 ///
-/// Answers 0 with its bytes and to whom they go; or 33 once all were taken, or where nothing is held, and 2 where `bytes` is too short: the
-/// datagram stays to be taken. Heap: none.
+/// Answers 0 with its bytes and to whom they go; or 33 once all were taken, or where nothing is held, 2 where `bytes` is too short: the
+/// datagram stays to be taken; and 40 where what the step changed isn't kept. Heap: none.
 #[unsafe(no_mangle)]
 pub extern "C" fn nzf_device_next(
     alloc: Global,
@@ -116,27 +143,24 @@ pub extern "C" fn nzf_device_next(
     bytes: &mut [u8],
     length: &mut usize,
 ) -> i32
-    ensures { Calls device.old.held result device.new.held (λ old outcome new. HandsOut old.last (record { to = to.old; bytes = bytes.old; size = length.old }) outcome new.last (record { to = to.new; bytes = bytes.new; size = length.new }) × (new.device ≡ old.device)) }
+    ensures { Calls device.old.held result device.new.held (λ old outcome new. HandsOutKept old (record { to = to.old; bytes = bytes.old; size = length.old }) outcome new (record { to = to.new; bytes = bytes.new; size = length.new })) }
 {
     with(alloc, device, &mut |node| node.next(to, bytes, length)).number()
 }
 
 /// Starts again: resources stay, and security contexts are gone.
 ///
-/// Answers 0; or 33 where nothing is held. Heap: none.
+/// Answers 0; or 33 where nothing is held, and 40 where what the last step changed isn't kept: then all stays. Heap: none.
 #[unsafe(no_mangle)]
 pub extern "C" fn nzf_device_restart(alloc: Global, device: &mut DeviceHandle) -> i32
-    ensures { Calls device.old.held result device.new.held (λ old outcome new. (outcome ≡ Done) × Restarts old new) }
+    ensures { Calls device.old.held result device.new.held (λ old outcome new. StepsBy old outcome new (λ old outcome new. (outcome ≡ Done) × Restarts old new)) }
 {
     with(
         alloc,
         device,
         &mut |node|
-            ensures { (result ≡ Done) × Restarts node.old node.new }
-        {
-            node.restart();
-            Outcome::Done
-        },
+            ensures { StepsBy node.old result node.new (λ old outcome new. (outcome ≡ Done) × Restarts old new) }
+        { node.restart() },
     )
     .number()
 }

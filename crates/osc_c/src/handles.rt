@@ -4,7 +4,7 @@ ghost use Rattle.std.specs.Coded.{coded_option};
 ghost use Rattle.std.specs.declared.option.Option.{Option};
 ghost use Rattle.osc_c.specs.Nodes.{ClientType, DeviceType, ProxyType};
 
-use crate::calls::{ClientNode, DeviceNode, ProxyNode};
+use crate::calls::{ClientNode, KeptNode, ProxyNode};
 use crate::handle::{Handle, NodeStruct};
 use std::alloc::Global;
 use std::marker::Model;
@@ -31,21 +31,21 @@ impl Drop for DeviceHandle {
 }
 
 impl NodeStruct for DeviceHandle {
-    type Node = DeviceNode;
+    type Node = KeptNode;
 
     ghost held = { λ h. h.held };
 
-    fn into_handle(self) -> Handle<DeviceNode>
+    fn into_handle(self) -> Handle<KeptNode>
         ensures { result.held ≡ self.held }
     {
         let DeviceHandle { at, alloc } = self;
         Handle {
-            at: at as *mut DeviceNode,
+            at: at as *mut KeptNode,
             alloc,
         }
     }
 
-    fn of_handle(handle: Handle<DeviceNode>) -> DeviceHandle
+    fn of_handle(handle: Handle<KeptNode>) -> DeviceHandle
         ensures { result.held ≡ handle.held }
     {
         let Handle { at, alloc } = handle;

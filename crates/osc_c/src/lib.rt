@@ -6,6 +6,7 @@ mod client;
 mod device;
 mod handle;
 mod handles;
+mod keeping;
 mod own;
 mod proxy;
 mod serving;

@@ -5,6 +5,7 @@ ghost use Rattle.osc_device.specs.declared.ruling.Ruling.TheVariants.{Allow, Rev
 ghost use Rattle.osc_c.specs.Given.{value_given};
 ghost use Rattle.osc_c.specs.Own.{AsksBy, IsSoWhereDone, OpensBy, RemovesBy, RulesBy};
 ghost use Rattle.osc_c.specs.Calls.{Tells};
+ghost use Rattle.osc_c.specs.Keeping.{StepsAs};
 ghost use Rattle.osc_c.specs.Inner.Lending.{IsTold};
 ghost use Rattle.osc_c.specs.declared.calls.outcome.Outcome.TheVariants as outcome;
 ghost use Rattle.osc_c.specs.Ciphers.{sealing, tags};
@@ -28,8 +29,8 @@ fn tell(told: Told, code: &mut u8) -> Outcome
 
 /// Gives the device a security context with its server. `code` is that of an unprotected answer where 36 is answered, and else 0.
 ///
-/// Answers 0; or 9 without memory, 17 where something is open, 34 where the moment isn't one, 33 where nothing is held: then what was held is held;
-/// or 35 or 36. Heap: some 2 KiB, while the context lives.
+/// Answers 0; or 9 without memory, 17 where something is open, 34 where the moment isn't one, 40 where what the last step changed isn't kept, 33 where
+/// nothing is held: then what was held is held; or 35 or 36. Heap: some 2 KiB, while the context lives.
 #[unsafe(no_mangle)]
 pub extern "C" fn nzf_device_open(
     alloc: Global,
@@ -39,14 +40,14 @@ pub extern "C" fn nzf_device_open(
     code: &mut u8,
 ) -> i32
     ensures tells { Tells device.old.held code.old (record { number = result; code = code.new }) device.new.held
-        (λ old told new. OpensBy sealing old now draws.now told new) }
+        (λ old told new. StepsAs old told new (λ old told new. OpensBy sealing old now draws.now told new)) }
     ensures fits { result ≢ pos 14 }
 {
     with(
         alloc,
         device,
         &mut |node|
-            ensures tells { IsTold result code.exit.now (λ told. OpensBy sealing node.old now draws.entry.now told node.new) }
+            ensures tells { IsTold result code.exit.now (λ told. StepsAs node.old told node.new (λ old told new. OpensBy sealing old now draws.entry.now told new)) }
             ensures fits { result ≢ outcome.TooLong }
         { tell(node.open::<Suite>(alloc, now, draws), code) },
     )
@@ -55,7 +56,7 @@ pub extern "C" fn nzf_device_open(
 
 /// Puts this value at its path, as a holder of the device's token does. `code` is the answer's, where 0 or 36 is answered, and else 0.
 ///
-/// Answers 0; or 9, 14, 17, 18, 22, 33, 34: then what was held is held; or 35 or 36. Heap: what is stored.
+/// Answers 0; or 9, 14, 17, 18, 22, 33, 34, 40: then what was held is held; or 35 or 36. Heap: what is stored.
 #[unsafe(no_mangle)]
 pub extern "C" fn nzf_device_put(
     alloc: Global,
@@ -66,13 +67,15 @@ pub extern "C" fn nzf_device_put(
     code: &mut u8,
 ) -> i32
     ensures { Tells device.old.held code.old (record { number = result; code = code.new }) device.new.held
-        (λ old told new. AsksBy sealing tags old (record { method = Put; value = value_given now resource.now; draws = draws.now }) told new) }
+        (λ old told new. StepsAs old told new (λ old told new.
+        AsksBy sealing tags old (record { method = Put; value = value_given now resource.now; draws = draws.now }) told new)) }
 {
     with(
         alloc,
         device,
         &mut |node|
-            ensures { IsTold result code.exit.now (λ told. AsksBy sealing tags node.old (record { method = Put; value = value_given now resource.entry.now; draws = draws.entry.now }) told node.new) }
+            ensures { IsTold result code.exit.now (λ told. StepsAs node.old told node.new (λ old told new.
+                AsksBy sealing tags old (record { method = Put; value = value_given now resource.entry.now; draws = draws.entry.now }) told new)) }
         {
             tell(
                 node.write::<Suite>(alloc, Method::Put, now, resource, draws),
@@ -94,13 +97,15 @@ pub extern "C" fn nzf_device_append(
     code: &mut u8,
 ) -> i32
     ensures { Tells device.old.held code.old (record { number = result; code = code.new }) device.new.held
-        (λ old told new. AsksBy sealing tags old (record { method = Post; value = value_given now resource.now; draws = draws.now }) told new) }
+        (λ old told new. StepsAs old told new (λ old told new.
+        AsksBy sealing tags old (record { method = Post; value = value_given now resource.now; draws = draws.now }) told new)) }
 {
     with(
         alloc,
         device,
         &mut |node|
-            ensures { IsTold result code.exit.now (λ told. AsksBy sealing tags node.old (record { method = Post; value = value_given now resource.entry.now; draws = draws.entry.now }) told node.new) }
+            ensures { IsTold result code.exit.now (λ told. StepsAs node.old told node.new (λ old told new.
+                AsksBy sealing tags old (record { method = Post; value = value_given now resource.entry.now; draws = draws.entry.now }) told new)) }
         {
             tell(
                 node.write::<Suite>(alloc, Method::Post, now, resource, draws),
@@ -122,13 +127,15 @@ pub extern "C" fn nzf_device_remove(
     code: &mut u8,
 ) -> i32
     ensures { Tells device.old.held code.old (record { number = result; code = code.new }) device.new.held
-        (λ old told new. RemovesBy sealing tags old (record { ms = now; path = path.now; draws = draws.now }) told new) }
+        (λ old told new. StepsAs old told new (λ old told new.
+        RemovesBy sealing tags old (record { ms = now; path = path.now; draws = draws.now }) told new)) }
 {
     with(
         alloc,
         device,
         &mut |node|
-            ensures { IsTold result code.exit.now (λ told. RemovesBy sealing tags node.old (record { ms = now; path = path.entry.now; draws = draws.entry.now }) told node.new) }
+            ensures { IsTold result code.exit.now (λ told. StepsAs node.old told node.new (λ old told new.
+                RemovesBy sealing tags old (record { ms = now; path = path.entry.now; draws = draws.entry.now }) told new)) }
         { tell(node.remove::<Suite>(alloc, now, path, draws), code) },
     )
     .number()
@@ -148,15 +155,15 @@ pub extern "C" fn nzf_device_revoke(
     code: &mut u8,
 ) -> i32
     ensures { Tells device.old.held code.old (record { number = result; code = code.new }) device.new.held
-        (λ old told new. RulesBy sealing tags Revoke old (record { ms = now; id = id.now; draws = draws.now }) told new
-        × IsSoWhereDone Revoke (record { ms = now; id = id.now; draws = draws.now }) told new) }
+        (λ old told new. StepsAs old told new (λ old told new. RulesBy sealing tags Revoke old (record { ms = now; id = id.now; draws = draws.now }) told new
+        × IsSoWhereDone Revoke (record { ms = now; id = id.now; draws = draws.now }) told new)) }
 {
     with(
         alloc,
         device,
         &mut |node|
-            ensures { IsTold result code.exit.now (λ told. RulesBy sealing tags Revoke node.old (record { ms = now; id = id.entry.now; draws = draws.entry.now }) told node.new
-                × IsSoWhereDone Revoke (record { ms = now; id = id.entry.now; draws = draws.entry.now }) told node.new) }
+            ensures { IsTold result code.exit.now (λ told. StepsAs node.old told node.new (λ old told new. RulesBy sealing tags Revoke old (record { ms = now; id = id.entry.now; draws = draws.entry.now }) told new
+                × IsSoWhereDone Revoke (record { ms = now; id = id.entry.now; draws = draws.entry.now }) told new)) }
         {
             tell(
                 node.rule::<Suite>(alloc, Ruling::Revoke, now, id, draws),
@@ -179,15 +186,15 @@ pub extern "C" fn nzf_device_allow(
     code: &mut u8,
 ) -> i32
     ensures { Tells device.old.held code.old (record { number = result; code = code.new }) device.new.held
-        (λ old told new. RulesBy sealing tags Allow old (record { ms = now; id = id.now; draws = draws.now }) told new
-        × IsSoWhereDone Allow (record { ms = now; id = id.now; draws = draws.now }) told new) }
+        (λ old told new. StepsAs old told new (λ old told new. RulesBy sealing tags Allow old (record { ms = now; id = id.now; draws = draws.now }) told new
+        × IsSoWhereDone Allow (record { ms = now; id = id.now; draws = draws.now }) told new)) }
 {
     with(
         alloc,
         device,
         &mut |node|
-            ensures { IsTold result code.exit.now (λ told. RulesBy sealing tags Allow node.old (record { ms = now; id = id.entry.now; draws = draws.entry.now }) told node.new
-                × IsSoWhereDone Allow (record { ms = now; id = id.entry.now; draws = draws.entry.now }) told node.new) }
+            ensures { IsTold result code.exit.now (λ told. StepsAs node.old told node.new (λ old told new. RulesBy sealing tags Allow old (record { ms = now; id = id.entry.now; draws = draws.entry.now }) told new
+                × IsSoWhereDone Allow (record { ms = now; id = id.entry.now; draws = draws.entry.now }) told new)) }
         {
             tell(
                 node.rule::<Suite>(alloc, Ruling::Allow, now, id, draws),

@@ -49,7 +49,7 @@ pub extern "C" fn nzf_proxy_add_target(
 /// Up to so many confirmable messages of the proxy's own may be outstanding to a peer, as long as none to it is lost.
 ///
 /// Answers 0; or 34 where that isn't 1 to 16, 37 after the first event, and 33 where nothing is held: then what was held is held. Heap: none; at the
-/// first event some 7 KiB more for each above 1.
+/// first event some 6 KiB more for each above 1.
 #[unsafe(no_mangle)]
 pub extern "C" fn nzf_proxy_set_outstanding(alloc: Global, proxy: &mut ProxyHandle, most: u8) -> i32
     ensures { Calls proxy.old.held result proxy.new.held (λ old outcome new. Paces most old outcome new) }

@@ -23,8 +23,8 @@ pub extern "C" fn nzf_device_get(
     payload: &mut [u8],
     value: &mut PlainValue,
 ) -> i32
-    ensures { LooksWhere (IsValueSize value.old.size) ((value.new ≡ value.old) × (payload.new ≡ payload.old)) device.old.held result device.new.held (λ node outcome.
-        TellsValueAt node path.now (record { payload = payload.old; value = value.old }) outcome (record { payload = payload.new; value = value.new })) }
+    ensures { LooksWhere (IsValueSize value.old.size) ((value.new ≡ value.old) × (payload.new ≡ payload.old)) device.old.held result device.new.held (λ kept outcome.
+        TellsValueAt kept.node path.now (record { payload = payload.old; value = value.old }) outcome (record { payload = payload.new; value = value.new })) }
 {
     match value.sized() {
         Ok(()) => value_at(alloc, device, path, payload, value),
@@ -40,13 +40,13 @@ fn value_at(
     payload: &mut [u8],
     value: &mut PlainValue,
 ) -> i32
-    ensures { Looks device.old.held result device.new.held (λ node outcome.
-        TellsValueAt node path.now (record { payload = payload.old; value = value.old }) outcome (record { payload = payload.new; value = value.new })) }
+    ensures { Looks device.old.held result device.new.held (λ kept outcome.
+        TellsValueAt kept.node path.now (record { payload = payload.old; value = value.old }) outcome (record { payload = payload.new; value = value.new })) }
 {
     with(
         alloc,
         device,
-        &mut |node| node.get(alloc, path, payload, value),
+        &mut |kept| kept.node.get(alloc, path, payload, value),
     )
     .number()
 }
@@ -64,7 +64,7 @@ pub extern "C" fn nzf_device_served(
     bytes: &mut [u8],
 ) -> i32
     ensures { LooksWhere (IsServedSize served.old.size) ((served.new ≡ served.old) × (bytes.new ≡ bytes.old)) device.old.held result device.new.held
-        (λ node outcome. TellsServed (served_by_last node.last) served.old bytes.old outcome served.new bytes.new) }
+        (λ kept outcome. TellsServed (served_by_last kept.node.last) served.old bytes.old outcome served.new bytes.new) }
 {
     match served.sized() {
         Ok(()) => served_last(alloc, device, served, bytes),
@@ -79,9 +79,9 @@ fn served_last(
     served: &mut PlainServed,
     bytes: &mut [u8],
 ) -> i32
-    ensures { Looks device.old.held result device.new.held (λ node outcome. TellsServed (served_by_last node.last) served.old bytes.old outcome served.new bytes.new) }
+    ensures { Looks device.old.held result device.new.held (λ kept outcome. TellsServed (served_by_last kept.node.last) served.old bytes.old outcome served.new bytes.new) }
 {
-    with(alloc, device, &mut |node| node.served(served, bytes)).number()
+    with(alloc, device, &mut |kept| kept.node.served(served, bytes)).number()
 }
 
 /// What the last tick learnt of what a call left open where it answered 35. `code` is the answer's.
@@ -89,9 +89,9 @@ fn served_last(
 /// Answers 0 or 36, as that call would have; or 33 where it learnt nothing, or nothing is held. Heap: none.
 #[unsafe(no_mangle)]
 pub extern "C" fn nzf_device_learnt(alloc: Global, device: &mut DeviceHandle, code: &mut u8) -> i32
-    ensures { Looks device.old.held result device.new.held (λ node outcome. TellsLearnt node.last.own code.old outcome code.new) }
+    ensures { Looks device.old.held result device.new.held (λ kept outcome. TellsLearnt kept.node.last.own code.old outcome code.new) }
 {
-    with(alloc, device, &mut |node| node.learnt(code)).number()
+    with(alloc, device, &mut |kept| kept.node.learnt(code)).number()
 }
 
 /// The request that the last step refused; where it is a post whose token opened, with the token's id.
@@ -104,10 +104,10 @@ pub extern "C" fn nzf_device_refused(
     refused: &mut PlainRefused,
 ) -> i32
     ensures { LooksWhere (IsRefusedSize refused.old.size) (refused.new ≡ refused.old) device.old.held result device.new.held
-        (λ node outcome. TellsRefused node.last.step refused.old outcome refused.new) }
+        (λ kept outcome. TellsRefused kept.node.last.step refused.old outcome refused.new) }
 {
     match refused.sized() {
-        Ok(()) => with(alloc, device, &mut |node| node.refused(refused)).number(),
+        Ok(()) => with(alloc, device, &mut |kept| kept.node.refused(refused)).number(),
         Err(outcome) => outcome.number(),
     }
 }

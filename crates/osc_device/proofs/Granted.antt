@@ -1,5 +1,5 @@
 -- A device whose token counts may post it.
-use Rattle.std.proofs.Common.{◌≡◌, ◌≢◌, ◌∙◌, ap, sym, subst, ℕ, ◌<◌, ◌≤◌, Bool, true, if◌then◌else◌, List, [], ◌∷◌, length, drop, false, Option, Some, None, arith}
+use Rattle.std.proofs.Common.{◌≡◌, ◌≢◌, ◌∙◌, ap, inl, refl, sym, subst, ℕ, ◌<◌, ◌≤◌, Bool, true, if◌then◌else◌, List, [], ◌∷◌, length, drop, false, Option, Some, None, arith}
 use Rattle.std.specs.Prelude.{IfSome}
 use Rattle.std.proofs.lemmas.List.{length-drop, length-take}
 use Rattle.osc_client.specs.{Exchanges, PostFits, begun_by}
@@ -44,15 +44,19 @@ pub may_open : (is_sealing : Sealings) (device : State) (now : Moment) (draw : D
 may_open is_sealing device now draw claims entries granted unrevoked lasting idle empty unheard = record {
   may_exchange = record {
     idle = idle;
+    token_key = device.server.desk.key;
     welcome = record {
-      holds = granted.holds;
-      lawful = granted.lawful;
-      audience = granted.audience;
-      begun = λ seconds is. let none = sym granted.not_before ∙ is in absurd cc;
-      not_over = λ seconds is. let none = sym granted.expires ∙ is in absurd cc;
-      allowed = granted.allowed;
-      unrevoked = unrevoked;
-      room = nobody_there device.server.desk.rules.reserved claims.material.id (standing_of device.server now) device.server.desk.table empty;
+      opens = inl refl;
+      welcome = record {
+        holds = granted.holds;
+        lawful = granted.lawful;
+        audience = granted.audience;
+        begun = λ seconds is. let none = sym granted.not_before ∙ is in absurd cc;
+        not_over = λ seconds is. let none = sym granted.expires ∙ is in absurd cc;
+        allowed = granted.allowed;
+        unrevoked = unrevoked;
+        room = nobody_there device.server.desk.rules.reserved claims.material.id (standing_of device.server now) device.server.desk.table empty;
+      };
     };
     makes = record {
       lasting = lasting;
@@ -71,17 +75,21 @@ module _ (law : (on : Standing) (id : List ℕ) (table : List TokenEntry) → Ke
       let granted = may.granted in record {
         may_exchange = record {
           idle = may.idle;
+          token_key = device.server.desk.key;
           welcome = record {
-            holds = granted.holds;
-            lawful = granted.lawful;
-            audience = granted.audience;
-            begun = λ seconds is. let none = sym granted.not_before ∙ is in absurd cc;
-            not_over = λ seconds is. let none = sym granted.expires ∙ is in absurd cc;
-            allowed = granted.allowed;
-            unrevoked = may.unrevoked;
-            room = subst (λ (reserved : Option (List ℕ)). ¬ IsFull reserved claims.material.id (alive (standing_of device.server now) device.server.desk.table)) (sym may.reserved)
-                (law (standing_of device.server now) claims.material.id device.server.desk.table
-                (subst (λ (reserved : Option (List ℕ)). KeepsPlace reserved device.server.desk.table) may.reserved keeps));
+            opens = inl refl;
+            welcome = record {
+              holds = granted.holds;
+              lawful = granted.lawful;
+              audience = granted.audience;
+              begun = λ seconds is. let none = sym granted.not_before ∙ is in absurd cc;
+              not_over = λ seconds is. let none = sym granted.expires ∙ is in absurd cc;
+              allowed = granted.allowed;
+              unrevoked = may.unrevoked;
+              room = subst (λ (reserved : Option (List ℕ)). ¬ IsFull reserved claims.material.id (alive (standing_of device.server now) device.server.desk.table)) (sym may.reserved)
+                  (law (standing_of device.server now) claims.material.id device.server.desk.table
+                  (subst (λ (reserved : Option (List ℕ)). KeepsPlace reserved device.server.desk.table) may.reserved keeps));
+            };
           };
           makes = may.makes;
         };

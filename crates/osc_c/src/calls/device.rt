@@ -14,6 +14,7 @@ use crate::calls::plain::{PlainDraw, PlainPeer};
 use osc_ccm::Ciphers;
 use osc_device::{Device, DeviceCalls};
 use osc_model::Moment;
+use osc_turn::laws::one_path_changes;
 use std::alloc::Global;
 
 /// A device, and the step that its server made last for others.
@@ -71,6 +72,7 @@ impl DeviceNode {
             (ServerTakesMemory self.old.device.server (record { at = now; from = peer_of from.now; draw = draw_of draw.now; what = bytes.now }))
             (HeardAt A.is_sealing self.old (record { at = now; from = peer_of from.now; draw = draw_of draw.now; what = bytes.now }) self.new) }
     {
+        one_path_changes();
         let draw = draw.draw();
         match self
             .device
@@ -99,9 +101,11 @@ impl DeviceNode {
     fn tick<A: Ciphers>(&mut self, alloc: Global, now: Moment, draw: &PlainDraw) -> bool
         ensures { TickedAt A.is_sealing self.old now (draw_of draw.now) result self.new }
     {
+        one_path_changes();
         let round = self.device.on_tick::<A>(alloc, now, &draw.draw());
-        self.last = Last::ticked(&round);
-        round.begun.notes.lost()
+        let lost = round.begun.notes.lost();
+        self.last = Last::ticked(round);
+        lost
     }
 
     /// The first moment at which a tick does anything for the device itself.

@@ -15,6 +15,21 @@ pub fn fill(room: &mut [u8], bytes: &[u8]) -> bool
     true
 }
 
+/// The same of two, one after the other.
+pub fn fill_two(room: &mut [u8], first: &[u8], second: &[u8]) -> bool
+    ensures fits { IsTrue result ↔ (length (first.now ++ second.now) ≤ length room.old) }
+    ensures written { room.new ≡ written (first.now ++ second.now) room.old }
+{
+    if !have_room(room.len(), first.len(), second.len(), 0) {
+        return false;
+    }
+    let (front, rest) = room.split_at_mut(first.len());
+    front.copy_from_slice(first);
+    let (front, _) = rest.split_at_mut(second.len());
+    front.copy_from_slice(second);
+    true
+}
+
 /// The same of three, one after the other.
 pub fn fill_three(room: &mut [u8], first: &[u8], second: &[u8], third: &[u8]) -> bool
     ensures fits { IsTrue result ↔ (length (first.now ++ second.now ++ third.now) ≤ length room.old) }

@@ -12,9 +12,10 @@ ghost use Rattle.osc_c.specs.declared.calls.outcome.Outcome.TheVariants.{BadArgu
 use crate::calls::arguments;
 use crate::calls::arguments::{flag, sized, text};
 use crate::calls::device::DeviceNode;
+use crate::calls::first::first_tree;
 use crate::calls::last::Last;
 use crate::calls::outcome::Outcome;
-use crate::calls::plain::{PlainDeviceSettings, PlainDraw};
+use crate::calls::plain::{PlainDeviceSettings, PlainDraw, PlainResource};
 use crate::calls::tokens::scope_bytes;
 use osc_authz::EnrollError;
 use osc_ccm::Ciphers;
@@ -138,15 +139,16 @@ fn open_scope(alloc: Global, text: &[u8]) -> Result<Scope, Outcome>
     }
 }
 
-/// A server of this audience, without resources.
+/// A server of this audience, with these resources.
 fn parts(
     alloc: Global,
     settings: &PlainDeviceSettings<'_>,
+    tree: Tree,
     audience: Audience,
     rules: Rules,
 ) -> Result<ServerParts, Outcome>
     requires { audience ≡ settings.now.audience.bytes.now }
-    ensures ok { IfOk result (AreParts (device_given settings.now) rules) }
+    ensures ok { IfOk result (AreParts (device_given settings.now) tree rules) }
     ensures err { IfErr result (IsUnread (IsNoOpenScope settings.now.unprotected.bytes.now)) }
 {
     let key = settings.key.bytes;
@@ -157,7 +159,7 @@ fn parts(
         subtrees,
     } = rules;
     Ok(ServerParts {
-        tree: Tree::new(alloc),
+        tree,
         open_scope: open_scope(alloc, settings.unprotected.bytes)?,
         key,
         old_key,
@@ -237,20 +239,22 @@ fn refused(error: NewError) -> Outcome
 }
 
 impl DeviceNode {
-    /// A device without resources. All but the scopes is judged before memory is taken.
+    /// A device with these resources. All but these and the scopes is judged before memory is taken.
     pub fn new<A: Ciphers>(
         alloc: Global,
         settings: &PlainDeviceSettings<'_>,
+        first: &[PlainResource<'_>],
         draw: &PlainDraw,
     ) -> Result<DeviceNode, Outcome>
-        ensures ok { IfOk result (λ node. IsNewDevice A.is_sealing (device_given settings.now) draw.now.bytes node) }
-        ensures err { IfErr result (IsNoNewDevice (device_given settings.now) draw.now.bytes) }
+        ensures ok { IfOk result (λ node. IsNewDevice A.is_sealing (device_given settings.now) first.now draw.now.bytes node) }
+        ensures err { IfErr result (IsNoNewDevice (device_given settings.now) first.now draw.now.bytes) }
     {
         sized(settings.size, size_of::<PlainDeviceSettings<'_>>())?;
         let audience = text(settings.audience.bytes)?;
         let rules = Rules::of(alloc, settings)?;
         let audience = Audience::new(alloc, audience)?;
-        let parts = parts(alloc, settings, audience, rules)?;
+        let tree = first_tree(alloc, first)?;
+        let parts = parts(alloc, settings, tree, audience, rules)?;
         let own = own_token(alloc, settings.own.bytes, draw)?;
         match Device::new::<A>(alloc, parts, own) {
             Ok(device) => Ok(DeviceNode {

@@ -10,6 +10,9 @@ use std::alloc::AllocError;
 /// The number of what was answered and refused, beside those of `osc_model::refusals`.
 const REFUSED: i32 = 39;
 
+/// The number of a step that isn't made, or not handed out, since a change isn't kept.
+const NOT_KEPT: i32 = 40;
+
 /// What a call answers: that it is done, or why it isn't.
 #[derive(Clone, Copy, Debug, PartialEq, Eq)]
 pub enum Outcome {
@@ -41,6 +44,8 @@ pub enum Outcome {
     NotNow,
     /// What was asked was answered, and refused.
     Refused,
+    /// What the last step changed isn't kept, or not yet.
+    NotKept,
 }
 
 impl Outcome {
@@ -70,6 +75,7 @@ impl Outcome {
             Outcome::Unverified => refusals::UNVERIFIED as i32,
             Outcome::NotNow => refusals::NOT_NOW as i32,
             Outcome::Refused => REFUSED,
+            Outcome::NotKept => NOT_KEPT,
         }
     }
 }

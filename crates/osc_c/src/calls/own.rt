@@ -17,6 +17,7 @@ use crate::calls::round::{Told, bare, settled, what_is_told};
 use osc_ccm::Ciphers;
 use osc_device::{DeviceCalls, OwnDraws, Round, Ruled, Ruling, own_request};
 use osc_model::{Bytes, ClientResult, Draw, Method, Moment, Request, Resource};
+use osc_turn::laws::one_path_changes;
 use std::alloc::Global;
 
 /// What the device asks of its server, and when.
@@ -79,6 +80,7 @@ impl DeviceNode {
         ensures opens { ComesTo self.old result self.new (self.old.device.own.waiting ≡ None) (λ round. Opens A.is_sealing self.old now draws.now round self.new) }
         ensures fits { result.outcome ≢ outcome.TooLong }
     {
+        one_path_changes();
         let both = OwnDraws {
             own: Draw(draws.own.bytes),
             server: Draw(draws.server.bytes),
@@ -162,6 +164,7 @@ impl DeviceNode {
         ensures rules { RulesBy A.is_sealing A.TAG ruling self.old (record { ms = now.ms; id = id.now; draws = draws.now }) result self.new }
         ensures so { IsSoWhereDone ruling (record { ms = now.ms; id = id.now; draws = draws.now }) result self.new }
     {
+        one_path_changes();
         let both = OwnDraws {
             own: Draw(draws.own.bytes),
             server: Draw(draws.server.bytes),
@@ -188,6 +191,7 @@ impl DeviceNode {
         requires { 0 < request.now.code.0 }
         ensures { ComesTo self.old result self.new (IsBegun A.is_sealing A.TAG self.old draws.now request.now) (λ round. Asks A.is_sealing A.TAG self.old (asked_for draws.now now request.now) round self.new) }
     {
+        one_path_changes();
         let both = OwnDraws {
             own: Draw(draws.own.bytes),
             server: Draw(draws.server.bytes),
@@ -206,8 +210,7 @@ fn keep(last: &mut Last, round: Round) -> Told
 {
     let told = what_is_told(&round);
     if !is_refused(&round) {
-        *last = Last::nothing();
+        *last = Last::asked(round);
     }
-    drop(round);
     told
 }

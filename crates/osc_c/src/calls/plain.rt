@@ -1,10 +1,11 @@
 //! What goes in and comes out, as include/nozzlefern.h has it.
 ghost use Rattle.std.specs.Prelude.{◌≡◌, IfErr, OnOk};
 ghost use Rattle.osc_c.specs.Filled.{IsRefusedSize, IsResultSize, IsServedSize, IsValueSize};
+ghost use Rattle.osc_c.specs.Given.{change_size};
 ghost use Rattle.osc_c.specs.Plain.{draw_of, peer_of, plain_etag, plain_id, plain_peer};
 ghost use Rattle.osc_c.specs.declared.calls.outcome.Outcome.TheVariants.{BadArgument};
 
-use crate::calls::arguments::sized_either;
+use crate::calls::arguments::{sized, sized_either};
 use crate::calls::filling::fill;
 use crate::calls::outcome::Outcome;
 use osc_model::{Draw, Peer};
@@ -261,6 +262,24 @@ pub struct PlainRefused {
     pub token: PlainId,
 }
 
+/// What a step of a device changed.
+#[repr(C)]
+#[derive(Clone, Copy)]
+pub struct PlainChange {
+    /// The bytes of this struct.
+    pub size: usize,
+    /// 1 where something is at the path now, else 0.
+    pub is_there: u8,
+    /// 1 where that waits to be kept, else 0.
+    pub waits: u8,
+    /// The Content-Format, or -1 for none.
+    pub format: i32,
+    /// The bytes of the path.
+    pub path_length: usize,
+    /// The bytes of the payload.
+    pub payload_length: usize,
+}
+
 /// The options of a request, beside its path.
 #[repr(C)]
 #[derive(Clone, Copy)]
@@ -383,6 +402,16 @@ impl PlainRefused {
         ensures err { IfErr result (λ outcome. (outcome ≡ BadArgument) × ¬ IsRefusedSize self.now.size) }
     {
         sized_either(self.size, size_of::<PlainRefused>(), REFUSED_WITHOUT_TOKEN)
+    }
+}
+
+impl PlainChange {
+    /// Refuses a size that isn't the whole one.
+    pub fn sized(&self) -> Result<(), Outcome>
+        ensures ok { OnOk result (self.now.size ≡ change_size) }
+        ensures err { IfErr result (λ outcome. (outcome ≡ BadArgument) × ¬ (self.now.size ≡ change_size)) }
+    {
+        sized(self.size, size_of::<PlainChange>())
     }
 }
 

@@ -1,6 +1,7 @@
 -- The outcome.
 use Rattle.std.proofs.Common.{inl}
 use Rattle.osc_c.specs.{asked_for}
+use Rattle.osc_c.proofs.Changing.{reached_changes}
 use Rattle.osc_c.proofs.Refused.{asked_kept, kept}
 use Rattle.osc_c.proofs.calls.device.DeviceNode.ask_at.Goals as goal
 
@@ -12,7 +13,7 @@ returns-in-Ok g c =
     let e = c.in-Ok.ensures.0 in
     inl (
       round,
-      (e.asks, e.answered, e.run, e.entry),
+      (e.asks, e.answered, e.run, e.entry, reached_changes c.one_path_changes.ensures g.A.Ciphers.is_sealing _ new.server _ round.served e.asks.carries.reaches),
       c.keep.ensures.told,
       c.keep.ensures.kept,
       kept old new c.keep.new.last round c.keep.result c.keep.ensures.told c.keep.ensures.kept

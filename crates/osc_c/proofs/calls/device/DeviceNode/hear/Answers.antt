@@ -4,6 +4,7 @@ use Rattle.osc_model.specs.declared.node.Draw.{Draw}
 use Rattle.osc_model.specs.declared.node.Peer.{Peer}
 use Rattle.osc_device.specs.{HasHeard, ServerTakesMemory}
 use Rattle.osc_device.specs.State.{State}
+use Rattle.osc_server.specs.{core}
 use Rattle.osc_c.specs.Plain.{draw_of, peer_of}
 use Rattle.osc_c.specs.declared.calls.device.DeviceNode.{DeviceNode}
 use Rattle.osc_c.proofs.calls.device.DeviceNode.hear.Goals as goal
@@ -18,7 +19,17 @@ returns-in-Ok g c =
     subst (λ (draw : Draw). HasHeard g.A.Ciphers.is_sealing c.args.self.now.device
     (record { at = c.args.now; from = peer_of c.args.from.now; draw = draw; what = c.args.bytes.now }) c.in-Ok.step c.on_datagram.new.self)
     c.draw-draw.ensures from_there in
-    inl (refl, record { step = c.in-Ok.step; is_step = heard.made; own = heard.own; last = c.of.ensures; run = heard.run })
+    inl (
+      refl,
+      record {
+        step = c.in-Ok.step;
+        is_step = heard.made;
+        own = heard.own;
+        last = c.of.ensures;
+        run = heard.run;
+        change = c.one_path_changes.ensures (core c.args.self.now.device.server) (core c.on_datagram.new.self.server) c.args.now c.in-Ok.step.notes heard.made.kind;
+      },
+    )
 
 pub returns-in-Err : goal.returns-in-Err
 returns-in-Err g c = inr (

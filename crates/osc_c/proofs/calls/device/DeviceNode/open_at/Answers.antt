@@ -1,6 +1,7 @@
 -- The outcome.
 use Rattle.std.proofs.Common.{inl}
 use Rattle.osc_c.specs.{draw_of}
+use Rattle.osc_c.proofs.Changing.{reached_changes}
 use Rattle.osc_c.proofs.Refused.{begun_kept, kept, never_too_long}
 use Rattle.osc_c.proofs.calls.device.DeviceNode.open_at.Goals as goal
 
@@ -15,7 +16,7 @@ returns-in-Ok-clause-opens g c =
     let e = c.in-Ok.ensures.0 in
     inl (
       round,
-      ((e.posting, e.begins, e.carries), e.made, e.place, e.run),
+      ((e.posting, e.begins, e.carries), e.made, e.place, e.run, reached_changes c.one_path_changes.ensures g.A.Ciphers.is_sealing _ new.server _ round.served e.carries.reaches),
       c.keep.ensures.told,
       c.keep.ensures.kept,
       kept old new c.keep.new.last round c.keep.result c.keep.ensures.told c.keep.ensures.kept

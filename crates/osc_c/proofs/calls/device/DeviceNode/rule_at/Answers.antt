@@ -2,6 +2,7 @@
 use Rattle.std.proofs.Common.{◌≡◌, ◌∙◌, Bool, [], None, Some, IsSome, ap, inl, inr, refl, rules, subst, sym}
 use Rattle.osc_c.specs.{IsRefusal, are_revoked, asked_for, is_so, settled}
 use Rattle.osc_c.specs.declared.calls.round.Told.{Told}
+use Rattle.osc_c.proofs.Changing.{reached_changes}
 use Rattle.osc_c.proofs.Refused.{asked_kept, kept}
 use Rattle.osc_c.proofs.Settled.{done_is_so, refusal_is_told}
 use Rattle.osc_device.specs.{method_of, own_request}
@@ -22,7 +23,7 @@ returns-in-Ok-Some-clause-rules g c =
       refl,
       inl (
         round,
-        (a.0, a.1, (a.2.asks, a.2.answered, a.2.run, a.2.entry)),
+        (a.0, a.1, (a.2.asks, a.2.answered, a.2.run, a.2.entry, reached_changes c.one_path_changes.ensures g.A.Ciphers.is_sealing _ new.server _ round.served a.2.asks.carries.reaches)),
         told ∙ ap (λ (t : Told). settled (is_so c.args.ruling (are_revoked (record { device = new; last = c.keep-told.new.last }) c.args.id.now)) t) c.keep-told.ensures.told,
         c.keep-told.ensures.kept,
         (λ refusal. kept old new c.keep-told.new.last round c.keep-told.result c.keep-told.ensures.told c.keep-told.ensures.kept

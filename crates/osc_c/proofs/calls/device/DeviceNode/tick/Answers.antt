@@ -2,6 +2,7 @@
 use Rattle.std.proofs.Common.{subst, sym}
 use Rattle.osc_message.specs.{after_tick}
 use Rattle.osc_device.specs.{Carries}
+use Rattle.osc_c.proofs.Changing.{reached_changes}
 use Rattle.osc_c.proofs.calls.device.DeviceNode.tick.Goals as goal
 
 pub returns : goal.returns
@@ -10,7 +11,7 @@ returns g c =
     let t = c.on_tick-round.ensures in
     record {
       round = c.on_tick-round.result;
-      loses = sym c.lost.ensures;
+      loses = sym c.lost-lost.ensures;
       ticked = t.ticked;
       ticks = t.begun;
       carries = subst
@@ -19,4 +20,5 @@ returns g c =
       last = c.ticked.ensures;
       run = t.run;
       entry = t.entry;
+      change = reached_changes c.one_path_changes.ensures g.A.Ciphers.is_sealing _ c.on_tick-round.new.self.server _ c.on_tick-round.result.served t.carries.reaches;
     }
