@@ -12,8 +12,8 @@ mod resources;
 pub use grants::{GET_AND_POST, KEY, Right, claims, desk, iv_of, own, token};
 pub use names::shared_name;
 pub use nodes::{
-    answering_server, client, empty_server, proxy, revoking_server, sent, sent_in, server,
-    straight, target, targets, through,
+    answering_server, client, empty_server, proxy, revoking_server, ruled_server, sent, sent_in,
+    server, straight, target, targets, through,
 };
 pub use osc_model::limits::{GET, POST};
 pub use peers::{CLIENT, NOWHERE, PROXY, SERVER, STRANGER, at, drawn, place};

@@ -41,12 +41,8 @@ pub fn server(alloc: Global, tree: Tree, open_scope: Scope) -> Result<Server, Al
     Server::new(alloc, tree, desk, open_scope)
 }
 
-/// The same, on which a resource below this path revokes a token.
-pub fn revoking_server(alloc: Global, tree: Tree, root: &[u8]) -> Result<Server, AllocError> {
-    let rules = ContextRules {
-        revoked: Path::from_text(alloc, root)?,
-        ..ContextRules::none()
-    };
+/// A server of these resources, with these rules for its contexts, of which it has none. Nothing is open.
+pub fn ruled_server(alloc: Global, tree: Tree, rules: ContextRules) -> Result<Server, AllocError> {
     let desk = ServerDesk::of(
         alloc,
         DeskParts {
@@ -59,21 +55,22 @@ pub fn revoking_server(alloc: Global, tree: Tree, root: &[u8]) -> Result<Server,
     Server::new(alloc, tree, desk, Scope::new(alloc))
 }
 
+/// The same, on which a resource below this path revokes a token.
+pub fn revoking_server(alloc: Global, tree: Tree, root: &[u8]) -> Result<Server, AllocError> {
+    let rules = ContextRules {
+        revoked: Path::from_text(alloc, root)?,
+        ..ContextRules::none()
+    };
+    ruled_server(alloc, tree, rules)
+}
+
 /// A server without resources and contexts, which keeps the last answer of each context.
 pub fn answering_server(alloc: Global) -> Result<Server, AllocError> {
-    let desk = ServerDesk::of(
-        alloc,
-        DeskParts {
-            key: KEY,
-            old_key: None,
-            audience: Audience::new(alloc, "s")?,
-            rules: ContextRules {
-                answers: true,
-                ..ContextRules::none()
-            },
-        },
-    );
-    Server::new(alloc, Tree::new(alloc), desk, Scope::new(alloc))
+    let rules = ContextRules {
+        answers: true,
+        ..ContextRules::none()
+    };
+    ruled_server(alloc, Tree::new(alloc), rules)
 }
 
 /// A server without resources and contexts.

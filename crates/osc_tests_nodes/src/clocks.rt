@@ -3,16 +3,15 @@ ghost use Rattle.std.specs.Prelude.{◌<◌, None};
 
 use crate::stage::Event::{Comes, Tick};
 use crate::stage::{ASKED, FORWARDED, goes};
-use osc_authz::{ContextRules, DeskParts, ServerDesk};
+use osc_authz::ContextRules;
 use osc_ccm::Suite;
 use osc_client::Client;
 use osc_fixtures::{
-    CLIENT, GET, GET_AND_POST, KEY, SERVER, at, drawn, own, proxy, request, sent_in, straight,
+    CLIENT, GET, GET_AND_POST, SERVER, at, drawn, own, proxy, request, ruled_server, sent_in,
+    straight,
 };
 use osc_model::{Draw, Moment, Request};
-use osc_scope::Scope;
 use osc_server::Server;
-use osc_token::Audience;
 use osc_tree::Tree;
 use osc_turn::{ClockAndRandom, Reading, Seeds, Watch, generator_of};
 use std::alloc::{AllocError, Global};
@@ -284,16 +283,7 @@ fn server(alloc: Global) -> Result<Server, AllocError> {
         seconds: Some(600),
         ..ContextRules::none()
     };
-    let desk = ServerDesk::of(
-        alloc,
-        DeskParts {
-            key: KEY,
-            old_key: None,
-            audience: Audience::new(alloc, "s")?,
-            rules,
-        },
-    );
-    Server::new(alloc, Tree::new(alloc), desk, Scope::new(alloc))
+    ruled_server(alloc, Tree::new(alloc), rules)
 }
 
 /// What the server sends for this datagram at this moment.

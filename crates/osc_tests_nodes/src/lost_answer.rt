@@ -1,14 +1,14 @@
 //! An exchange and a POST through a proxy that starts again before the answer comes to it, turn by turn, whatever call of a port fails. The
-//! client sends its request again, the server refuses the number that comes twice, and all that the client learns is that an
-//! unprotected 4.01 came.
+//! client sends its request again. Where the server keeps no answers, it refuses the number that comes twice, and all that the client learns is
+//! that an unprotected 4.01 came; where it does, the client learns its answer.
 ghost use Rattle.std.specs.Prelude.{◌<◌};
 
 use crate::network::{Doing, Network};
 use crate::nodes::{client, server};
 use crate::telling::UNVERIFIED;
 use osc_client::Client;
-use osc_fixtures::{POST, at, drawn, proxy, request};
-use osc_model::{Bytes, Peer, Request, Step};
+use osc_fixtures::{POST, answering_server, at, drawn, proxy, request};
+use osc_model::{Bytes, Code, Peer, Request, Step};
 use osc_proxy::Proxy;
 use osc_server::Server;
 use std::alloc::{AllocError, Global};
@@ -135,9 +135,22 @@ fn run<R: Abort + Drop>(
 ) -> Result<Outcome, Fail>
     requires { 0 < request.now.code.0 }
 {
+    run_at(rt, alloc, request, fault, server(alloc)?)
+}
+
+/// The same at this server.
+fn run_at<R: Abort + Drop>(
+    rt: &R,
+    alloc: Global,
+    request: &Request,
+    fault: Fault,
+    server: Server,
+) -> Result<Outcome, Fail>
+    requires { 0 < request.now.code.0 }
+{
     let mut client = client(alloc)?;
     let mut proxy = proxy(alloc)?;
-    let mut server = server(alloc)?;
+    let mut server = server;
     let mut network = network_with(rt, alloc, fault);
     let (again, learnt) = goes(&mut network, &mut client, &mut proxy, &mut server, request);
     let outcome = Outcome {
@@ -233,6 +246,27 @@ fn each_call_fails_where_an_answer_is_lost(rt: HostRuntime) -> Result<(), Fail> 
     let swept = sweeps(&rt, rt.alloc(), &request);
     drop(request);
     swept
+}
+
+/// At a server that keeps answers the client learns its answer, though the request comes under another message ID: it made its resource once.
+fn is_answered<R: Abort + Drop>(rt: &R, alloc: Global, request: &Request) -> Result<bool, Fail>
+    requires { 0 < request.now.code.0 }
+{
+    let told = run_at(rt, alloc, request, Fault::Told(0), answering_server(alloc)?)?;
+    let so = told.failures == (0, 0, 0)
+        && told.learnt == Code::CREATED.0
+        && told.effect == Effect::Once;
+    drop(told);
+    Ok(so)
+}
+
+#[test]
+fn a_kept_answer_comes_again_through_a_proxy(rt: HostRuntime) -> Result<(), Fail> {
+    let request = request(rt.alloc(), b"/log", POST, b"a")?;
+    let answered = is_answered(&rt, rt.alloc(), &request);
+    drop(request);
+    assert!(&rt; answered?);
+    Ok(())
 }
 
 // ---- each beginning of what comes to the proxy

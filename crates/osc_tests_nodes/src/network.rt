@@ -9,6 +9,7 @@ use osc_fixtures::{CLIENT, PROXY, SERVER, at, drawn};
 use osc_model::{Bytes, Datagram, Peer, Request};
 use osc_proxy::Proxy;
 use osc_server::Server;
+use osc_turn::Pace;
 use std::alloc::Global;
 use std::mem;
 use std::process::Abort;
@@ -70,6 +71,13 @@ impl<'a, R: Abort> Network<'a, R> {
         self.client.is_silent = true;
         self.proxy.is_silent = true;
         self.server.is_silent = true;
+    }
+
+    /// Each node ticks first where something of its own is due, and takes what waits then.
+    pub fn keeps_pace(&mut self) {
+        self.client.pace = Some(Pace::START);
+        self.proxy.pace = Some(Pace::START);
+        self.server.pace = Some(Pace::START);
     }
 
     /// Each datagram that a port was asked to send, port by port, each after the port to which it goes.
@@ -201,7 +209,7 @@ impl<'a, R: Abort> Network<'a, R> {
         proxy.restart();
     }
 
-    /// Three turns of each at this moment: the last that the client learnt, if anything, and else this.
+    /// Four turns of each at this moment: the last that the client learnt, if anything, and else this.
     pub fn turns(
         &mut self,
         client: &mut Client,
@@ -211,7 +219,7 @@ impl<'a, R: Abort> Network<'a, R> {
         before: u8,
     ) -> u8 {
         let mut last = before;
-        for _ in 0..3 {
+        for _ in 0..4 {
             let learnt = self.client_turns(client, ms).unwrap_or(0);
             self.proxy_turns(proxy, ms);
             self.server_turns(server, ms);

@@ -2,7 +2,7 @@
 ghost use Rattle.std.specs.Prelude.{◌≡◌, ◌≤◌, ◌+◌, Some, IfOk};
 
 use osc_model::{Bytes, Datagram, Peer};
-use osc_turn::{Port, PortFault};
+use osc_turn::{Pace, Port, PortFault};
 use std::alloc::{AllocError, Global};
 use std::collections::VecDeque;
 use std::process::Abort;
@@ -29,6 +29,8 @@ pub(crate) struct Queues<'a, R: Abort> {
     pub is_silent: bool,
     /// How many datagrams were lost so.
     pub lost: usize,
+    /// The pace of the node at this port; none where it takes what waits before it ticks.
+    pub pace: Option<Pace>,
 }
 
 /// Whether this call fails; another one may be the next.
@@ -86,6 +88,7 @@ impl<'a, R: Abort> Queues<'a, R> {
             failures: 0,
             is_silent: false,
             lost: 0,
+            pace: None,
         }
     }
 

@@ -76,13 +76,23 @@ fn holds(server: &Server, request: &Request) -> bool {
     }
 }
 
-/// The run in which the call of this number fails: an exchange and a POST, in whose midst the proxy starts again if it does so. The POST
-/// was served once. How many calls failed at the client, the proxy and the server, and how many more calls it takes to the one that fails.
+/// How a run goes.
+#[derive(Clone, Copy, PartialEq, Eq)]
+enum Way {
+    /// Each node takes what waits, and ticks where nothing does.
+    Plain,
+    /// So, but the proxy starts again in the midst of the POST.
+    Restarted,
+    /// Each node keeps its pace.
+    Paced,
+}
+
+/// The run in which the call of this number fails: an exchange and a POST. The POST was served once. How many calls failed at the client, the proxy and the server, and how many more calls it takes to the one that fails.
 fn run<R: Abort + Drop>(
     rt: &R,
     alloc: Global,
     request: &Request,
-    restarts: bool,
+    way: Way,
     failing: usize,
 ) -> Result<((usize, usize, usize), usize), Fail>
     requires { 0 < request.now.code.0 }
@@ -91,8 +101,11 @@ fn run<R: Abort + Drop>(
     let mut proxy = proxy(alloc)?;
     let mut server = server(alloc)?;
     let mut network = Network::new(rt, alloc, failing);
+    if way == Way::Paced {
+        network.keeps_pace();
+    }
     is_granted(rt, &mut network, &mut client, &mut proxy, &mut server);
-    if restarts {
+    if way == Way::Restarted {
         goes_through_restarted(
             rt,
             &mut network,
@@ -126,19 +139,14 @@ fn is_one(failures: (usize, usize, usize)) -> bool {
 }
 
 /// Each call of the run in turn.
-fn sweeps<R: Abort + Drop>(
-    rt: &R,
-    alloc: Global,
-    request: &Request,
-    restarts: bool,
-) -> Result<(), Fail>
+fn sweeps<R: Abort + Drop>(rt: &R, alloc: Global, request: &Request, way: Way) -> Result<(), Fail>
     requires { 0 < request.now.code.0 }
 {
-    let (failures, left) = run(rt, alloc, request, restarts, NONE)?;
+    let (failures, left) = run(rt, alloc, request, way, NONE)?;
     assert!(rt; failures == (0, 0, 0));
     assert!(rt; 40 < left && left < 960);
     for failing in 1..=NONE - left {
-        let (failures, left) = run(rt, alloc, request, restarts, failing)?;
+        let (failures, left) = run(rt, alloc, request, way, failing)?;
         assert!(rt; is_one(failures) && left == 0);
     }
     Ok(())
@@ -147,7 +155,7 @@ fn sweeps<R: Abort + Drop>(
 #[test]
 fn each_call_fails_in_turn(rt: HostRuntime) -> Result<(), Fail> {
     let request = request(rt.alloc(), b"/log", POST, b"a")?;
-    let swept = sweeps(&rt, rt.alloc(), &request, false);
+    let swept = sweeps(&rt, rt.alloc(), &request, Way::Plain);
     drop(request);
     swept
 }
@@ -155,7 +163,15 @@ fn each_call_fails_in_turn(rt: HostRuntime) -> Result<(), Fail> {
 #[test]
 fn each_call_fails_in_turn_around_a_restart(rt: HostRuntime) -> Result<(), Fail> {
     let request = request(rt.alloc(), b"/log", POST, b"a")?;
-    let swept = sweeps(&rt, rt.alloc(), &request, true);
+    let swept = sweeps(&rt, rt.alloc(), &request, Way::Restarted);
+    drop(request);
+    swept
+}
+
+#[test]
+fn each_call_of_paced_turns_fails_in_turn(rt: HostRuntime) -> Result<(), Fail> {
+    let request = request(rt.alloc(), b"/log", POST, b"a")?;
+    let swept = sweeps(&rt, rt.alloc(), &request, Way::Paced);
     drop(request);
     swept
 }

@@ -3,9 +3,9 @@
 use crate::queues::Queues;
 use osc_ccm::Suite;
 use osc_fixtures::{at, drawn};
-use osc_model::{ClientResult, Step};
+use osc_model::{ClientResult, Draw, Moment, Step};
 use osc_run::Node;
-use osc_turn::{PortFault, TurnError, Turned, send_all, turn};
+use osc_turn::{PortFault, TurnError, Turned, paced_turn, send_all, turn};
 use std::alloc::{AllocError, Global};
 use std::process::Abort;
 use std::test::*;
@@ -81,6 +81,22 @@ fn learnt(turned: Turned) -> u8 {
     learnt
 }
 
+/// One turn, at the pace of the port's node, if it keeps one.
+fn turns<R: Abort, N: Node<Suite>>(
+    alloc: Global,
+    port: &mut Queues<'_, R>,
+    node: &mut N,
+    now: Moment,
+    draw: &Draw,
+) -> Result<Turned, TurnError> {
+    let Some(mut pace) = port.pace else {
+        return turn::<Suite, _, _>(alloc, port, node, now, draw);
+    };
+    let turned = paced_turn::<Suite, _, _>(alloc, port, node, &mut pace, now, draw);
+    port.pace = Some(pace);
+    turned
+}
+
 /// One turn at this moment, each second with bytes of its own: what a client learnt, or `None` where the receive failed.
 pub(crate) fn takes<R: Abort, N: Node<Suite>>(
     rt: &R,
@@ -90,7 +106,7 @@ pub(crate) fn takes<R: Abort, N: Node<Suite>>(
     ms: u64,
 ) -> Option<u8> {
     let before = counts(port);
-    match turn::<Suite, _, _>(alloc, port, node, at(ms), &drawn((ms / 1_000 % 256) as u8)) {
+    match turns(alloc, port, node, at(ms), &drawn((ms / 1_000 % 256) as u8)) {
         Ok(turned) => {
             assert!(rt; is_told(port, before, &turned));
             Some(learnt(turned))

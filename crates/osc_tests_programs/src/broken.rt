@@ -79,3 +79,26 @@ impl AsRawFd for FullPipe {
         self.fd
     }
 }
+
+/// Takes so many bytes, and then nothing more.
+#[derive(Drop)]
+pub(crate) struct Narrow {
+    pub(crate) room: usize,
+    pub(crate) taken: Vec<u8>,
+}
+
+impl Write for Narrow {
+    fn write(&mut self, buf: &[u8]) -> io::Result<usize> {
+        let count = buf.len().min(self.room);
+        if count == 0 {
+            return Err(io::Error::from(ErrorKind::WouldBlock));
+        }
+        self.taken.extend_from_slice(&buf[..count])?;
+        self.room -= count;
+        Ok(count)
+    }
+
+    fn flush(&mut self) -> io::Result<()> {
+        Ok(())
+    }
+}

@@ -1,6 +1,7 @@
 //! A list of changes of a tree, and the tree that some of them leave.
 
 use osc_model::{Bytes, Path, Resource};
+use osc_store::{KeepError, Keeping};
 use osc_tree::Tree;
 use std::alloc::Global;
 use std::test::Fail;
@@ -35,6 +36,16 @@ pub fn resource_of(alloc: Global, had: Had) -> Result<Option<Resource>, Fail> {
     };
     let payload = Bytes::from_vec(vec![in alloc; byte; length]?);
     Ok(Some(Resource { format, payload }))
+}
+
+/// Keeps one change by itself.
+pub fn keep<K: Keeping>(
+    keeper: &mut K,
+    path: &Path,
+    resource: Option<&Resource>,
+) -> Result<(), KeepError> {
+    keeper.write(path, resource)?;
+    keeper.commit()
 }
 
 // What the path has after the first of the changes.

@@ -1,10 +1,9 @@
 //! The power goes at each call of the disk, and inside each write at each byte.
-use crate::changes::{CHANGES, path_of, resource_of};
+use crate::changes::{CHANGES, keep, path_of, resource_of};
 use crate::disks::{Cut, cut_of, is_found};
-use osc_store::{keep, open_files};
+use osc_store::{Keeper, open_files};
 use sqlite_disk::{Files, Fuse, Memory};
 use sqlite_store::FileStore;
-use sqlite_value::row::Row;
 use std::alloc::Global;
 use std::test::Fail;
 
@@ -16,18 +15,18 @@ const CALLS: u64 = 60;
 // Of this number of bytes of a write, one is the last that is written.
 const STEP: usize = 97;
 
-fn keep_all(alloc: Global, mut store: FileStore<Fuse<Memory>>) -> Result<Cut, Fail> {
-    let mut row = Row::new(alloc);
+fn keep_all(alloc: Global, store: FileStore<Fuse<Memory>>) -> Result<Cut, Fail> {
+    let mut keeper = Keeper::new(alloc, store);
     let mut kept = 0;
     for (at, change) in CHANGES.iter().enumerate() {
         let path = path_of(alloc, change.0)?;
         let resource = resource_of(alloc, change.1)?;
-        if keep(&mut store, &mut row, &path, resource.as_ref()).is_err() {
+        if keep(&mut keeper, &path, resource.as_ref()).is_err() {
             break;
         }
         kept = at.saturating_add(1);
     }
-    cut_of(alloc, store.close(), kept)
+    cut_of(alloc, keeper.into_store().close(), kept)
 }
 
 // A first start and all changes, over disks that freeze after these numbers of calls.

@@ -1,31 +1,47 @@
 //! A byte that flips in a page is told, and so is a page that is missing.
 ghost use Rattle.std.specs.Prelude.{◌+◌, ◌≤◌, IfSome, length};
 
-use crate::changes::{CHANGES, is_after, path_of, resource_of};
+use crate::changes::{CHANGES, is_after, keep, path_of, resource_of};
 use crate::disks::{pair, start};
-use osc_store::{OpenStoreError, keep, open_files};
+use osc_store::{Keeper, OpenStoreError, open_files, read_until_damage};
+use osc_tree::Tree;
 use sqlite_disk::Memory;
 use sqlite_store::FileStore;
-use sqlite_value::row::Row;
 use std::alloc::Global;
 use std::test::Fail;
 
 /// A store of all changes, every page of which is in the database file.
 pub fn settled(alloc: Global) -> Result<(Vec<u8>, Vec<u8>), Fail> {
     match open_files(alloc, pair(alloc, &[], &[])?, 7) {
-        Ok((store, _tree)) => copied(alloc, store),
+        Ok((store, _tree)) => {
+            let mut store = kept_in(alloc, store)?;
+            store.checkpoint()?;
+            copied(alloc, store)
+        }
         Err((error, _left)) => Err(Fail::from(error)),
     }
 }
 
-fn copied(alloc: Global, mut store: FileStore<Memory>) -> Result<(Vec<u8>, Vec<u8>), Fail> {
-    let mut row = Row::new(alloc);
+/// The same, where all but the empty table is in the log.
+pub fn logged(alloc: Global) -> Result<(Vec<u8>, Vec<u8>), Fail> {
+    match open_files(alloc, pair(alloc, &[], &[])?, 7) {
+        Ok((store, _tree)) => copied(alloc, kept_in(alloc, store)?),
+        Err((error, _left)) => Err(Fail::from(error)),
+    }
+}
+
+// The store, in which all changes are kept, each by itself.
+fn kept_in(alloc: Global, store: FileStore<Memory>) -> Result<FileStore<Memory>, Fail> {
+    let mut keeper = Keeper::new(alloc, store);
     for change in &CHANGES {
         let path = path_of(alloc, change.0)?;
         let resource = resource_of(alloc, change.1)?;
-        keep(&mut store, &mut row, &path, resource.as_ref())?;
+        keep(&mut keeper, &path, resource.as_ref())?;
     }
-    store.checkpoint()?;
+    Ok(keeper.into_store())
+}
+
+fn copied(alloc: Global, store: FileStore<Memory>) -> Result<(Vec<u8>, Vec<u8>), Fail> {
     let files = store.close();
     let log = Vec::from_slice(alloc, files.log.bytes())?;
     let db = Vec::from_slice(alloc, files.db.bytes())?;
@@ -83,5 +99,65 @@ fn a_flipped_byte_is_refused(rt: HostRuntime) -> Result<(), Fail> {
     assert!(&rt; is_told(alloc, &log, &db, at + 1)?, "second");
     assert!(&rt; is_told(alloc, &log, &db, at + 255)?, "middle");
     assert!(&rt; is_told(alloc, &log, &db, at + 510)?, "last");
+    Ok(())
+}
+
+// How many bytes stand in a log before its first frame, and how many a frame has: 24, and a page.
+const HEADER: usize = 32;
+
+const FRAME: usize = 24 + 4096;
+
+// How many commits end in the log past this frame.
+fn ends_past(log: &[u8], frame: usize) -> usize {
+    let mut ends = 0usize;
+    for (at, bytes) in log[HEADER.min(log.len())..].chunks(FRAME).enumerate() {
+        if at > frame && bytes.len() == FRAME && bytes[4..8] != [0; 4] {
+            ends = ends.saturating_add(1);
+        }
+    }
+    ends
+}
+
+// Whether the tree is what some of the changes leave, from the first on.
+fn is_beginning(alloc: Global, tree: &Tree) -> Result<bool, Fail> {
+    for kept in 0..CHANGES.len() + 1 {
+        if is_after(alloc, tree, kept)? {
+            return Ok(true);
+        }
+    }
+    Ok(false)
+}
+
+// Whether a start refuses the log with a byte of this frame changed, where two commits end past it, and else takes what stands before; and
+// whether that can be read in each case.
+fn is_seen(alloc: Global, log: &[u8], db: &[u8], frame: usize) -> Result<bool, Fail> {
+    let at = frame.saturating_mul(FRAME).saturating_add(HEADER + 100);
+    let damaged = flipped(alloc, log, at, 1)?;
+    let is_refused = match start(alloc, &damaged, db)? {
+        Ok(tree) => {
+            if !is_beginning(alloc, &tree)? {
+                return Ok(false);
+            }
+            false
+        }
+        Err(OpenStoreError::DamagedLog) => true,
+        Err(_) => return Ok(false),
+    };
+    match read_until_damage(alloc, &damaged, db) {
+        Ok(tree) => {
+            Ok(is_refused == (ends_past(log, frame) >= 2) && is_beginning(alloc, &tree)?)
+        }
+        Err(_) => Ok(false),
+    }
+}
+
+#[test]
+fn damage_in_a_log_is_told_before_its_end(rt: HostRuntime) -> Result<(), Fail> {
+    let alloc = rt.alloc();
+    let (log, db) = logged(alloc)?;
+    assert!(&rt; ends_past(&log, 0) >= CHANGES.len() - 1, "commits");
+    for frame in 0..log.len() / FRAME {
+        assert!(&rt; is_seen(alloc, &log, &db, frame)?, "frame {frame}");
+    }
     Ok(())
 }

@@ -10,7 +10,7 @@ fn a_text_has_an_end(rt: HostRuntime) -> Result<(), Fail> {
     let mut endless = Endless { given: 0 };
     let mut lines = Lines::new(Form::Text, Vec::from_slice(rt.alloc(), b"> ")?);
     assert_eq!(rt;
-        serve(rt.alloc(), &rt, &mut endless, &mut lines, 1),
+        serve(rt.alloc(), &rt, &mut endless, &mut lines, 1).ended,
         Ended::BadSettings
     );
     assert!(rt;
@@ -26,7 +26,7 @@ fn a_text_has_an_end(rt: HostRuntime) -> Result<(), Fail> {
 fn settings_end_alike_with_any_log(rt: HostRuntime) -> Result<(), Fail> {
     let mut reader = b"bind = 1".as_slice();
     assert_eq!(rt;
-        serve(rt.alloc(), &rt, &mut reader, &mut Silent, 1,),
+        serve(rt.alloc(), &rt, &mut reader, &mut Silent, 1).ended,
         Ended::BadSettings
     );
     let mut reader = b"bind = 1".as_slice();

@@ -1,7 +1,7 @@
 //! The lines by which a node tells what its turns did, as text and as JSON.
 ghost use Rattle.osc_log.specs.declared.held.Held.TheVariants as AnyHeld;
 
-use crate::broken::{BrokenWriter, FullPipe};
+use crate::broken::{BrokenWriter, FullPipe, Narrow};
 use osc_log::{AtOnce, Form, Held, Lines, Log, Silent, TellsHeld, Turn};
 use osc_model::{
     Algorithm, Bytes, Code, ContextName, Datagram, Datagrams, Entry, Moment, Peer, RefusedRequest,
@@ -355,7 +355,7 @@ fn dropped_lines_are_told_of(rt: HostRuntime) -> Result<(), Fail> {
         fd: 2,
     };
     let mut lines = Lines::new(Form::Text, pipe);
-    // The third write that is refused is that of the notice.
+    // The second write that is refused is that of a notice.
     tell(alloc, &mut lines, moment(), &step);
     lines.lost(moment());
     tell(
@@ -370,6 +370,26 @@ fn dropped_lines_are_told_of(rt: HostRuntime) -> Result<(), Fail> {
     assert_eq!(rt;
         lines.into_writer().taken.as_slice(),
         b"2 lines could not be written\n1700000000123 192.0.2.7:40000 served GET /log: 2.05\nout of memory: what came is lost\n".as_slice()
+    );
+    Ok(())
+}
+
+// A line that is cut counts, and so do those after it, but not those before.
+#[test]
+fn a_cut_line_counts(rt: HostRuntime) -> Result<(), Fail> {
+    let alloc = rt.alloc();
+    let content: &[u8] = &[0x60, 0x45, 0, 1];
+    let step = sending(alloc, &[content, content, content])?;
+    let narrow = Narrow {
+        room: 60,
+        taken: Vec::new(alloc),
+    };
+    let mut lines = Lines::new(Form::Text, narrow);
+    tell(alloc, &mut lines, moment(), &step);
+    assert_eq!(rt; lines.dropped(), 2);
+    assert_eq!(rt;
+        lines.into_writer().taken.as_slice(),
+        b"1700000000123 192.0.2.7:40000 sent 2.05\n1700000000123 192.0.".as_slice()
     );
     Ok(())
 }

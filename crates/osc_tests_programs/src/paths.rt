@@ -1,6 +1,6 @@
 //! Stores in files of the system.
 
-use crate::changes::{CHANGES, is_after, path_of, resource_of};
+use crate::changes::{CHANGES, is_after, keep, path_of, resource_of};
 use osc_store::{Keeper, Keeping, OpenStoreError, Wary, open};
 use osc_tree::Tree;
 use std::alloc::Global;
@@ -17,7 +17,7 @@ fn keep_each<K: Keeping>(alloc: Global, keeper: &mut K) -> Result<(), Fail> {
     for change in &CHANGES {
         let path = path_of(alloc, change.0)?;
         let resource = resource_of(alloc, change.1)?;
-        keeper.keep(&path, resource.as_ref())?;
+        keep(keeper, &path, resource.as_ref())?;
     }
     Ok(())
 }

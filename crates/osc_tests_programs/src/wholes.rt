@@ -1,7 +1,7 @@
 //! A database file that holds the whole store, one that says that a log belongs to it, and what isn't taken for one store.
-use crate::changes::{CHANGES, is_after, path_of, resource_of};
+use crate::changes::{CHANGES, is_after, keep, path_of, resource_of};
 use crate::disks::{Cut, cut_of, is_found, pair, start};
-use osc_store::{FileKeeper, Keeping, OpenStoreError, open_files, whole_file};
+use osc_store::{FileKeeper, OpenStoreError, open_files, whole_file};
 use sqlite_disk::{Disk, Files, Fuse, Memory};
 use std::alloc::Global;
 use std::test::Fail;
@@ -39,7 +39,7 @@ fn keep_some(
         }
         let path = path_of(alloc, change.0)?;
         let resource = resource_of(alloc, change.1)?;
-        if keeper.keep(&path, resource.as_ref()).is_err() {
+        if keep(keeper, &path, resource.as_ref()).is_err() {
             return Ok(at);
         }
     }
@@ -170,7 +170,7 @@ fn keep_whole<D: Disk>(alloc: Global, keeper: &mut FileKeeper<D>, many: usize) -
         if at < many {
             let path = path_of(alloc, change.0)?;
             let resource = resource_of(alloc, change.1)?;
-            keeper.keep(&path, resource.as_ref())?;
+            keep(keeper, &path, resource.as_ref())?;
         }
     }
     keeper.make_whole()?;

@@ -14,6 +14,8 @@ mod enrolling;
 #[cfg(test)]
 mod isolation;
 #[cfg(test)]
+mod loss;
+#[cfg(test)]
 mod proxies;
 #[cfg(test)]
 mod quiet;

@@ -198,7 +198,7 @@ fn next_number(world: &World, client: usize) -> Option<u64> {
 }
 
 /// What is assumed of a request.
-fn may_ask(world: &World, next: Next) -> bool {
+pub(crate) fn may_ask(world: &World, next: Next) -> bool {
     may_begin(world, next) && has_a_fresh_number(world, next)
 }
 
@@ -280,7 +280,7 @@ pub(crate) fn makes(
 }
 
 /// The same, straight to the server.
-fn makes_one(rt: &impl Abort, alloc: Global, world: &mut World, next: Next) {
+pub(crate) fn makes_one(rt: &impl Abort, alloc: Global, world: &mut World, next: Next) {
     assert!(rt; may_exchange(world, next));
     makes(rt, alloc, world, next, 2);
 }
@@ -293,7 +293,7 @@ fn is_reply(reply: &Reply, row: Row) -> bool {
 }
 
 /// The client learnt an answer, which is this one.
-fn is_answered(world: &World, row: Row) -> bool {
+pub(crate) fn is_answered(world: &World, row: Row) -> bool {
     match learnt(world) {
         Some(ClientResult::Answer(reply)) => is_reply(reply, row),
         _ => false,
@@ -301,7 +301,7 @@ fn is_answered(world: &World, row: Row) -> bool {
 }
 
 /// The last entry is of this number, and was answered so.
-fn is_served(alloc: Global, world: &World, number: Option<u64>, row: Row) -> bool {
+pub(crate) fn is_served(alloc: Global, world: &World, number: Option<u64>, row: Row) -> bool {
     match world.history(alloc) {
         Ok(all) => match all.last() {
             Some(entry) => Some(entry.number) == number && is_reply(&entry.reply, row),

@@ -5,39 +5,62 @@ use crate::common::{
 };
 use osc_ccm::Suite;
 use osc_fixtures::{GET, POST, SERVER, STRANGER, request};
+use osc_model::Code;
 use osc_run::Actor;
 use osc_world::{Event, What, World};
 use std::alloc::{AllocError, Global};
 use std::process::Abort;
 use std::test::*;
 
-/// An exchange, a POST and a GET, with their deliveries.
+/// The client asks for `/log`.
+fn asked(alloc: Global, code: u8, payload: &[u8]) -> Result<What, AllocError> {
+    Ok(What::Ask {
+        client: 0,
+        request: request(alloc, b"/log", code, payload)?,
+    })
+}
+
+/// An exchange, a POST and a GET, each with its two deliveries.
 fn events(alloc: Global) -> Result<Vec<Event>, AllocError> {
     let mut events = Vec::new(alloc);
     events.push(event(1, What::Exchange { client: 0 }))?;
     events.push(event(2, What::Deliver { datagram: 0 }))?;
     events.push(event(3, What::Deliver { datagram: 1 }))?;
-    let request = request(alloc, b"/log", POST, b"a")?;
-    events.push(event(4, What::Ask { client: 0, request }))?;
+    events.push(event(4, asked(alloc, POST, b"a")?))?;
     events.push(event(5, What::Deliver { datagram: 2 }))?;
     events.push(event(6, What::Deliver { datagram: 3 }))?;
+    events.push(event(7, asked(alloc, GET, b"")?))?;
+    events.push(event(8, What::Deliver { datagram: 4 }))?;
+    events.push(event(9, What::Deliver { datagram: 5 }))?;
     Ok(events)
+}
+
+/// What the requests of the history were answered: 2.01, and 2.05 with what was posted.
+fn are_answered(alloc: Global, world: &World) -> bool {
+    let Ok(history) = world.history(alloc) else {
+        return false;
+    };
+    match history.as_slice() {
+        [post, get] => {
+            post.reply.code == Code::CREATED
+                && get.reply.code == Code::CONTENT
+                && get.reply.payload.as_slice() == b"a".as_slice()
+        }
+        _ => false,
+    }
 }
 
 fn runs(rt: &impl Abort, alloc: Global, world: &mut World, events: &[Event]) {
     assert!(rt; world.run::<Suite>(alloc, events).is_ok());
-    assert!(rt; world.sent().len() == 4);
-    assert!(rt; world.records().len() == 6);
-    assert!(rt; counts(alloc, world) == (1, 1, 1));
+    assert!(rt; world.sent().len() == 6);
+    assert!(rt; world.records().len() == 9);
+    assert!(rt; counts(alloc, world) == (2, 2, 2));
+    assert!(rt; are_answered(alloc, world));
     assert!(rt; has(alloc, world, b"a"));
+    assert!(rt; world.tree().len() == 1);
     assert!(rt; world.first_tree().len() == 0);
     assert!(rt; world.premise_holds());
     assert!(rt; world.next_waiting() == None);
-    assert!(rt; asks(alloc, world, 7, GET, b""));
-    assert!(rt; world.next_waiting() == Some(4));
-    assert!(rt; delivers(alloc, world, 8, 4));
-    assert!(rt; delivers(alloc, world, 9, 5));
-    assert!(rt; counts(alloc, world) == (2, 2, 2));
 }
 
 #[test]
