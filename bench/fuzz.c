@@ -6,6 +6,7 @@
  *   a datagram is longer than 1152 bytes, or anything is written beyond its room,
  *   a request is served that no client asked for, or twice,
  *   an answer is told that isn't the answer to what was asked,
+ *   anything of a step is sent before what it changed is kept, or what is kept isn't what the device has,
  *   a block of the heap is left once all nodes are freed.
  *
  * It is built for libFuzzer, or, with -DALONE, as a program of its own: fuzz RUNS [SEED]. It is linked with -Wl,--wrap=malloc. */
@@ -123,6 +124,7 @@ typedef struct view {
     uint8_t code;
     nzf_served served;
     nzf_refused refused;
+    nzf_change change;
     nzf_value values[3];
     uint8_t bytes[3][512];
 } view;
@@ -138,6 +140,8 @@ static void look(view *it) {
     it->numbers[1] = nzf_device_learnt(&device, &it->code);
     it->numbers[2] = nzf_device_served(&device, &it->served, bytes, sizeof bytes);
     it->numbers[3] = nzf_device_refused(&device, &it->refused);
+    it->change.size = sizeof it->change;
+    it->numbers[7] = nzf_device_changed(&device, &it->change, bytes, sizeof bytes);
     for (nzf_size at = 0; at < 3; at++) {
         it->values[at].size = sizeof it->values[at];
         it->numbers[4 + at] = nzf_device_get(&device, TEXT(PATHS[at]), it->bytes[at], sizeof it->bytes[at], &it->values[at]);
@@ -152,6 +156,8 @@ static int is_same(const view *one, const view *other) {
     for (nzf_size at = 0; at < 3; at++)
         same = same && one->values[at].format == other->values[at].format && one->values[at].length == other->values[at].length &&
                is_etag(&one->values[at].etag, &other->values[at].etag) && memcmp(one->bytes[at], other->bytes[at], sizeof one->bytes[at]) == 0;
+    same = same && one->change.is_there == other->change.is_there && one->change.waits == other->change.waits &&
+           one->change.path_length == other->change.path_length && one->change.payload_length == other->change.payload_length;
     return same && one->served.number == other->served.number && one->served.method == other->served.method && one->refused.code == other->refused.code;
 }
 
@@ -295,6 +301,91 @@ static void act_on_client(nzf_size at) {
     refuse_in = kept;
 }
 
+/* ---- what the device's owner keeps */
+
+enum { KEPT = 64 };
+
+typedef struct kept_value {
+    uint8_t path[NZF_PATH_MAX], bytes[NZF_PAYLOAD_MAX];
+    nzf_size path_length, length;
+    int32_t format;
+    int is_there;
+} kept_value;
+
+static kept_value kept[KEPT];
+static nzf_size kept_count;
+/* whether the device's owner keeps what steps change */
+static int keeps;
+
+static void make_device(void);
+
+static kept_value *kept_at(const void *path, nzf_size length) {
+    for (nzf_size at = 0; at < kept_count; at++)
+        if (kept[at].path_length == length && memcmp(kept[at].path, path, length) == 0) return &kept[at];
+    return NULL;
+}
+
+/* At times it can't be kept; and it is only so much that is kept. */
+static int keep(void *context, const void *path, nzf_size path_length, const void *value, nzf_size length, int32_t format) {
+    kept_value *it = kept_at(path, path_length);
+    SHOULD(context == &keeps && path_length >= 2 && path_length <= NZF_PATH_MAX && length <= NZF_PAYLOAD_MAX);
+    SHOULD(value != NULL || (length == 0 && format == NZF_NO_FORMAT));
+    if (byte() % 64 == 1 || (it == NULL && kept_count == KEPT)) return 1;
+    if (it == NULL) it = &kept[kept_count++];
+    memcpy(it->path, path, it->path_length = path_length);
+    it->is_there = value != NULL;
+    it->length = length;
+    it->format = format;
+    if (value != NULL) memcpy(it->bytes, value, length);
+    return 0;
+}
+
+/* What couldn't be kept ends the device, and another is made of what is kept. */
+static void not_kept(void) {
+    uint8_t bytes[NZF_DATAGRAM_MAX], code = 0xee;
+    nzf_peer to;
+    nzf_size length;
+    nzf_draw random = draw();
+    nzf_draws draws = two_draws();
+    SHOULD(nzf_device_next(&device, &to, bytes, sizeof bytes, &length) == NZF_NOT_KEPT);
+    SHOULD(nzf_device_on_tick(&device, now, &random) == NZF_NOT_KEPT);
+    SHOULD(nzf_device_open(&device, now, &draws, &code) == NZF_NOT_KEPT && code == 0);
+    SHOULD(nzf_device_kept(&device, 1) == NZF_NOT_KEPT && nzf_device_keeps(&device) == NZF_NOT_KEPT);
+    make_device();
+}
+
+/* The last step's change is that of the path, and waits; once it is kept, what is kept is what the device has. */
+static void keep_step(void) {
+    uint8_t bytes[NZF_PATH_MAX + NZF_PAYLOAD_MAX], payload[NZF_PAYLOAD_MAX];
+    nzf_peer to;
+    nzf_size length;
+    nzf_change it = NZF_CHANGE;
+    nzf_value value = NZF_VALUE;
+    unsigned planned = refuse_in;
+    refuse_in = 0;
+    int32_t number = nzf_device_changed(&device, &it, bytes, sizeof bytes);
+    ANSWERS(number, OR(NZF_DONE) | OR(NZF_NOTHING));
+    if (number == NZF_DONE) {
+        SHOULD(it.is_there <= 1 && it.waits == keeps);
+        SHOULD(nzf_device_get(&device, bytes, it.path_length, payload, sizeof payload, &value) == (it.is_there ? NZF_DONE : NZF_NOTHING));
+        if (it.is_there) SHOULD(value.format == it.format && value.length == it.payload_length);
+        if (it.is_there) SHOULD(memcmp(payload, bytes + it.path_length, value.length) == 0);
+        if (keeps) SHOULD(nzf_device_next(&device, &to, payload, sizeof payload, &length) == NZF_NOT_KEPT);
+    }
+    if (keeps) {
+        number = nzf_device_keep(&device, keep, &keeps);
+        ANSWERS(number, OR(NZF_DONE) | OR(NZF_NOT_KEPT));
+        if (number == NZF_NOT_KEPT) not_kept();
+        for (nzf_size at = 0; at < kept_count; at++) {
+            const kept_value *one = &kept[at];
+            number = nzf_device_get(&device, one->path, one->path_length, payload, sizeof payload, &value);
+            SHOULD(number == (one->is_there ? NZF_DONE : NZF_NOTHING));
+            if (one->is_there) SHOULD(value.length == one->length && value.format == one->format && memcmp(payload, one->bytes, one->length) == 0);
+        }
+    }
+    refuse_in = planned;
+}
+
 /* ---- steps */
 
 static void to_device(const datagram *it) {
@@ -309,6 +400,7 @@ static void to_device(const datagram *it) {
         return;
     }
     act_on_served();
+    keep_step();
     take_all(next_of_device, &device, &DEVICE);
 }
 
@@ -456,6 +548,7 @@ static void own_call(void) {
         SHOULD(is_same(&before, &after));
         return;
     }
+    keep_step();
     take_all(next_of_device, &device, &DEVICE);
 }
 
@@ -476,6 +569,7 @@ static void pass(void) {
         ANSWERS(number, OR(NZF_DONE) | (has_refused ? OR(NZF_LOST) : 0));
         uint8_t code;
         ANSWERS(nzf_device_learnt(&device, &code), OR(NZF_DONE) | OR(NZF_UNVERIFIED) | OR(NZF_NOTHING));
+        keep_step();
         take_all(next_of_device, &device, &DEVICE);
     } else if (who == 1) {
         number = nzf_proxy_on_tick(&proxy, now, &random);
@@ -506,12 +600,13 @@ static void bad_arguments(void) {
     uint8_t code = 0xee;
     look(&before);
     refuse_in = 0;
-    switch (below(6)) {
+    switch (below(7)) {
     case 0: SHOULD(nzf_device_on_datagram(&device, UINT64_C(1) << 63, &STRANGER, "", 0, &random) == NZF_BAD_ARGUMENT); break;
     case 1: SHOULD(nzf_device_on_tick(&device, UINT64_MAX, &random) == NZF_BAD_ARGUMENT); break;
     case 2: SHOULD(nzf_device_on_datagram(&device, now, &NOBODY, "", 0, &random) == NZF_BAD_ARGUMENT); break;
     case 3: SHOULD(nzf_device_remove(&device, now, TEXT("no path"), &draws, &code) == NZF_BAD_ARGUMENT && code == 0); break;
-    case 4: SHOULD(nzf_proxy_set_outstanding(&proxy, 17) == NZF_BAD_ARGUMENT); break;
+    case 4: SHOULD(nzf_device_kept(&device, 2) == NZF_BAD_ARGUMENT && nzf_device_kept(&device, 1) == NZF_NOTHING); break;
+    case 5: SHOULD(nzf_proxy_set_outstanding(&proxy, 17) == NZF_BAD_ARGUMENT); break;
     default: ANSWERS(nzf_proxy_add_target(&proxy, TEXT("late"), 1, &DEVICE), OR(NZF_DONE) | OR(NZF_NOT_NOW)); break;
     }
     look(&after);
@@ -523,15 +618,29 @@ static void bad_arguments(void) {
 static const char *const SCOPES[CLIENTS] = {"/e:GET+PUT,/log:GET+POST", "/a:GET+PUT+DELETE+SUB"};
 
 static void make_device(void) {
+    static nzf_resource first[KEPT];
+    nzf_size count = 0;
     nzf_draw random = draw();
     nzf_device_settings settings = NZF_DEVICE_SETTINGS;
+    nzf_change none = NZF_CHANGE;
+    uint8_t how = byte();
+    for (nzf_size at = 0; at < kept_count; at++) {
+        const kept_value *one = &kept[at];
+        nzf_resource it = NZF_RESOURCE;
+        it.path = nzf_bytes_of(one->path, one->path_length);
+        it.payload = nzf_bytes_of(one->bytes, one->length);
+        it.format = one->format;
+        if (one->is_there) first[count++] = it;
+    }
     settings.key = KEY;
-    settings.context_seconds = byte() % 4 == 0 ? 60 : 0;
+    settings.context_seconds = how % 4 == 0 ? 60 : 0;
     settings.audience = nzf_text("fuzz");
     settings.unprotected = nzf_text("/e:GET");
     settings.own = nzf_text("/e:GET+PUT+POST+DELETE,/log:POST+DELETE,/r:PUT+DELETE+SUB");
     settings.revoked = nzf_text("/r");
-    SHOULD(nzf_device_new(&device, &settings, &random) == NZF_DONE);
+    SHOULD(nzf_device_new_with(&device, &settings, first, count, &random) == NZF_DONE);
+    SHOULD(nzf_device_changed(&device, &none, &how, 0) == NZF_NOTHING);
+    if (keeps) SHOULD(nzf_device_keeps(&device) == NZF_DONE);
 }
 
 static void make_client(nzf_size at) {
@@ -565,6 +674,8 @@ static void make(void) {
     sent = request_count = 0;
     refuse_in = 0;
     memset(open_at, 0, sizeof open_at);
+    kept_count = 0;
+    keeps = byte() % 2;
     make_device();
     for (nzf_size at = 0; at < CLIENTS; at++) make_client(at);
     SHOULD(nzf_proxy_new(&proxy) == NZF_DONE);
@@ -617,7 +728,7 @@ int LLVMFuzzerTestOneInput(const uint8_t *data, nzf_size size) {
 #ifdef ALONE
 /* Random inputs, always the same ones from a seed: xorshift64*. Each begins with an exchange of both clients, so that most have contexts. */
 int main(int count, char **words) {
-    static const uint8_t FIRST[] = {7, 0, 0, 0, 0, 0, 0};
+    static const uint8_t FIRST[] = {1, 7, 0, 0, 0, 0, 0, 0};
     static uint8_t bytes[4096];
     uint64_t runs = count > 1 ? strtoull(words[1], NULL, 10) : 1000, state = count > 2 ? strtoull(words[2], NULL, 10) : 1, served = 0, asked_for = 0;
     if (state == 0) state = 1;

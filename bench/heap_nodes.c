@@ -1,7 +1,8 @@
 /* Nodes over one array (c/heap.c with NZF_POOL), by the first word:
 
      alone     a device alone: 100,000 calls find room, among them its own writes, GETs and random datagrams
-     client    a device and a client: 100,000 calls find room, and once both are freed no byte of their secrets is left
+     client    a device and a client: 100,000 calls find room. The key is there once. Once the client is freed and its context has ended no byte of its
+               secret is left, and once the device is freed none of the key
      revoked   a device in the array, and a holder elsewhere whose token grants PUT and SUB: 1,100 PUTs fill the array, and the device revokes the
                holder all the same, who is refused from then on */
 #define rattle_alloc pool_alloc
@@ -198,9 +199,15 @@ static int with_client(void) {
         if (nzf_device_on_tick(&device, now, &it) != NZF_DONE || nzf_client_on_tick(&client, now) != NZF_DONE) return failed("a tick in round", round);
         if (nzf_heap_used() > most) most = nzf_heap_used();
     }
-    if (found(key.bytes, sizeof key.bytes) == 0 || found(secret, sizeof secret) == 0) return failed("the secrets aren't looked for where they are", 0);
-    nzf_device_free(&device);
+    if (found(secret, sizeof secret) == 0) return failed("the secrets aren't looked for where they are", 0);
+    if (found(key.bytes, sizeof key.bytes) != 1) return failed("the key isn't there once", (long)found(key.bytes, sizeof key.bytes));
+    /* The holder goes, and its context at the device ends: nothing is left of its secret, though the device lives on. */
     nzf_client_free(&client);
+    if (nzf_device_restart(&device) != NZF_DONE) return failed("restart", 0);
+    for (size_t half = 0; half <= 8; half += 8) {
+        if (found(secret + half, 8) != 0) return failed("a secret of a context that ended is still there", 0);
+    }
+    nzf_device_free(&device);
     if (nzf_heap_used() != 0) return failed("bytes are still in use", (long)nzf_heap_used());
     for (size_t half = 0; half <= 8; half += 8) {
         if (found(key.bytes + half, 8) != 0) return failed("the key is still there", 0);

@@ -2,6 +2,7 @@
 import functools
 import os
 import pathlib
+import shlex
 import subprocess
 import sys
 import time
@@ -32,20 +33,30 @@ def osc():
     return pathlib.Path(named or ROOT / "osc").resolve()
 
 
+def library(folder, name):
+    """The library of bench/NAME.c, which is loaded before a program."""
+    made = folder / f"{name}.so"
+    try:
+        subprocess.run([*shlex.split(os.environ.get("CC", "cc")), "-O2", "-shared", "-fPIC", "-o", made, ROOT / f"bench/{name}.c"], check=True)
+    except (OSError, subprocess.CalledProcessError):
+        fail(f"bench/{name}.c isn't compiled: it needs a C compiler, cc or the one that CC names", 2)
+    return made
+
+
 class Server:
     """A server at a port of this machine, with these lines more in its settings. Its settings and its log are in the folder."""
 
-    def __init__(self, folder, port, *lines, words=()):
+    def __init__(self, folder, port, *lines, words=(), env=None):
         settings, self.log, self.process = folder / "server.toml", folder / "server.log", None
         settings.write_text("\n".join([f'bind = "{HOST}:{port}"', f'key = "{KEY}"', 'audience = "door"', *lines]) + "\n")
-        self.words = [osc(), "server", *words, "--config", settings]
+        self.words, self.env = [osc(), "server", *words, "--config", settings], env
 
     def said(self):
         return self.log.read_text()
 
     def start(self):
         with open(self.log, "w") as log:
-            self.process = subprocess.Popen(self.words, stdin=subprocess.DEVNULL, stderr=log)
+            self.process = subprocess.Popen(self.words, stdin=subprocess.DEVNULL, stderr=log, env=self.env)
 
     def wait(self):
         """Waits until it listens."""

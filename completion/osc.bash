@@ -3,16 +3,17 @@
 
 # words: words
 declare -gA _osc_words=(
-    ["osc"]="sim token key store server proxy client lab help --help -h --version -V"
+    ["osc"]="sim token key store server proxy client context lab help --help -h --version -V"
     ["sim"]="--bytes --lines --only --diagram --pcap --help -h"
     ["token"]="--key --key-file --aud --id --secret --secret-file --scope --salt --context --alg --exp --for --nbf --iv --help -h"
     ["key"]="--help -h"
-    ["store"]="--dump --backup --help -h"
+    ["store"]="--dump --until-damage --backup --help -h"
     ["server"]="--config --check --turns --log --help -h"
     ["proxy"]="--config --check --turns --log --help -h"
-    ["client"]="--turns --timeout --method --path --payload --text --payload-file --format --config --raw --check --help -h"
+    ["client"]="--turns --timeout --method --path --payload --text --payload-file --format --config --requests --every --raw --again --check --help -h"
+    ["context"]="--form --timeout --config --out --help -h"
     ["lab"]="--turns --ipv6 --help -h"
-    ["help"]="sim token key store server proxy client lab"
+    ["help"]="sim token key store server proxy client context lab"
 )
 # words: end
 
@@ -49,6 +50,12 @@ declare -gA _osc_values=(
     ["client --payload-file"]=FILE
     ["client --format"]=N
     ["client --config"]=FILE
+    ["client --requests"]=FILE
+    ["client --every"]=SECONDS
+    ["context --form"]=FORM
+    ["context --timeout"]=SECONDS
+    ["context --config"]=FILE
+    ["context --out"]=TO
     ["lab --turns"]=N
 )
 # words: end
@@ -80,6 +87,7 @@ _osc() {
         return
     fi
     case "$command $before" in
+    'context --form') _osc_offer 'libcoap aiocoap json' ;;
     'client --method') _osc_offer 'GET POST PUT DELETE' ;;
     'sim --only') _osc_offer 'c1 c2 c3 c4 c5 c6 c7 c8 c9' ;;
     'token --alg') _osc_offer '10 30' ;;

@@ -101,7 +101,7 @@ static void answers_at(int32_t number, int32_t wanted, const char *call, int lin
 
 static const int32_t NUMBERS[] = {NZF_DONE,      NZF_TOO_SHORT, NZF_NO_MEMORY, NZF_TOO_LONG,     NZF_BUSY, NZF_EXHAUSTED,  NZF_NO_CONTEXT,
                                   NZF_BAD_SCOPE, NZF_NOTHING,   NZF_LOST,      NZF_BAD_ARGUMENT, NZF_NOT_NOW, NZF_UNVERIFIED,
-                                  NZF_REFUSED};
+                                  NZF_REFUSED,   NZF_NOT_KEPT};
 
 /* The size of a struct without its last members: `first` is the first of these, and a nzf_size is what the struct is aligned for. */
 #define SHORT(type, first) ((offsetof(type, first) + sizeof(nzf_size) - 1) / sizeof(nzf_size) * sizeof(nzf_size))
@@ -177,6 +177,7 @@ typedef struct world {
     nzf_size waiting;
     datagram past[PAST]; /* what was sent, by turns */
     nzf_size sent;
+    int keeps; /* whether what the device's steps change is kept at once */
 } world;
 
 static const nzf_key KEY = {{1, 2, 3, 4, 5, 6, 7, 8, 9, 10, 11, 12, 13, 14, 15, 16}};
@@ -327,6 +328,45 @@ static int make_world(world *w) {
     return 1;
 }
 
+/* ---- what keeps the device's resources */
+
+enum { KEPT = 8 };
+
+/* What is kept of a path: nothing where `is_there` is 0. */
+typedef struct kept_value {
+    char path[32];
+    uint8_t bytes[NZF_PAYLOAD_MAX];
+    nzf_size length;
+    int32_t format;
+    int is_there;
+} kept_value;
+
+/* What was kept, how often something was to be kept, and whether nothing can be kept now. */
+typedef struct store {
+    kept_value values[KEPT];
+    nzf_size count, calls;
+    int is_full;
+} store;
+
+static int keeps_all(void *context, const void *path, nzf_size path_length, const void *value, nzf_size length, int32_t format) {
+    store *of = context;
+    nzf_size at = 0;
+    if (of == NULL) return 0;
+    of->calls++;
+    if (of->is_full || path_length >= sizeof of->values[0].path || length > NZF_PAYLOAD_MAX) return -1;
+    while (at < of->count && (strlen(of->values[at].path) != path_length || memcmp(of->values[at].path, path, path_length) != 0)) at++;
+    if (at == KEPT) return -1;
+    if (at == of->count) of->count++;
+    kept_value *it = &of->values[at];
+    memset(it, 0, sizeof *it);
+    memcpy(it->path, path, path_length);
+    it->is_there = value != NULL;
+    it->length = length;
+    it->format = format;
+    if (value != NULL) memcpy(it->bytes, value, length);
+    return 0;
+}
+
 /* ---- the network of that world */
 
 static void keep(world *w, uint16_t from, const datagram *it) {
@@ -341,6 +381,7 @@ static void keep(world *w, uint16_t from, const datagram *it) {
 /* What the last step of the device left. */
 static void act_on_device(world *w) {
     datagram it;
+    if (w->keeps) CLAIM(nzf_device_keep(&w->device, keeps_all, NULL) != NZF_TOO_SHORT);
     while (nzf_device_next(&w->device, &it.to, it.bytes, sizeof it.bytes, &it.length) == NZF_DONE) keep(w, DEVICE_PORT, &it);
     nzf_served served = NZF_SERVED;
     uint8_t bytes[NZF_PATH_MAX + ROOM + NZF_CONTEXT_MAX];
@@ -431,6 +472,15 @@ static int asks(world *w, nzf_size at, uint8_t method, const char *path, const c
     return 1;
 }
 
+/* A holder asks for this, and it comes to the device. */
+static int arrives(world *w, uint8_t method, const char *path, const char *payload) {
+    nzf_draw it = draw();
+    if (ask(w, 0, method, path, payload) != NZF_DONE || w->waiting != 1) return 0;
+    datagram request = w->queue[0];
+    w->waiting = 0;
+    return nzf_device_on_datagram(&w->device, w->now, &request.from, request.bytes, request.length, &it) == NZF_DONE;
+}
+
 static int opens(world *w) {
     nzf_draws draws = two_draws();
     uint8_t code = 0;
@@ -515,6 +565,19 @@ static int play(world *w) {
     return asks(w, 1, 1, "/e", "", 0x45);
 }
 
+/* ---- what was kept */
+
+/* Whether this is kept at the path; null for nothing. */
+static int is_kept(const store *of, const char *path, const char *wanted) {
+    for (nzf_size at = 0; at < of->count; at++) {
+        const kept_value *it = &of->values[at];
+        if (strcmp(it->path, path) != 0) continue;
+        if (wanted == NULL) return !it->is_there && it->length == 0 && it->format == NZF_NO_FORMAT;
+        return it->is_there && it->length == strlen(wanted) && memcmp(it->bytes, wanted, it->length) == 0;
+    }
+    return wanted == NULL;
+}
+
 /* ---- handles that hold nothing */
 
 static void nothing_of_a_device(void) {
@@ -526,6 +589,7 @@ static void nothing_of_a_device(void) {
     nzf_value value = NZF_VALUE;
     nzf_served served = NZF_SERVED;
     nzf_refused why = NZF_REFUSAL;
+    nzf_change change = NZF_CHANGE;
     uint8_t bytes[ROOM], code;
     nzf_size length;
     uint64_t moment;
@@ -543,6 +607,10 @@ static void nothing_of_a_device(void) {
     ANSWERS(NZF_NOTHING, nzf_device_served(&none, &served, bytes, 0));
     ANSWERS(NZF_NOTHING, nzf_device_refused(&none, &why));
     ANSWERS(NZF_NOTHING, nzf_device_learnt(&none, &code));
+    ANSWERS(NZF_NOTHING, nzf_device_changed(&none, &change, bytes, sizeof bytes));
+    ANSWERS(NZF_NOTHING, nzf_device_keep(&none, keeps_all, NULL));
+    ANSWERS(NZF_NOTHING, nzf_device_keeps(&none));
+    ANSWERS(NZF_NOTHING, nzf_device_kept(&none, 1));
     ANSWERS(NZF_NOTHING, nzf_device_restart(&none));
     nzf_device_free(&none);
 }
@@ -703,6 +771,26 @@ static void filled_sizes(world *w) {
     request.bytes[request.length - 1] ^= 1;
     ANSWERS(NZF_DONE, nzf_device_on_datagram(&w->device, w->now, &request.from, request.bytes, request.length, &chosen));
     FILLED(nzf_refused, why, SHORT_REFUSED, has_token, NZF_DONE, nzf_device_refused(&w->device, &why))
+}
+
+/* What a step changed is told to a struct of its own size alone; else nothing is written. */
+static void changed_sizes(world *w) {
+    uint8_t bytes[ROOM], code;
+    nzf_change it, before;
+    CLAIM(opens(w) && writes(w, 3, "/e", "open", &code) == NZF_DONE);
+    for (nzf_size size = 0; size <= 2 * sizeof it; size++) {
+        memset(&it, 0xee, sizeof it);
+        it.size = size;
+        before = it;
+        bytes[0] = 0xee;
+        if (size == sizeof it) {
+            ANSWERS(NZF_DONE, nzf_device_changed(&w->device, &it, bytes, sizeof bytes));
+            CLAIM(it.size == size && it.is_there == 1 && it.waits == 0 && it.format == 0 && it.path_length == 2 && it.payload_length == 4);
+            continue;
+        }
+        IS_BAD(nzf_device_changed(&w->device, &it, bytes, sizeof bytes));
+        CLAIM(memcmp(&it, &before, sizeof it) == 0 && bytes[0] == 0xee);
+    }
 }
 
 /* A shorter struct may be all that there is: nothing is read or written after its end, which valgrind sees. */
@@ -1394,16 +1482,23 @@ static void without_heap(world *w) {
     nzf_peer to;
     nzf_refused why = NZF_REFUSAL;
     nzf_result result = NZF_RESULT;
+    nzf_served served = NZF_SERVED;
+    nzf_change change = NZF_CHANGE;
     CLAIM(opens(w) && writes(w, 3, "/e", "open", &code) == NZF_DONE && exchange(w, 0) && exchange(w, 1));
+    CLAIM(arrives(w, 3, "/e", "shut"));
     plan(1, 1);
+    ANSWERS(NZF_DONE, nzf_device_served(&w->device, &served, bytes, sizeof bytes));
+    ANSWERS(NZF_DONE, nzf_device_changed(&w->device, &change, bytes, sizeof bytes));
+    ANSWERS(NZF_DONE, nzf_device_keep(&w->device, keeps_all, NULL));
+    ANSWERS(NZF_DONE, nzf_device_next(&w->device, &to, bytes, sizeof bytes, &length));
     ANSWERS(NZF_NOTHING, nzf_device_next(&w->device, &to, bytes, sizeof bytes, &length));
     ANSWERS(NZF_NOTHING, nzf_device_next_deadline(&w->device, &moment));
     ANSWERS(NZF_NOTHING, nzf_device_refused(&w->device, &why));
     ANSWERS(NZF_NOTHING, nzf_device_learnt(&w->device, &code));
-    ANSWERS(NZF_NOTHING, nzf_client_next(&w->clients[0], &to, bytes, sizeof bytes, &length));
-    ANSWERS(NZF_NOTHING, nzf_client_next_deadline(&w->clients[0], &moment));
-    ANSWERS(NZF_DONE, nzf_client_result(&w->clients[0], &result, bytes, sizeof bytes));
-    ANSWERS(NZF_DONE, nzf_client_context(&w->clients[0], &moment));
+    ANSWERS(NZF_NOTHING, nzf_client_next(&w->clients[1], &to, bytes, sizeof bytes, &length));
+    ANSWERS(NZF_NOTHING, nzf_client_next_deadline(&w->clients[1], &moment));
+    ANSWERS(NZF_DONE, nzf_client_result(&w->clients[1], &result, bytes, sizeof bytes));
+    ANSWERS(NZF_DONE, nzf_client_context(&w->clients[1], &moment));
     CLAIM(nzf_proxy_next(&w->proxy, &to, bytes, sizeof bytes, &length) != NZF_NO_MEMORY);
     CLAIM(nzf_proxy_next_deadline(&w->proxy, &moment) != NZF_NO_MEMORY);
     CLAIM(taken == 0);
@@ -1413,6 +1508,183 @@ static void without_heap(world *w) {
     free_world(w);
     CLAIM(taken == 0);
     plan(0, 0);
+}
+
+/* ---- a device whose owner keeps what steps change */
+
+/* What the last step changed, told in parts and whole: this path and this value, which is null where it was deleted. */
+static int is_changed(world *w, const char *path, const char *value, int waits) {
+    uint8_t bytes[ROOM];
+    nzf_change it = NZF_CHANGE, again = NZF_CHANGE;
+    nzf_size whole = strlen(path) + (value == NULL ? 0 : strlen(value));
+    memset(bytes, 0xee, sizeof bytes);
+    if (nzf_device_changed(&w->device, &it, bytes, whole - 1) != NZF_TOO_SHORT || bytes[0] != 0xee) return 0;
+    if (nzf_device_changed(&w->device, &again, bytes, whole) != NZF_DONE || bytes[whole] != 0xee) return 0;
+    if (it.waits != waits || it.is_there != (value != NULL) || again.waits != it.waits || again.is_there != it.is_there) return 0;
+    if (again.format != it.format || again.path_length != it.path_length || again.payload_length != it.payload_length) return 0;
+    if (it.path_length != strlen(path) || memcmp(bytes, path, it.path_length) != 0) return 0;
+    return value == NULL ? it.payload_length == 0 && it.format == NZF_NO_FORMAT
+                         : it.payload_length == strlen(value) && memcmp(bytes + it.path_length, value, it.payload_length) == 0;
+}
+
+/* The last step changed nothing. */
+static int is_unchanged(world *w) {
+    uint8_t bytes[1];
+    nzf_change it = NZF_CHANGE;
+    return nzf_device_changed(&w->device, &it, bytes, sizeof bytes) == NZF_NOTHING;
+}
+
+/* Nothing is handed out, no step is made, and all stays; what only looks goes on. */
+static int is_withheld(world *w) {
+    uint8_t bytes[ROOM], code = 0xee, id = 1;
+    nzf_draw it = draw();
+    nzf_draws draws = two_draws();
+    nzf_peer to, from = peer(STRANGER_PORT);
+    nzf_size length = 7;
+    uint64_t moment;
+    nzf_value value = NZF_VALUE;
+    nzf_resource resource = value_at("/e", 0, "later");
+    return nzf_device_next(&w->device, &to, bytes, sizeof bytes, &length) == NZF_NOT_KEPT && length == 7
+        && nzf_device_on_datagram(&w->device, w->now, &from, "\x40\x01\x00\x01\xb1\x65", 6, &it) == NZF_NOT_KEPT
+        && nzf_device_on_tick(&w->device, w->now, &it) == NZF_NOT_KEPT && nzf_device_open(&w->device, w->now, &draws, &code) == NZF_NOT_KEPT && code == 0
+        && nzf_device_put(&w->device, w->now, &resource, &draws, &code) == NZF_NOT_KEPT
+        && nzf_device_append(&w->device, w->now, &resource, &draws, &code) == NZF_NOT_KEPT
+        && nzf_device_remove(&w->device, w->now, "/e", 2, &draws, &code) == NZF_NOT_KEPT
+        && nzf_device_revoke(&w->device, w->now, &id, 1, &draws, &code) == NZF_NOT_KEPT
+        && nzf_device_allow(&w->device, w->now, &id, 1, &draws, &code) == NZF_NOT_KEPT && nzf_device_restart(&w->device) == NZF_NOT_KEPT
+        && nzf_device_get(&w->device, "/e", 2, bytes, sizeof bytes, &value) == NZF_DONE
+        && nzf_device_next_deadline(&w->device, &moment) != NZF_NOT_KEPT;
+}
+
+/* The device's answer comes to the holder: this code. */
+static int is_answered(world *w, uint8_t code) {
+    w->results[0].what = 0;
+    act_on_device(w);
+    return quiet(w) && w->results[0].what == NZF_RESULT_ANSWER && w->results[0].code == code;
+}
+
+/* What is told where nobody keeps it. */
+static void changes(world *w) {
+    uint8_t code = 0;
+    CLAIM(opens(w) && is_unchanged(w));
+    CLAIM(written(w, 3, "/e", "open", 0x41) && is_changed(w, "/e", "open", 0));
+    ANSWERS(NZF_NOTHING, nzf_device_kept(&w->device, 1));
+    ANSWERS(NZF_BAD_ARGUMENT, nzf_device_kept(&w->device, 2));
+    CLAIM(writes(w, 3, "/log", "no", &code) == NZF_DONE && code == 0x85 && is_unchanged(w));
+    CLAIM(exchange(w, 0) && is_unchanged(w));
+    CLAIM(arrives(w, 3, "/e", "shut") && is_changed(w, "/e", "shut", 0) && is_answered(w, 0x44) && is_changed(w, "/e", "shut", 0));
+    CLAIM(arrives(w, 1, "/e", "") && is_unchanged(w) && is_answered(w, 0x45));
+    CLAIM(written(w, 2, "/log", "a", 0x41) && is_changed(w, "/log", "a", 0));
+    CLAIM(written(w, 2, "/log", "b", 0x44) && is_changed(w, "/log", "ab", 0));
+    CLAIM(written(w, 4, "/log", "", 0x42) && is_changed(w, "/log", NULL, 0));
+    ANSWERS(NZF_DONE, nzf_device_restart(&w->device));
+    CLAIM(is_unchanged(w));
+}
+
+/* Each step's change is kept before anything of the step is sent, also without memory; what changed nothing needs no keeping. */
+static void keeping(world *w) {
+    static store of;
+    nzf_peer to;
+    nzf_size length, calls;
+    uint8_t bytes[ROOM];
+    memset(&of, 0, sizeof of);
+    CLAIM(opens(w) && written(w, 3, "/e", "open", 0x41));
+    ANSWERS(NZF_DONE, nzf_device_keep(&w->device, keeps_all, &of));
+    CLAIM(of.calls == 1 && is_kept(&of, "/e", "open") && is_changed(w, "/e", "open", 0));
+    ANSWERS(NZF_DONE, nzf_device_keep(&w->device, keeps_all, &of));
+    CLAIM(of.calls == 1 && exchange(w, 0));
+    CLAIM(arrives(w, 3, "/e", "shut") && is_changed(w, "/e", "shut", 1) && is_withheld(w) && is_changed(w, "/e", "shut", 1));
+    ANSWERS(NZF_BAD_ARGUMENT, nzf_device_kept(&w->device, 2));
+    CLAIM(is_withheld(w));
+    plan(1, 1);
+    ANSWERS(NZF_DONE, nzf_device_keep(&w->device, keeps_all, &of));
+    CLAIM(is_changed(w, "/e", "shut", 0) && taken == 0);
+    plan(0, 0);
+    CLAIM(of.calls == 2 && is_kept(&of, "/e", "shut") && is_answered(w, 0x44));
+    ANSWERS(NZF_NOTHING, nzf_device_kept(&w->device, 1));
+    ANSWERS(NZF_NOTHING, nzf_device_next(&w->device, &to, bytes, sizeof bytes, &length));
+    calls = of.calls;
+    CLAIM(arrives(w, 1, "/e", "") && is_answered(w, 0x45));
+    ANSWERS(NZF_DONE, nzf_device_keep(&w->device, keeps_all, &of));
+    CLAIM(of.calls == calls);
+    CLAIM(written(w, 2, "/log", "a", 0x41) && is_withheld(w));
+    ANSWERS(NZF_DONE, nzf_device_keep(&w->device, keeps_all, &of));
+    CLAIM(is_kept(&of, "/log", "a") && written(w, 4, "/log", "", 0x42) && is_changed(w, "/log", NULL, 1));
+    ANSWERS(NZF_DONE, nzf_device_keep(&w->device, keeps_all, &of));
+    CLAIM(is_kept(&of, "/log", NULL) && of.count == 2);
+}
+
+/* What couldn't be kept: nothing of its step is ever sent, until the device is made again. */
+static void not_kept(world *w) {
+    static store of;
+    uint8_t bytes[ROOM], code = 0;
+    nzf_served served = NZF_SERVED;
+    memset(&of, 0, sizeof of);
+    CLAIM(opens(w) && written(w, 3, "/e", "open", 0x41) && exchange(w, 0));
+    ANSWERS(NZF_DONE, nzf_device_keeps(&w->device));
+    ANSWERS(NZF_DONE, nzf_device_keeps(&w->device));
+    of.is_full = 1;
+    CLAIM(arrives(w, 3, "/e", "shut"));
+    ANSWERS(NZF_NOT_KEPT, nzf_device_keep(&w->device, keeps_all, &of));
+    CLAIM(of.calls == 1 && is_withheld(w) && is_changed(w, "/e", "shut", 0));
+    of.is_full = 0;
+    ANSWERS(NZF_NOT_KEPT, nzf_device_keep(&w->device, keeps_all, &of));
+    ANSWERS(NZF_NOT_KEPT, nzf_device_keeps(&w->device));
+    ANSWERS(NZF_NOT_KEPT, nzf_device_kept(&w->device, 1));
+    ANSWERS(NZF_NOT_KEPT, nzf_device_kept(&w->device, 0));
+    CLAIM(of.calls == 1 && of.count == 0 && is_withheld(w));
+    ANSWERS(NZF_DONE, nzf_device_served(&w->device, &served, bytes, sizeof bytes));
+    ANSWERS(NZF_NOTHING, nzf_device_learnt(&w->device, &code));
+    ANSWERS(NZF_DONE, new_device(&w->device));
+    CLAIM(opens(w) && written(w, 3, "/e", "open", 0x41) && is_changed(w, "/e", "open", 0));
+    ANSWERS(NZF_DONE, nzf_device_keeps(&w->device));
+    CLAIM(is_withheld(w));
+    ANSWERS(NZF_DONE, nzf_device_kept(&w->device, 0));
+    CLAIM(is_withheld(w));
+}
+
+static int32_t device_of_kept(nzf_device *device, const nzf_resource *first, nzf_size count) {
+    nzf_draw it = draw();
+    nzf_device_settings settings = settings_for("/e:GET+PUT,/log:POST+DELETE");
+    return nzf_device_new_with(device, &settings, first, count, &it);
+}
+
+/* A device that is made of what was kept has it from the start; none of it is a change, and a resource that can't be one makes no device. */
+static void made_of_kept(world *w) {
+    static char long_text[NZF_PAYLOAD_MAX + 2];
+    nzf_resource first[3] = {NZF_RESOURCE, NZF_RESOURCE, NZF_RESOURCE}, bad;
+    nzf_value value = NZF_VALUE;
+    uint8_t bytes[ROOM];
+    memset(long_text, 'x', NZF_PAYLOAD_MAX + 1);
+    first[0] = value_at("/e", 7, "open");
+    first[1] = value_at("/log", NZF_NO_FORMAT, "a");
+    first[2] = value_at("/e", 0, "shut");
+    ANSWERS(NZF_DONE, device_of_kept(&w->device, first, 3));
+    ANSWERS(NZF_DONE, nzf_device_keeps(&w->device));
+    CLAIM(is_unchanged(w) && reads(w, "/e", "shut") && reads(w, "/log", "a"));
+    ANSWERS(NZF_DONE, nzf_device_get(&w->device, TEXT("/log"), bytes, sizeof bytes, &value));
+    CLAIM(value.format == NZF_NO_FORMAT && opens(w) && is_unchanged(w));
+    CLAIM(written(w, 2, "/log", "b", 0x44) && reads(w, "/log", "ab") && is_changed(w, "/log", "ab", 1));
+    ANSWERS(NZF_DONE, device_of_kept(&w->device, first, 2));
+    CLAIM(reads(w, "/e", "open"));
+    for (nzf_size at = 0; at < sizeof BAD_PATHS / sizeof BAD_PATHS[0]; at++) {
+        bad = value_at(BAD_PATHS[at], 0, "");
+        ANSWERS(NZF_BAD_ARGUMENT, device_of_kept(&w->device, &bad, 1));
+    }
+    bad = value_at("/e", 65536, "");
+    ANSWERS(NZF_BAD_ARGUMENT, device_of_kept(&w->device, &bad, 1));
+    bad = value_at("/e", -2, "");
+    ANSWERS(NZF_BAD_ARGUMENT, device_of_kept(&w->device, &bad, 1));
+    bad = value_at("/e", 0, long_text);
+    ANSWERS(NZF_BAD_ARGUMENT, device_of_kept(&w->device, &bad, 1));
+    bad = value_at("/e", 0, "");
+    bad.size++;
+    ANSWERS(NZF_BAD_ARGUMENT, device_of_kept(&w->device, &bad, 1));
+    CLAIM(reads(w, "/e", "open"));
+    long_text[NZF_PAYLOAD_MAX] = '\0';
+    bad = value_at("/e", 0, long_text);
+    ANSWERS(NZF_DONE, device_of_kept(&w->device, &bad, 1));
+    CLAIM(reads(w, "/e", long_text));
 }
 
 /* Nobody answers: it is sent again four times, and then ends. */
@@ -1536,6 +1808,7 @@ static void all_claims(void) {
     words();
     in_a_world(bad_sizes);
     in_a_world(filled_sizes);
+    in_a_world(changed_sizes);
     in_a_world(at_the_end);
     in_a_world(told_in_short);
     in_a_world(peers);
@@ -1560,6 +1833,10 @@ static void all_claims(void) {
     in_a_world(not_begun);
     in_a_world(as_before);
     in_a_world(without_heap);
+    in_a_world(changes);
+    in_a_world(keeping);
+    in_a_world(not_kept);
+    in_a_world(made_of_kept);
     in_a_world(timed_out);
     in_a_world(restarted);
     in_a_world(targets);
@@ -1626,7 +1903,7 @@ static void some_way(world *w) {
         some_datagram(w, &it);
     }
     int32_t number = deliver(w, &it);
-    if (!refused) CLAIM(number == NZF_DONE);
+    if (!refused) CLAIM(number == NZF_DONE || number == NZF_NOT_KEPT);
     tell(number);
 }
 
@@ -1669,6 +1946,7 @@ static void some_call_of_a_device(world *w) {
     nzf_value value = NZF_VALUE;
     nzf_served served = NZF_SERVED;
     nzf_refused why = NZF_REFUSAL;
+    nzf_change change = NZF_CHANGE;
     nzf_peer to;
     nzf_size length;
     uint8_t bytes[ROOM], code = 0, method = (uint8_t)(2 + below(3));
@@ -1677,7 +1955,9 @@ static void some_call_of_a_device(world *w) {
     value.size = some_size(sizeof value, SHORT_VALUE);
     served.size = some_size(sizeof served, SHORT_SERVED);
     why.size = some_size(sizeof why, SHORT_REFUSED);
-    switch (below(11)) {
+    change.size = some_size(sizeof change, sizeof change);
+    w->keeps = below(4) > 0;
+    switch (below(15)) {
     case 0: tell(nzf_device_open(&w->device, w->now, &draws, &code)); break;
     case 1: tell(nzf_device_on_tick(&w->device, w->now, &it)); break;
     case 2: tell(nzf_device_get(&w->device, path, strlen(path), bytes, room, &value)); break;
@@ -1687,6 +1967,10 @@ static void some_call_of_a_device(world *w) {
     case 6: tell(nzf_device_revoke(&w->device, w->now, path, small % 4, &draws, &code)); break;
     case 7: tell(nzf_device_allow(&w->device, w->now, path, small % 4, &draws, &code)); break;
     case 8: tell(nzf_device_refused(&w->device, &why)); break;
+    case 9: tell(nzf_device_changed(&w->device, &change, bytes, small)); break;
+    case 10: tell(nzf_device_keep(&w->device, keeps_all, NULL)); break;
+    case 11: tell(nzf_device_keeps(&w->device)); break;
+    case 12: tell(nzf_device_kept(&w->device, (uint8_t)(small == 0 ? 0 : small == 1 ? 2 : 1))); break;
     default: tell(writes(w, method, path, payload, &code)); break;
     }
     act_on_device(w);

@@ -283,7 +283,8 @@ static void act_on_refused(void) {
 }
 
 /* After a call that was done, though some of what it sends may be lost: what its step left is acted on, and sent, before the lock writes for itself, which
- * is a step of its own. After any other number the last step is still there, and was acted on by then: to act on it again would move the bolt twice. */
+ * is a step of its own. A lock that keeps its resources over a reboot calls nzf_device_keep before it sends, and after each write of its own. After any other
+ * number the last step is still there, and was acted on by then: to act on it again would move the bolt twice. */
 static void act_on(const char *what, int32_t number) {
     if (number == NZF_DONE || number == NZF_LOST) {
         act_on_served();

@@ -113,7 +113,7 @@ class Owner:
 
 
 KEYWORD = re.compile(
-    r"(pub(?:\([^)]*\))?\s+)?(?:(?:default|unsafe|async|extern\s*(?:\"[^\"]*\")?)\s+)*"
+    r"(pub(?:\([^)]*\))?\s+)?(?:(?:default|final|unsafe|async|extern\s*(?:\"[^\"]*\")?)\s+)*"
     r"(ghost\s+use|use|mod|struct|enum|trait|impl|const\s+fn|fn|const|static|type|ghost|macro_rules!|extern)\b"
 )
 

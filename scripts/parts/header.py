@@ -1,4 +1,4 @@
-"""Whether include/nozzlefern.h is what crates/osc_c exports and c/words.c defines.
+"""Whether include/nozzlefern.h is what crates/osc_c exports, and c/words.c and c/keep.c define.
 
 It compares each call with its arguments and what it returns, and that a call takes its handle as const where its clause is that it only looks; each
 structure with its fields, the size that a first member is to have, and the one without the members that may be left out; the numbers that calls answer,
@@ -12,7 +12,7 @@ from parts.shared import ROOT, Wrong, own, pages, read
 
 HEADER = ROOT / "include/nozzlefern.h"
 CRATE = ROOT / "crates/osc_c/src"
-WORDS = ROOT / "c/words.c"
+OF_C = (ROOT / "c/words.c", ROOT / "c/keep.c")
 SIZES = ROOT / "crates/osc_c/specs/Given.antt"
 SHORT_SIZES = ROOT / "crates/osc_c/specs/Filled.antt"
 PROGRAM = ROOT / "crates/osc_words/src/command.rt"
@@ -68,6 +68,9 @@ def c_of(rust, looks):
         return ["const void *", "size_t"]
     if rust == "&mut [u8]":
         return ["void *", "size_t"]
+    row = re.match(r"&\[(Plain\w+)(?:<'\w+>)?\]$", rust)
+    if row:
+        return ["const " + c_name(row.group(1)) + " *", "size_t"]
     if rust.startswith("&mut "):
         is_const = looks and rust.endswith("Handle")
         return [("const " if is_const else "") + c_name(rust[5:]) + " *"]
@@ -125,12 +128,13 @@ def exported():
                 types += c_of(arg.split(":", 1)[1], looks)
             back = re.match(r"\s*->\s*(\w+)", text[end:])
             calls[found.group(1)] = (PLAIN[back.group(1)] if back else "void", types)
-    calls.update(prototypes_in(without_comments(read(WORDS)), r" \{"))
+    for file in OF_C:
+        calls.update(prototypes_in(without_comments(read(file)), r" \{"))
     return calls
 
 
 def declared(header):
-    return prototypes_in(header, r"(?: NZF_CALL| NZF_POINTERS)?;")
+    return prototypes_in(header, r"(?: NZF_CALL| NZF_ANSWER| NZF_POINTERS)?;")
 
 
 def fields_of(rust):

@@ -15,7 +15,10 @@ class Refused(Exception):
 
 
 # A name, a number, a text, a word or a sign.
-TOKEN = re.compile(r'[%@](?:"[^"]*"|[-\w.$]+)|![-\w.]*|c?"[^"]*"|#\d+|-?\d+|[A-Za-z_][\w.]*|\S')
+TOKEN = re.compile(r'[%@](?:"[^"]*"|[-\w.$]+)|![-\w.]*|c?"[^"]*"|#\d+|0x[0-9A-F]+|-?\d+(?:\.\d+(?:e[-+]\d+)?)?|[A-Za-z_][\w.]*|\.\.\.|\S')
+
+NAME = re.compile(r'@(?:"[^"]*"|[-\w.$]+)')
+NUMBER = re.compile(r"(0x[0-9A-F]+|-?\d+(\.\d+(e[-+]\d+)?)?)$")
 
 # Words that say of a value what the compiler may take for granted, in bytes where they have a number.
 OF_VALUES = {"noundef", "zeroext", "signext", "nonnull", "noalias", "readonly", "writeonly", "immarg"}
@@ -25,6 +28,9 @@ FLAGS = {"nuw", "nsw", "exact", "disjoint", "inbounds", "nusw", "nneg", "samesig
 SUMS = {"add", "sub", "mul", "udiv", "urem", "sdiv", "srem", "and", "or", "xor", "shl", "lshr", "ashr"}
 CASTS = {"zext", "sext", "trunc", "bitcast", "ptrtoint", "ptrtoaddr", "inttoptr"}
 ORDERS = {"eq", "ne", "ult", "ule", "ugt", "uge", "slt", "sle", "sgt", "sge"}
+# Of floats. None may say that a sum is good enough.
+SUMS_OF_FLOATS = {"fadd", "fsub", "fmul", "fdiv"}
+ORDERS_OF_FLOATS = {f"{kind}{order}" for kind in "ou" for order in ("eq", "ne", "lt", "le", "gt", "ge")} | {"ord", "uno"}
 # What a load may add that says nothing of pointers' width.
 NOTES = {"!noundef", "!range", "!nonnull", "!align"}
 
@@ -88,7 +94,7 @@ class Line:
 
     def type(self):
         token = self.next()
-        if token in ("ptr", "void") or re.match(r"i\d+$", token):
+        if token in ("ptr", "void", "double") or re.match(r"i\d+$", token):
             return token
         if token in ("[", "<"):
             if self.peek() == "{":
@@ -109,7 +115,7 @@ class Line:
     def value(self):
         """A name, a number or a constant, as it is spelled."""
         token = self.next()
-        if token[:1] in ("%", "@") or re.match(r"-?\d+$", token) or token in ("true", "false", "null", "zeroinitializer", "undef", "poison"):
+        if token[:1] in ("%", "@") or NUMBER.match(token) or token in ("true", "false", "null", "zeroinitializer", "undef", "poison"):
             return token
         if token == "splat":
             self.expect("(")
@@ -158,11 +164,11 @@ class Line:
 
 class Instruction:
     """One instruction: its line, the name of its result if it has one, the word it begins with, the types in it and its values. `align` is that of a
-    place in memory, `called` the name of a function and `back` what it answers."""
+    place in memory, `called` the name of a function and `back` what it answers; `wanted` are the types that a function of any number of words names."""
 
     def __init__(self, line, result, word):
         self.number, self.text, self.result, self.word = line.number, line.text, result, word
-        self.types, self.values, self.align, self.called, self.back = [], [], None, None, None
+        self.types, self.values, self.align, self.called, self.back, self.wanted = [], [], None, None, None, None
 
     def refuse(self, why):
         raise Refused(self.number, why, self.text)
@@ -233,14 +239,17 @@ def read_cast(line, it):
     it.types.append(line.type())
 
 
-def read_icmp(line, it):
-    line.among(FLAGS)
-    order = line.next()
-    if order not in ORDERS:
-        line.refuse(f"{order!r} is no order that is known")
-    typed(line, it)
-    line.expect(",")
-    it.values.append(line.value())
+def read_order(orders):
+    def read(line, it):
+        line.among(FLAGS)
+        order = line.next()
+        if order not in orders:
+            line.refuse(f"{order!r} is no order that is known")
+        typed(line, it)
+        line.expect(",")
+        it.values.append(line.value())
+
+    return read
 
 
 def read_extractvalue(line, it):
@@ -309,6 +318,12 @@ def read_ret(line, it):
 def read_call(line, it):
     line.words_of_value()
     it.back = line.type()
+    if line.takes("("):
+        it.wanted = []
+        while not line.takes("..."):
+            it.wanted.append(line.type())
+            line.expect(",")
+        line.expect(")")
     it.called = line.next()
     if not it.called.startswith("@"):
         line.refuse("a call of what isn't a function's name isn't known")
@@ -324,11 +339,15 @@ def read_call(line, it):
 READERS = {
     **{word: read_sum for word in SUMS},
     **{word: read_cast for word in CASTS},
+    **{word: read_sum for word in SUMS_OF_FLOATS},
+    "fneg": read_list(1),
+    "fcmp": read_order(ORDERS_OF_FLOATS),
+    "uitofp": read_cast,
     "alloca": read_alloca,
     "load": read_load,
     "store": read_store,
     "getelementptr": read_getelementptr,
-    "icmp": read_icmp,
+    "icmp": read_order(ORDERS),
     "extractvalue": read_extractvalue,
     "insertvalue": read_insertvalue,
     "extractelement": read_list(2),
@@ -363,11 +382,11 @@ def instruction(number, text):
 
 
 class Function:
-    """A function: the words before what it answers, that type, its name, the types and the text of its arguments, its groups of attributes, and its body,
-    of labels (texts) and instructions. One that is only declared has no body."""
+    """A function: the words before what it answers, that type, its name, the types and the text of its arguments, and its groups of attributes. `lines` are
+    those of its body. One that is only declared has none."""
 
     def __init__(self, line):
-        self.number, self.head, self.body, self.is_defined = line.number, line.text, None, line.next() == "define"
+        self.number, self.head, self.lines, self.is_defined = line.number, line.text, [], line.next() == "define"
         self.is_internal = any(word != "dso_local" for word in line.among({"internal", "private", "dso_local"}))
         self.of_result = line.words_of_value()
         self.back = line.type()
@@ -379,6 +398,9 @@ class Function:
         while not line.takes(")"):
             if self.arguments:
                 line.expect(",")
+            if not self.is_defined and line.takes("..."):
+                line.expect(")")
+                break
             kind, words = line.type(), line.words_of_value()
             self.arguments.append((kind, words, line.next() if line.peek().startswith("%") else ""))
         line.among({"unnamed_addr", "local_unnamed_addr"})
@@ -390,18 +412,23 @@ class Function:
     def refuse(self, why):
         raise Refused(self.number, why, self.head)
 
-    def instructions(self):
-        return (it for it in self.body if isinstance(it, Instruction))
+    def body(self):
+        """Its labels (texts) and instructions. They are read when they are asked for: most functions of a module may be reached by none."""
+        return body(self.lines, self.number)
+
+    def names(self):
+        """The names of the module that its body has."""
+        return {name for line in self.lines for name in NAME.findall(line)}
 
 
 LABEL = re.compile(r'([-\w.$]+|"[^"]*"):\s*(;.*)?$')
 
 
-def body(lines, at):
-    """The lines of a function after its first, read, and the place after its last."""
-    read = []
-    while lines[at] != "}":
-        text, number = lines[at], at + 1
+def body(lines, before):
+    """The lines of a function between its first, which has this number, and its last, read."""
+    read, at = [], 0
+    while at < len(lines):
+        text, number = lines[at], before + at + 1
         at += 1
         if not text:
             continue
@@ -416,7 +443,7 @@ def body(lines, at):
             text += " ]"
             at += 1
         read.append(instruction(number, text))
-    return read, at + 1
+    return read
 
 
 class Module:
@@ -437,9 +464,10 @@ class Module:
         first = line.peek()
         if first == "define":
             it = Function(line)
-            it.body, after = body(lines, at + 1)
+            end = lines.index("}", at)
+            it.lines = lines[at + 1 : end]
             self.functions[it.name] = it
-            return after
+            return end + 1
         if first == "declare":
             it = Function(line)
             self.declared[it.name] = it

@@ -21,7 +21,7 @@ OUTSIDE = set(
     "unwrap map_err thiserror byteorder BTreeMap HashMap Equivalent Comparable alias grep tail sqlite3 qemu chmod curl git clone "
     "RT_JOBS OPENSSL_ia32cap trusted statements incremental native edhoc sqlite_ lnozzlefern_door door_realloc "
     "journalctl NOPERMISSION StateDirectory bindv6only ifindex nozzlefern::nozzlefern pthread_attr_setstacksize "
-    "std_collections std_heap std_io strsim toml_parser toml_writer toml_datetime serde itoa ryu fast_float rand_pcg rand_xoshiro".split()
+    "lakers NotAProtectedMessage std_collections std_heap std_io strsim toml_parser toml_writer toml_datetime serde itoa ryu fast_float rand_pcg rand_xoshiro".split()
 )
 
 WORD = re.compile(r"[A-Za-z_][A-Za-z0-9_]*")

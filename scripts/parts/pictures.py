@@ -1,8 +1,8 @@
 """The pictures of docs/pictures, made from crates.txt, from names of the code, and by the program.
 
-replay.svg is the run of examples/rows/repeated_and_replayed, and restart.svg that of examples/rows/server_restarts, as `osc sim --diagram=svg` draws
-them. floors.svg has each crate of crates.txt on its floor. post.svg is the way of a protected POST through the functions of the crates. theorem.svg
-leads from the promises to the laws, the contracts and the code. Each follows the reader's light or dark setting, and has a title and a description
+replay.svg is the run of examples/rows/repeated_and_replayed, restart.svg that of examples/rows/server_restarts, and loss.svg that of
+examples/rows/three_copies_lost, as `osc sim --diagram=svg` draws them. floors.svg has each crate of crates.txt on its floor. post.svg is the way of a protected POST through the functions of the crates. theorem.svg
+leads from the promises to the laws, the contracts and the code. keys.svg shows who holds which key. Each follows the reader's light or dark setting, and has a title and a description
 for a screen reader.
 """
 
@@ -85,16 +85,17 @@ class Picture:
 
 def floors_of(text):
     """The groups of crates.txt: floor or none, what the group is, its crates."""
-    groups, about = [], None
+    groups, about, goes_on = [], None, False
     for line in text.split("\n"):
         if line.startswith("#"):
-            about = line[1:].strip().rstrip(".")
+            about = f"{about} {line[1:].strip()}" if goes_on else line[1:].strip()
         elif line.strip() and about is not None:
             found = re.match(r"Floor (\d+), (?:the )?([^:.]*)[:.]?", about)
-            floor, name = (int(found[1]), found[2].strip()) if found else (None, about.split(",")[0].split(":")[0])
+            floor, name = (int(found[1]), found[2].strip()) if found else (None, re.split("[,:.]", about)[0])
             if not groups or groups[-1][:2] != (floor, name):
                 groups.append((floor, name, []))
             groups[-1][2].append(re.split(r"[ :]", line)[0])
+        goes_on = line.startswith("#")
     return groups
 
 
@@ -142,7 +143,7 @@ def floors():
         y = band(str(floor), [(name, crates) for at, name, crates in groups if at == floor], y, "strong")
     beside = [(name, crates) for at, name, crates in groups if at is None]
     picture.text(16, y + 18, "No crate of the product uses these:", "quiet")
-    short = {"Beside the house": "", "Tests by what callers see": "tests"}
+    short = {"Beside the house": "", "Rows": "rows", "Tests by what callers see": "tests"}
     merged = {}
     for name, crates in beside:
         merged.setdefault(short.get(name, name), []).extend(crates)
@@ -153,7 +154,7 @@ def floors():
 # ---- runs of scripts
 
 # The picture, and the script of examples/rows.
-RUNS = [("replay", "repeated_and_replayed"), ("restart", "server_restarts")]
+RUNS = [("replay", "repeated_and_replayed"), ("restart", "server_restarts"), ("loss", "three_copies_lost")]
 
 
 class Run:
@@ -222,12 +223,12 @@ def post():
         else:
             picture.arrow(x1, y + 8, x2, y + 8)
         if name is None:
-            picture.text(above, y + 2, f"{n}", "code bold")
-            picture.text(above + 24, y + 2, does, "small")
+            picture.text(above, y + 2, f"{n}", "code bold label")
+            picture.text(above + 24, y + 2, does, "small label")
         else:
-            picture.text(above, y + 2, f"{n} {shown(name)}", "code bold")
+            picture.text(above, y + 2, f"{n} {shown(name)}", "code bold label")
             told = f' <tspan class="no">else {escape(fails, quote=False)}</tspan>' if fails else ""
-            picture.add(f'<text x="{below}" y="{y + 22}" class="small quiet">{escape(does, quote=False)}{told}</text>')
+            picture.add(f'<text x="{below}" y="{y + 22}" class="small quiet label">{escape(does, quote=False)}{told}</text>')
         y += 46
     picture.reach(high)
     return picture
@@ -294,7 +295,7 @@ def theorem():
                 if owner != before:
                     picture.text(x + 10, at, owner, "code quiet small")
                     at += 17
-                picture.text(x + 18, at, own, "code")
+                picture.text(x + 14, at, own, "code")
                 at, before = at + 19, owner
             places.append(round(x + size / 2, 1))
         return y + high, places
@@ -304,21 +305,61 @@ def theorem():
             picture.add(f'<path class="flow" d="M{to[b]} {y2}C{to[b]} {(y1 + y2) / 2} {frm[a]} {(y1 + y2) / 2} {frm[a]} {y1 + 8}"/><path class="tip" d="M{frm[a]} {y1}l-4 8h8z"/>')
 
     keys = [key for _, _, key in PROMISES]
-    y, top = row(20, "Promises: the contracts that a caller reads", [(head, names) for head, names, _ in PROMISES], "strong")
+    y, top = row(20, "Promises", [(head, names) for head, names, _ in PROMISES], "strong")
     laws_at = y + 44
-    end, laws = row(laws_at, "Laws: proved for all lists of steps, of any nodes", [("", LAWS[key]) for key in keys], "box")
+    end, laws = row(laws_at, "Laws", [("", LAWS[key]) for key in keys], "box")
     down(top, y, laws, laws_at + 12, [(n, n) for n in range(len(keys))])
     nodes_at = end + 44
-    low, nodes = row(nodes_at, "Contracts of the nodes: what one step does", CONTRACTS, "box")
+    low, nodes = row(nodes_at, "Nodes", CONTRACTS, "box")
     down(laws, end, nodes, nodes_at + 12, [(0, 0), (1, 0), (3, 0), (2, 1)])
     parts_at = low + 44
-    bottom, parts = row(parts_at, "Contracts and laws of the parts", BELOW, "box")
+    bottom, parts = row(parts_at, "Parts", BELOW, "box")
     down(nodes, low, parts, parts_at + 12, [(0, 0), (0, 1), (0, 2), (0, 3), (1, 3), (1, 4)])
     code_at = bottom + 40
     picture.box(16, code_at, wide - 32, 32, "band")
     picture.text(wide / 2, code_at + 21, "The code in crates/*/src: the prover checks that each function meets its contract", "", "middle")
     for at in parts:
         picture.arrow(at, code_at, at, bottom)
+    picture.text(16, code_at + 54, "Promises are contracts that a caller reads. Laws are proved for all lists of steps, of any nodes.", "small quiet")
+    picture.text(16, code_at + 72, "A node's contract says what one step does, and those of the parts what a step is made of.", "small quiet")
+    return picture
+
+
+# ---- who holds which key
+
+# Who, where, and what it has: with a key or without.
+HOLDERS = [
+    ("Issuer (osc token)", (16, 40, 250, 84), True, ["the token key", "the secret of each token"]),
+    ("Holder (a client)", (16, 214, 250, 104), True, ["its token, which it can't read", "the secret of its token", "the keys of its context"]),
+    ("Proxy", (364, 214, 232, 104), False, ["no key", "sees addresses, sizes and times,", "and tokens, encrypted"]),
+    ("Server", (694, 40, 250, 278), True, ["the token key", "out of each token: its secret,", "its scope and its times", "the keys of each context"]),
+    ("Thief on the network", (364, 372, 232, 84), False, ["no key", "has what passed, and forges"]),
+]
+
+
+def keys():
+    wide = 960
+    told = "; ".join(f"{name}: {', '.join(has)}" for name, _, _, has in HOLDERS)
+    about = f"{told}. The issuer gives the server the token key once, and each holder its token and secret. Holder and server exchange sealed datagrams, through the proxy."
+    picture = Picture("keys", "Who holds which key", about, wide)
+    for name, (x, y, w, h), is_key, has in HOLDERS:
+        picture.box(x, y, w, h, "strong" if is_key else "box")
+        picture.text(x + 12, y + 24, name, "bold")
+        for n, words in enumerate(has):
+            picture.text(x + 12, y + 46 + 20 * n, words, "small")
+    picture.arrow(266, 82, 694, 82)
+    picture.text(480, 74, "the token key, once, by hand", "small quiet", "middle")
+    picture.arrow(141, 124, 141, 214)
+    picture.text(152, 174, "a token and its secret, by hand", "small quiet")
+    picture.line(266, 266, 364, 266, "flow")
+    picture.arrow(596, 266, 694, 266)
+    for x in (315, 645):
+        picture.text(x, 254, "sealed", "small quiet", "middle")
+        picture.text(x, 286, "datagrams", "small quiet", "middle")
+    picture.arrow(480, 372, 480, 318)
+    picture.text(492, 350, "drops, repeats, changes", "small quiet")
+    picture.text(16, 484, "A token is encrypted under the token key. Holder and server each derive the keys of a context from the secret and two nonces", "small quiet")
+    picture.text(16, 502, "(RFC 9203 section 4). What is sealed opens at these two alone.", "small quiet")
     return picture
 
 
@@ -326,7 +367,7 @@ def theorem():
 
 
 def made():
-    for picture in (*(Run(*it) for it in RUNS), floors(), post(), theorem()):
+    for picture in (*(Run(*it) for it in RUNS), floors(), post(), theorem(), keys()):
         yield FOLDER / f"{picture.name}.svg", picture.svg()
 
 

@@ -1,14 +1,17 @@
 """The words of osc in its manual page and in its completion for bash, as the program itself tells them in its help, and as the code has the keys of
-settings. They are between marks `words:`; all else in both files is written by hand. Each word is offered by the completion."""
+settings; and the table of settings of a page, as the comments of their fields say. They are between marks; all else in these files is written by hand.
+Each word is offered by the completion, and exactly those settings may be left out of which the table says so."""
 
 import functools
 import re
 import subprocess
+from pathlib import Path
 
-from parts.shared import ROOT, Wrong, filled, osc, own, read
+from parts.shared import PROGRAM, ROOT, Wrong, filled, osc, own, read
 
 MAN = ROOT / "man/osc.1"
 BASH = ROOT / "completion/osc.bash"
+PAGE = ROOT / "docs/QUICKSTART.md"
 SETTINGS = ROOT / "crates/osc_words/src/settings"
 
 
@@ -163,6 +166,72 @@ def man_settings(settings):
     return lines
 
 
+# ---- the table of settings
+
+
+# Tables of settings that may be left out.
+OPTIONAL_TABLES = ["[[resource]]"]
+
+# The least settings of each program: a line for each key that may not be left out.
+LEAST = {
+    "server": ['audience = "s"', 'bind = "127.0.0.1:5683"', f'key = "{"00" * 16}"', "open = []"],
+    "proxy": ['bind = "127.0.0.1:5683"', "target = []"],
+    "client": ['bind = "127.0.0.1:0"', 'peer = "127.0.0.1:1"', 'secret = "00"', 'token = "00"'],
+}
+
+
+class Setting:
+    """A field of settings, as the comment above it says: `WHAT: `KEY`, FORM. Left out: DEFAULT.`, or `, and DEFAULT where it is left out`."""
+
+    SHAPE = re.compile(r"(.*?): ((?:a table )?`.*)")
+    LEFT_OUT = re.compile(r"(?:\. Left out: |, and |, which is )([^,.]*?)(?: where it is left out)?\.")
+
+    def __init__(self, field, comment):
+        found = self.SHAPE.match(comment)
+        if not found:
+            raise Wrong(f"a comment of a setting should be WHAT: `KEY`, FORM: {comment}")
+        self.what, rest = found[1][0].lower() + found[1][1:], found[2]
+        self.keys = [key for key in re.findall(r"`([a-z_\[\]]+)`", rest.partition(". ")[0])]
+        at = self.LEFT_OUT.search(rest) if "eft out: " in rest or "where it is left out" in rest else None
+        optional = field.startswith("Option<") or "may be left out" in rest or any(key in OPTIONAL_TABLES for key in self.keys)
+        self.left_out = (f"`{self.keys[-1]}`: {at[1]}" if len(self.keys) > 1 else at[1]) if at else "none" if optional else "an error"
+        self.form = (rest[: at.start()] if at else rest).partition(". ")[0].rstrip(".")
+        if len(self.keys) == 1:
+            self.form = self.form.partition(f"`{self.keys[0]}`, ")[2] or self.form.partition(" each")[0].replace("a table", "tables") + self.form.partition(" each")[2]
+
+    def row(self):
+        return f"| {', '.join(f'`{key}`' for key in self.keys)} | {self.what} | {self.form} | {self.left_out} |"
+
+
+def fields(file, struct):
+    """The fields of a struct of settings, in order."""
+    found = re.search(rf"pub struct {struct} {{\n(.*?)\n}}", read(SETTINGS / file), re.S)
+    if not found:
+        raise Wrong(f"{own(SETTINGS / file)}: it has no struct {struct}")
+    comment = []
+    for line in found[1].split("\n"):
+        line = line.strip()
+        if line.startswith("///"):
+            comment.append(line[3:].strip())
+        elif line:
+            yield Setting(line.partition(": ")[2], " ".join(comment))
+            comment = []
+
+
+def page_settings():
+    lines = []
+    for title, file, struct in [
+        ("A server", "server.rt", "ServerSettings"),
+        ("A `[[resource]]`", "resource.rt", "ResourceSetting"),
+        ("A proxy", "proxy.rt", "ProxySettings"),
+        ("A `[[target]]`", "proxy.rt", "TargetSetting"),
+        ("A client", "client.rt", "ClientSettings"),
+    ]:
+        lines += ([""] if lines else []) + [f"| {title} | What it is | What should be there | Left out |", "|---|---|---|---|"]
+        lines += [setting.row() for setting in fields(file, struct)]
+    return lines
+
+
 # ---- the completion
 
 
@@ -201,6 +270,29 @@ def completed(words):
     return sorted(told.stdout.split())
 
 
+def checked(program, lines):
+    """What `--check` says of these settings, if it refuses them."""
+    words = ["--turns", "1", "--method", "GET", "--path", "/e"] if program == "client" else []
+    ran = subprocess.run([PROGRAM, program, *words, "--check"], input="\n".join(lines).encode(), capture_output=True, check=False)
+    return ran.stderr.decode() if ran.returncode else ""
+
+
+def faults_of_settings():
+    """That exactly those keys may be left out of which the table says so."""
+    for program, file, struct in [("server", "server.rt", "ServerSettings"), ("proxy", "proxy.rt", "ProxySettings"), ("client", "client.rt", "ClientSettings")]:
+        least = LEAST[program]
+        needed = [setting.keys[0].strip("[]") for setting in fields(file, struct) if setting.left_out == "an error"]
+        if sorted(needed) != [line.partition(" ")[0] for line in least]:
+            yield f"{own(PAGE)}: of a {program} these may not be left out: {', '.join(needed)}; {own(Path(__file__))} has {', '.join(least)}"
+        told = checked(program, least)
+        if told:
+            yield f"{own(PAGE)}: a {program} with {', '.join(least)} alone says: {told.splitlines()[0]}"
+        for line in least:
+            key = line.partition(" ")[0]
+            if f"key {key} is missing" not in checked(program, [other for other in least if other != line]):
+                yield f"{own(PAGE)}: a {program} doesn't say that {key} is missing"
+
+
 def faults(only, say):
     """That each word that help knows is offered, and no other."""
     program = known()
@@ -212,10 +304,12 @@ def faults(only, say):
                 tries.append((["osc", name, option.name, "1", "-"], [word for word in help.words() if word != option.name]))
     tries += [
         (["osc", "client", "--method", "P"], ["POST", "PUT"]),
+        (["osc", "context", "--form", ""], ["aiocoap", "json", "libcoap"]),
         (["osc", "sim", "--only", "c"], [f"c{n}" for n in range(1, 10)]),
         (["osc", "token", "--alg", ""], ["10", "30"]),
         (["osc", "server", "--config", "crates.t"], ["crates.txt"]),
     ]
+    yield from faults_of_settings()
     for words, wanted in tries:
         offered = completed(words)
         if offered != sorted(wanted):
@@ -223,7 +317,7 @@ def faults(only, say):
     say(f"words: {len(program.commands)} commands, {sum(len(help.options) for help in program.commands.values())} options, as osc says")
 
 
-# ---- both files
+# ---- the files
 
 
 def made():
@@ -235,3 +329,4 @@ def made():
         for name, lines in parts.items():
             text = filled(path, text, f"{mark} words: {name}", f"{mark} words: end", lines)
         yield path, text
+    yield PAGE, filled(PAGE, read(PAGE), "<!-- settings -->", "<!-- /settings -->", page_settings())
