@@ -48,6 +48,28 @@ pub fn keep<K: Keeping>(
     keeper.commit()
 }
 
+/// Keeps all changes, each by itself.
+pub fn keep_each<K: Keeping>(alloc: Global, keeper: &mut K) -> Result<(), Fail> {
+    for change in &CHANGES {
+        let path = path_of(alloc, change.0)?;
+        let resource = resource_of(alloc, change.1)?;
+        keep(keeper, &path, resource.as_ref())?;
+    }
+    Ok(())
+}
+
+/// The same until one isn't kept. How many were.
+pub fn keep_until<K: Keeping>(alloc: Global, keeper: &mut K) -> Result<usize, Fail> {
+    for (at, change) in CHANGES.iter().enumerate() {
+        let path = path_of(alloc, change.0)?;
+        let resource = resource_of(alloc, change.1)?;
+        if keep(keeper, &path, resource.as_ref()).is_err() {
+            return Ok(at);
+        }
+    }
+    Ok(CHANGES.len())
+}
+
 // What the path has after the first of the changes.
 fn had(text: &str, kept: usize) -> Had {
     let mut had = None;

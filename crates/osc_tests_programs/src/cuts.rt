@@ -1,5 +1,5 @@
 //! The power goes at each call of the disk, and inside each write at each byte.
-use crate::changes::{CHANGES, keep, path_of, resource_of};
+use crate::changes::{CHANGES, keep_until};
 use crate::disks::{Cut, cut_of, is_found};
 use osc_store::{Keeper, open_files};
 use sqlite_disk::{Files, Fuse, Memory};
@@ -17,15 +17,7 @@ const STEP: usize = 97;
 
 fn keep_all(alloc: Global, store: FileStore<Fuse<Memory>>) -> Result<Cut, Fail> {
     let mut keeper = Keeper::new(alloc, store);
-    let mut kept = 0;
-    for (at, change) in CHANGES.iter().enumerate() {
-        let path = path_of(alloc, change.0)?;
-        let resource = resource_of(alloc, change.1)?;
-        if keep(&mut keeper, &path, resource.as_ref()).is_err() {
-            break;
-        }
-        kept = at.saturating_add(1);
-    }
+    let kept = keep_until(alloc, &mut keeper)?;
     cut_of(alloc, keeper.into_store().close(), kept)
 }
 

@@ -1,7 +1,7 @@
 //! A byte that flips in a page is told, and so is a page that is missing.
 ghost use Rattle.std.specs.Prelude.{◌+◌, ◌≤◌, IfSome, length};
 
-use crate::changes::{CHANGES, is_after, keep, path_of, resource_of};
+use crate::changes::{CHANGES, is_after, keep_each};
 use crate::disks::{pair, start};
 use osc_store::{Keeper, OpenStoreError, open_files, read_until_damage};
 use osc_tree::Tree;
@@ -33,11 +33,7 @@ pub fn logged(alloc: Global) -> Result<(Vec<u8>, Vec<u8>), Fail> {
 // The store, in which all changes are kept, each by itself.
 fn kept_in(alloc: Global, store: FileStore<Memory>) -> Result<FileStore<Memory>, Fail> {
     let mut keeper = Keeper::new(alloc, store);
-    for change in &CHANGES {
-        let path = path_of(alloc, change.0)?;
-        let resource = resource_of(alloc, change.1)?;
-        keep(&mut keeper, &path, resource.as_ref())?;
-    }
+    keep_each(alloc, &mut keeper)?;
     Ok(keeper.into_store())
 }
 

@@ -1,6 +1,6 @@
 //! Stores in files of the system.
 
-use crate::changes::{CHANGES, is_after, keep, path_of, resource_of};
+use crate::changes::{CHANGES, is_after, keep_each};
 use osc_store::{Keeper, Keeping, OpenStoreError, Wary, open};
 use osc_tree::Tree;
 use std::alloc::Global;
@@ -12,15 +12,6 @@ const FOLDER: &str = "osc_store_test";
 const STORE: &str = "osc_store_test/store.db";
 
 const LOG: &str = "osc_store_test/store.db-wal";
-
-fn keep_each<K: Keeping>(alloc: Global, keeper: &mut K) -> Result<(), Fail> {
-    for change in &CHANGES {
-        let path = path_of(alloc, change.0)?;
-        let resource = resource_of(alloc, change.1)?;
-        keep(keeper, &path, resource.as_ref())?;
-    }
-    Ok(())
-}
 
 fn keep_all(rt: &HostRuntime) -> Result<(), Fail> {
     match open(rt, STORE, Wary) {
