@@ -1,6 +1,7 @@
 -- What `--check` says of settings that it read. Nothing of a key, a secret, a token or a payload is in it.
-use Rattle.std.specs.Prelude.{ℕ, List, [], ◌++◌, length, map, Option, Some, None, codes, decimal}
+use Rattle.std.specs.Prelude.{ℕ, Bool, true, false, List, [], ◌++◌, ◌==◌, length, map, Option, Some, None, codes, decimal, if◌then◌else◌}
 use Rattle.std.specs.List.{flat_map}
+use Rattle.hex.specs.Hex.{encode_lower}
 use Rattle.osc_model.specs.{algorithm_number, peer_text}
 use Rattle.osc_model.specs.declared.node.Peer.{Peer}
 use Rattle.osc_words.specs.declared.settings.client.ClientSettings.{ClientSettings}
@@ -35,10 +36,44 @@ abbrev pub store_text : Option (List ℕ) → List ℕ
 store_text None = []
 store_text (Some file) = shown_line (codes "store") file
 
+-- revoked PATH, where it has one
+abbrev pub revoked_text : Option (List ℕ) → List ℕ
+revoked_text None = []
+revoked_text (Some path) = shown_line (codes "revoked") path
+
+-- NAME and an id in hexadecimal
+abbrev pub id_line : List ℕ → List ℕ → List ℕ
+id_line name id = line (name ++ codes " " ++ encode_lower id)
+
+-- revoked_ids N, where there are any
+abbrev pub ids_text : ℕ → List ℕ
+ids_text count = if count == 0 then [] else line (codes "revoked_ids " ++ decimal count)
+
+-- context_seconds N, where contexts have a greatest age
+abbrev pub seconds_text : Option ℕ → List ℕ
+seconds_text None = []
+seconds_text (Some seconds) = line (codes "context_seconds " ++ decimal seconds)
+
+-- reserved_id ID, where a place is kept
+abbrev pub reserved_text : Option (List ℕ) → List ℕ
+reserved_text None = []
+reserved_text (Some id) = id_line (codes "reserved_id") id
+
+-- subtrees false, where no scope may reach below its paths
+abbrev pub subtrees_text : Bool → List ℕ
+subtrees_text true = []
+subtrees_text false = line (codes "subtrees false")
+
+-- the rules by which it judges tokens and contexts
+abbrev pub rules_text : ServerSettings → List ℕ
+rules_text settings =
+    revoked_text settings.revoked ++ ids_text (length settings.revoked_ids.items) ++ seconds_text settings.context_seconds
+    ++ reserved_text settings.reserved_id ++ subtrees_text settings.subtrees
+
 abbrev pub server_text : ServerSettings → List ℕ
 server_text settings =
     flat_map (address_line (codes "bind")) settings.bind.items ++ shown_line (codes "audience") settings.audience ++ store_text settings.store
-    ++ flat_map (shown_line (codes "open")) settings.open.items ++ flat_map resource_line settings.resources.items
+    ++ flat_map (shown_line (codes "open")) settings.open.items ++ rules_text settings ++ flat_map resource_line settings.resources.items
 
 -- ---- of a proxy
 

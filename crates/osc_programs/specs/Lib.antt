@@ -18,6 +18,7 @@ pub mod Storing
 pub mod Conversation
 pub mod Context
 pub mod Staying
+pub mod Strange
 pub mod Checked
 pub mod KeyLine
 pub mod PayloadFile

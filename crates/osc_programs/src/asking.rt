@@ -12,6 +12,7 @@ ghost use Rattle.osc_simulation.specs.{is_sealing};
 ghost use Rattle.osc_programs.specs.Conversation as spec;
 ghost use Rattle.osc_programs.specs.Ended as ends;
 ghost use Rattle.osc_programs.specs.Input.{IsWithin, TakesAtMost, longest_settings};
+ghost use Rattle.osc_programs.specs.Strange.{IsTold};
 ghost use Rattle.osc_programs.specs.System as system;
 ghost use Rattle.osc_programs.specs.System.{Passed as AnyPassed};
 ghost use Rattle.osc_programs.specs.Turning as turning;
@@ -23,6 +24,7 @@ use crate::issue::written;
 use crate::reading::client_settings;
 use crate::requests::tell_end;
 use crate::running::{copy_of, opened, send, tell_failure};
+use crate::strange::{Aside, OnError, tell_strange};
 use crate::supply::{moment_and_draw, supply_of};
 use crate::turns::take_turn;
 use crate::udp::Sockets;
@@ -51,6 +53,7 @@ pub(crate) enum AskEnd {
 /// the words, protected. The line of its last result is written, or `c1 open` where the turns are gone before. Where the words want it raw, only
 /// the payload of an answer is written, and the line of any other end goes to the standard error. Where there are no settings, the log tells
 /// why; where the port fails, a line on the standard error does.
+/// A line there also tells at once what the client doesn't understand of an answer.
 pub fn ask<R: Clock + Eprint + Seeds + Sockets, I: Read, L: Log, W: Write>(
     alloc: Global,
     runtime: &R,
@@ -216,12 +219,13 @@ fn origin_of(named: Option<(Bytes, u16)>) -> Result<Option<Origin>, Ended>
 
 // ---- turns
 
-// A client that runs in a program: itself, the pace that it keeps, and what hands it moments and draws.
+// A client that runs in a program: itself, the pace that it keeps, what hands it moments and draws, and where it tells at once what it doesn't understand.
 #[derive(Drop)]
-pub(crate) struct Talking<W: Watch + Drop> {
+pub(crate) struct Talking<A: Aside + Drop, W: Watch + Drop> {
     pub client: Client,
     pub pace: Pace,
     pub supply: ClockAndRandom<W>,
+    pub aside: A,
 }
 
 // The client's conversation at its own address, with the peer that everything goes to.
@@ -243,6 +247,7 @@ fn run_at<R: Clock + Eprint + Seeds + Sockets>(
         client,
         pace: Pace::START,
         supply,
+        aside: OnError::new(runtime),
     };
     let outcome = run(alloc, &mut port, &mut talking, words);
     tell_failure(alloc, runtime, &port);
@@ -251,10 +256,10 @@ fn run_at<R: Clock + Eprint + Seeds + Sockets>(
 }
 
 // An exchange, and the request where that made a context; what the steps send is handed to the port.
-fn run<W: Watch + Drop, P: Port>(
+fn run<A: Aside + Drop, W: Watch + Drop, P: Port>(
     alloc: Global,
     port: &mut P,
-    talking: &mut Talking<W>,
+    talking: &mut Talking<A, W>,
     words: &ClientWords,
 ) -> Result<AskEnd, Ended>
     ensures converses { IfOk result (λ outcome. (passed : AnyPassed)
@@ -269,10 +274,10 @@ fn run<W: Watch + Drop, P: Port>(
 }
 
 // The request, where the outcome of the post lets it be sent.
-fn go_on<W: Watch + Drop, P: Port>(
+fn go_on<A: Aside + Drop, W: Watch + Drop, P: Port>(
     alloc: Global,
     port: &mut P,
-    talking: &mut Talking<W>,
+    talking: &mut Talking<A, W>,
     turns: &mut u64,
     words: &ClientWords,
     exchanged: AskEnd,
@@ -289,10 +294,10 @@ fn go_on<W: Watch + Drop, P: Port>(
 }
 
 // The same, where the client has learnt this.
-fn go_on_by<W: Watch + Drop, P: Port>(
+fn go_on_by<A: Aside + Drop, W: Watch + Drop, P: Port>(
     alloc: Global,
     port: &mut P,
-    talking: &mut Talking<W>,
+    talking: &mut Talking<A, W>,
     turns: &mut u64,
     words: &ClientWords,
     told: ClientResult,
@@ -309,10 +314,10 @@ fn go_on_by<W: Watch + Drop, P: Port>(
 }
 
 // Sends the request, and waits for the outcome.
-fn ask_and_wait<W: Watch + Drop, P: Port>(
+fn ask_and_wait<A: Aside + Drop, W: Watch + Drop, P: Port>(
     alloc: Global,
     port: &mut P,
-    talking: &mut Talking<W>,
+    talking: &mut Talking<A, W>,
     turns: &mut u64,
     words: &ClientWords,
 ) -> Result<AskEnd, Ended>
@@ -326,10 +331,10 @@ fn ask_and_wait<W: Watch + Drop, P: Port>(
 }
 
 // Posts the token.
-pub(crate) fn post<W: Watch + Drop, P: Port>(
+pub(crate) fn post<A: Aside + Drop, W: Watch + Drop, P: Port>(
     alloc: Global,
     port: &mut P,
-    talking: &mut Talking<W>,
+    talking: &mut Talking<A, W>,
 ) -> Result<Option<ClientResult>, Ended>
     ensures posts { IfOk result (λ learnt. (step : AnyStep) × spec.Posts (record { node = talking.old.client; busy = talking.old.pace.busy_since; supply = talking.old.supply }) step (record { node = talking.new.client; busy = talking.new.pace.busy_since; supply = talking.new.supply })
         × (step.notes.result ≡ learnt) × system.Passes P.received P.sent port.old port.new (spec.sent_alone step)) }
@@ -343,10 +348,10 @@ pub(crate) fn post<W: Watch + Drop, P: Port>(
 }
 
 // Sends the request, protected. One with the code 0.00 is no request.
-pub(crate) fn send_request<W: Watch + Drop, P: Port>(
+pub(crate) fn send_request<A: Aside + Drop, W: Watch + Drop, P: Port>(
     alloc: Global,
     port: &mut P,
-    talking: &mut Talking<W>,
+    talking: &mut Talking<A, W>,
     request: &Request,
 ) -> Result<Option<ClientResult>, Ended>
     ensures sends { IfOk result (λ learnt. (step : AnyStep) × spec.Sends request.now (record { node = talking.old.client; busy = talking.old.pace.busy_since; supply = talking.old.supply }) step (record { node = talking.new.client; busy = talking.new.pace.busy_since; supply = talking.new.supply })
@@ -385,10 +390,10 @@ fn sent_by<P: Port>(port: &mut P, step: &Step) -> Result<Option<ClientResult>, E
 }
 
 // Turns until the client has learnt something, if it hasn't yet.
-pub(crate) fn awaited<W: Watch + Drop, P: Port>(
+pub(crate) fn awaited<A: Aside + Drop, W: Watch + Drop, P: Port>(
     alloc: Global,
     port: &mut P,
-    talking: &mut Talking<W>,
+    talking: &mut Talking<A, W>,
     turns: &mut u64,
     learnt: Option<ClientResult>,
 ) -> Result<AskEnd, Ended>
@@ -404,10 +409,10 @@ pub(crate) fn awaited<W: Watch + Drop, P: Port>(
 }
 
 // Turns until the client has learnt something, as long as turns are left.
-fn wait<W: Watch + Drop, P: Port>(
+fn wait<A: Aside + Drop, W: Watch + Drop, P: Port>(
     alloc: Global,
     port: &mut P,
-    talking: &mut Talking<W>,
+    talking: &mut Talking<A, W>,
     turns: &mut u64,
 ) -> Result<AskEnd, Ended>
     ensures waits { IfOk result (λ outcome. (passed : AnyPassed)
@@ -427,14 +432,15 @@ fn wait<W: Watch + Drop, P: Port>(
     Ok(AskEnd::Open)
 }
 
-// What the client learnt by a turn, if it did.
-pub(crate) fn client_turn<W: Watch + Drop, P: Port>(
+// What the client learnt by a turn, if it did. What it doesn't understand of what came is told.
+pub(crate) fn client_turn<A: Aside + Drop, W: Watch + Drop, P: Port>(
     alloc: Global,
     port: &mut P,
-    talking: &mut Talking<W>,
+    talking: &mut Talking<A, W>,
 ) -> Result<Option<ClientResult>, Ended>
     ensures takes { IfOk result (λ learnt. (received : List (Option Received)) × (step : AnyStep) × turning.TakesTurn acts_at (IsStep is_sealing) (record { node = talking.old.client; busy = talking.old.pace.busy_since; supply = talking.old.supply }) received step (record { node = talking.new.client; busy = talking.new.pace.busy_since; supply = talking.new.supply })
-        × (step.notes.result ≡ learnt) × system.Passes P.received P.sent port.old port.new (record { received = received; sent = step.out })) }
+        × (step.notes.result ≡ learnt) × system.Passes P.received P.sent port.old port.new (record { received = received; sent = step.out })
+        × IsTold step.notes.opens (A.told talking.old.aside) (A.told talking.new.aside)) }
     ensures fault { IfErr result ends.IsFault }
 {
     match take_turn(
@@ -444,7 +450,10 @@ pub(crate) fn client_turn<W: Watch + Drop, P: Port>(
         &mut talking.client,
         &mut talking.pace,
     ) {
-        Ok(turned) => learnt_of(turned),
+        Ok(turned) => {
+            tell_strange(&mut talking.aside, &turned.step.notes);
+            learnt_of(turned)
+        }
         Err(ended) => Err(ended),
     }
 }

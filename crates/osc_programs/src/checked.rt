@@ -3,6 +3,7 @@ ghost use Rattle.std.specs.Prelude.{◌≡◌, ◌++◌, IfOk, Some, codes, deci
 ghost use Rattle.std.specs.List.{flat_map};
 ghost use Rattle.osc_programs.specs.Checked as spec;
 
+use crate::rules::rules_text;
 use osc_log::shown;
 use osc_model::{Bytes, Path, Peer};
 use osc_words::{
@@ -10,8 +11,8 @@ use osc_words::{
 };
 use std::alloc::{AllocError, Global};
 
-/// Of a server: `bind ADDRESS` for each address, `audience TEXT`, `store FILE` where it has one, `open PATH` for each open path, and `resource PATH FORMAT N bytes`
-/// for each resource.
+/// Of a server: `bind ADDRESS` for each address, `audience TEXT`, `store FILE` where it has one, `open PATH` for each open path, its rules, and
+/// `resource PATH FORMAT N bytes` for each resource.
 pub(crate) fn server_text(alloc: Global, settings: &ServerSettings) -> Result<Vec<u8>, AllocError>
     ensures { IfOk result (λ text. text.items ≡ spec.server_text settings.now) }
 {
@@ -19,10 +20,12 @@ pub(crate) fn server_text(alloc: Global, settings: &ServerSettings) -> Result<Ve
     let audience = shown_line(alloc, "audience", settings.audience.as_str().as_bytes())?;
     let store = store_text(alloc, &settings.store)?;
     let open = open_lines(alloc, &settings.open)?;
+    let rules = rules_text(alloc, settings)?;
     let resources = resource_lines(alloc, &settings.resources)?;
     text.extend_from_slice(&audience)?;
     text.extend_from_slice(&store)?;
     text.extend_from_slice(&open)?;
+    text.extend_from_slice(&rules)?;
     text.extend_from_slice(&resources)?;
     Ok(text)
 }
@@ -70,7 +73,7 @@ fn address_line(alloc: Global, name: &str, peer: Peer) -> Result<String, AllocEr
     format!(in alloc; "{name} {peer}\n")
 }
 
-fn shown_line(alloc: Global, name: &str, bytes: &[u8]) -> Result<Vec<u8>, AllocError>
+pub(crate) fn shown_line(alloc: Global, name: &str, bytes: &[u8]) -> Result<Vec<u8>, AllocError>
     ensures { IfOk result (λ text. text.items ≡ spec.shown_line name.now bytes.now) }
 {
     let bytes = shown(alloc, bytes)?;

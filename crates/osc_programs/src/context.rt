@@ -20,6 +20,7 @@ use crate::ended::Ended;
 use crate::issue::written;
 use crate::reading::client_settings;
 use crate::running::{opened, tell_failure};
+use crate::strange::{Aside, OnError};
 use crate::supply::supply_of;
 use crate::udp::Sockets;
 use osc_client::Client;
@@ -114,6 +115,7 @@ fn made_at<R: Clock + Eprint + Seeds + Sockets>(
         client,
         pace: Pace::START,
         supply,
+        aside: OnError::new(runtime),
     };
     let made = made_by(alloc, runtime, &mut port, &mut talking, words);
     tell_failure(alloc, runtime, &port);
@@ -121,11 +123,11 @@ fn made_at<R: Clock + Eprint + Seeds + Sockets>(
 }
 
 // The same of this client at this port.
-fn made_by<R: Eprint, W: Watch + Drop, P: Port>(
+fn made_by<R: Eprint, A: Aside + Drop, W: Watch + Drop, P: Port>(
     alloc: Global,
     runtime: &R,
     port: &mut P,
-    talking: &mut Talking<W>,
+    talking: &mut Talking<A, W>,
     words: &ContextWords,
 ) -> Result<Vec<u8>, Ended>
     ensures made { IfOk result (λ text. (passed : AnyPassed) × (context : ClientContextState)
@@ -145,10 +147,10 @@ fn made_by<R: Eprint, W: Watch + Drop, P: Port>(
 }
 
 // The outcome of the exchange.
-fn exchanged<W: Watch + Drop, P: Port>(
+fn exchanged<A: Aside + Drop, W: Watch + Drop, P: Port>(
     alloc: Global,
     port: &mut P,
-    talking: &mut Talking<W>,
+    talking: &mut Talking<A, W>,
     turns: u64,
 ) -> Result<AskEnd, Ended>
     ensures exchanges { IfOk result (λ outcome. (passed : AnyPassed)

@@ -21,6 +21,7 @@ use crate::ended::{Ended, said};
 use crate::input::script_bytes;
 use crate::reading::client_settings;
 use crate::running::{opened, tell_failure};
+use crate::strange::{Aside, OnError};
 use crate::supply::{moment_and_draw, supply_of};
 use crate::udp::Sockets;
 use osc_client::Client;
@@ -119,6 +120,7 @@ fn bad_line(alloc: Global, number: u64) -> Result<Option<String>, AllocError>
 /// server has no such context any more, or its numbers are used up, it posts its token once again. It sends a request again only where it was never sent, or
 /// where that is asked for. The line of what came of each request is written, in order, as that of `osc client`; a line on the standard error says of
 /// one that isn't answered which message failed, and whether the request may have been served.
+/// A line there also tells at once what the client doesn't understand of an answer.
 pub fn ask_each<R: Clock + Eprint + Seeds + Sockets, I: Read, L: Log, W: Write>(
     alloc: Global,
     runtime: &R,
@@ -173,8 +175,8 @@ fn each_by<R: Clock + Eprint + Seeds + Sockets, I: Read, L: Log, W: Write>(
 // A client that stays: itself, with what it runs by; from which millisecond on its next request may be sent; and whether the server said that it
 // has no such context.
 #[derive(Drop)]
-struct Staying<W: Watch + Drop> {
-    talking: Talking<W>,
+struct Staying<A: Aside + Drop, W: Watch + Drop> {
+    talking: Talking<A, W>,
     due: u64,
     stale: bool,
 }
@@ -201,6 +203,7 @@ fn run_at<R: Clock + Eprint + Seeds + Sockets, W: Write>(
             client,
             pace: Pace::START,
             supply,
+            aside: OnError::new(runtime),
         },
         due: 0,
         stale: false,
@@ -211,11 +214,11 @@ fn run_at<R: Clock + Eprint + Seeds + Sockets, W: Write>(
 }
 
 // Each request, in order.
-fn each<R: Eprint, T: Watch + Drop, P: Port, W: Write>(
+fn each<R: Eprint, A: Aside + Drop, T: Watch + Drop, P: Port, W: Write>(
     alloc: Global,
     runtime: &R,
     port: &mut P,
-    staying: &mut Staying<T>,
+    staying: &mut Staying<A, T>,
     writer: &mut W,
     asked: &Asked,
 ) -> Result<Ended, Ended>
@@ -239,10 +242,10 @@ fn each<R: Eprint, T: Watch + Drop, P: Port, W: Write>(
 }
 
 // One more request, no earlier than it is due.
-fn one<T: Watch + Drop, P: Port>(
+fn one<A: Aside + Drop, T: Watch + Drop, P: Port>(
     alloc: Global,
     port: &mut P,
-    staying: &mut Staying<T>,
+    staying: &mut Staying<A, T>,
     manner: Manner,
     request: &Request,
 ) -> Result<LineEnd, Ended>
@@ -265,10 +268,10 @@ fn one<T: Watch + Drop, P: Port>(
 }
 
 // Turns, until a moment is no earlier than this one: that moment.
-fn paused<T: Watch + Drop, P: Port>(
+fn paused<A: Aside + Drop, T: Watch + Drop, P: Port>(
     alloc: Global,
     port: &mut P,
-    talking: &mut Talking<T>,
+    talking: &mut Talking<A, T>,
     due: u64,
 ) -> Result<Moment, Ended>
     ensures pauses { IfOk result (λ now. (passed : AnyPassed) × spec.Pauses due (record { node = talking.old.client; busy = talking.old.pace.busy_since; supply = talking.old.supply }) now passed (record { node = talking.new.client; busy = talking.new.pace.busy_since; supply = talking.new.supply })
@@ -289,10 +292,10 @@ fn paused<T: Watch + Drop, P: Port>(
 // ---- one request
 
 // The request, of a client whose context was told to be gone or not.
-fn attended<T: Watch + Drop, P: Port>(
+fn attended<A: Aside + Drop, T: Watch + Drop, P: Port>(
     alloc: Global,
     port: &mut P,
-    talking: &mut Talking<T>,
+    talking: &mut Talking<A, T>,
     how: (Manner, bool),
     request: &Request,
 ) -> Result<LineEnd, Ended>
@@ -324,10 +327,10 @@ fn sent_by(first: bool, end: LineEnd) -> LineEnd
 }
 
 // The token's post, and the request where that makes a context.
-fn asked_anew<T: Watch + Drop, P: Port>(
+fn asked_anew<A: Aside + Drop, T: Watch + Drop, P: Port>(
     alloc: Global,
     port: &mut P,
-    talking: &mut Talking<T>,
+    talking: &mut Talking<A, T>,
     turns: u64,
     request: &Request,
 ) -> Result<LineEnd, Ended>
@@ -347,10 +350,10 @@ fn asked_anew<T: Watch + Drop, P: Port>(
 }
 
 // The token's post.
-fn renewed<T: Watch + Drop, P: Port>(
+fn renewed<A: Aside + Drop, T: Watch + Drop, P: Port>(
     alloc: Global,
     port: &mut P,
-    talking: &mut Talking<T>,
+    talking: &mut Talking<A, T>,
     turns: u64,
 ) -> Result<AskEnd, Ended>
     ensures renews { IfOk result (λ outcome. (passed : AnyPassed) × spec.Renews turns (record { node = talking.old.client; busy = talking.old.pace.busy_since; supply = talking.old.supply }) outcome passed (record { node = talking.new.client; busy = talking.new.pace.busy_since; supply = talking.new.supply })
@@ -363,10 +366,10 @@ fn renewed<T: Watch + Drop, P: Port>(
 }
 
 // The request, once.
-fn asked_once<T: Watch + Drop, P: Port>(
+fn asked_once<A: Aside + Drop, T: Watch + Drop, P: Port>(
     alloc: Global,
     port: &mut P,
-    talking: &mut Talking<T>,
+    talking: &mut Talking<A, T>,
     turns: u64,
     request: &Request,
 ) -> Result<LineEnd, Ended>

@@ -5,4 +5,4 @@ use Rattle.osc_programs.proofs.asking.client_turn.Goals as goal
 pub returns-in-Ok-clause-takes : goal.returns-in-Ok-clause-takes
 returns-in-Ok-clause-takes g c =
     let takes = c.in-Ok.ensures.takes in
-    IfOk-weaker c.learnt_of.result _ _ (λ _ is. (takes.0, c.in-Ok.turned.step, takes.1, sym is, takes.2)) c.learnt_of.ensures.learnt
+    IfOk-weaker c.learnt_of.result _ _ (λ _ is. (takes.0, c.in-Ok.turned.step, takes.1, sym is, takes.2, c.tell_strange.ensures)) c.learnt_of.ensures.learnt
