@@ -9,7 +9,7 @@ static const nzf_key KEY = {{1}};
 static const nzf_peer DEVICE_AT = NZF_IPV4(127, 0, 0, 1, 5683), PROXY_AT = NZF_IPV4(127, 0, 0, 1, 5690);
 static const uint64_t NOW = UINT64_C(1700000000000);
 
-static nzf_device device;
+static nzf_device device, revoking;
 static nzf_client client;
 static nzf_proxy proxy;
 static uint8_t bytes[DATAGRAM], token[512];
@@ -68,6 +68,43 @@ static void device_append(void) {
     uint8_t code;
     must(nzf_device_append(&device, NOW, &shut, &it, &code) == NZF_DONE, "device_append");
 }
+
+/* A device that begins with a resource, and revokes. */
+static void revoking_new(void) {
+    nzf_device_settings its = NZF_DEVICE_SETTINGS;
+    nzf_resource first = shut_at("/lock/actual");
+    nzf_draw it = draw();
+    its.key = KEY;
+    its.audience = nzf_text("door");
+    its.own = nzf_text("/lock/actual:PUT,/revoked:PUT+DELETE+SUB");
+    its.revoked = nzf_text("/revoked");
+    must(nzf_device_new_with(&revoking, &its, &first, 1, &it) == NZF_DONE, "device_new_with");
+}
+
+static void revoking_open(void) {
+    nzf_draws it = {draw(), draw()};
+    uint8_t code;
+    must(nzf_device_open(&revoking, NOW, &it, &code) == NZF_DONE, "device_open");
+}
+
+static void device_revoke(void) {
+    nzf_draws it = {draw(), draw()};
+    uint8_t code;
+    must(nzf_device_revoke(&revoking, NOW, "lost", 4, &it, &code) == NZF_DONE, "device_revoke");
+}
+
+static void device_allow(void) {
+    nzf_draws it = {draw(), draw()};
+    uint8_t code;
+    must(nzf_device_allow(&revoking, NOW, "lost", 4, &it, &code) == NZF_DONE, "device_allow");
+}
+
+static int kept(void *context, const void *path, nzf_size path_length, const void *value, nzf_size count, int32_t format) {
+    (void)context, (void)path, (void)path_length, (void)value, (void)count, (void)format;
+    return 0;
+}
+
+static void device_keep(void) { must(nzf_device_keep(&device, kept, NULL) == NZF_DONE, "device_keep"); }
 
 static void device_heard(void) {
     nzf_draw it = draw();
@@ -170,6 +207,11 @@ int main(void) {
     row("nzf_device_open", device_open);
     row("nzf_device_put, /lock/actual, 4 bytes", device_put);
     row("nzf_device_append, /log, 4 bytes", device_append);
+    row("nzf_device_new_with, a resource; it revokes", revoking_new);
+    revoking_open();
+    row("nzf_device_revoke", device_revoke);
+    row("nzf_device_allow", device_allow);
+    nzf_device_free(&revoking);
     row("nzf_device_on_datagram, a GET without protection", device_open_get);
     row("nzf_device_on_tick", device_tick);
     holder = 1;
@@ -184,6 +226,7 @@ int main(void) {
     client_taken();
     row("nzf_device_on_datagram, a protected PUT", device_heard);
     row("nzf_device_served", device_told);
+    row("nzf_device_keep", device_keep);
     device_answer();
     row("nzf_client_on_datagram, a protected answer", client_heard);
     nzf_client_free(&client);

@@ -8,7 +8,8 @@ static any const CALLS[] = {
     (any)nzf_device_new,    (any)nzf_device_open,    (any)nzf_device_put,           (any)nzf_device_append, (any)nzf_device_remove,
     (any)nzf_device_get,    (any)nzf_device_next,    (any)nzf_device_next_deadline, (any)nzf_device_served, (any)nzf_device_refused,
     (any)nzf_device_learnt, (any)nzf_device_on_tick, (any)nzf_device_on_datagram,    (any)nzf_device_restart, (any)nzf_device_free,
-    (any)nzf_device_revoke, (any)nzf_device_allow,
+    (any)nzf_device_revoke, (any)nzf_device_allow,   (any)nzf_device_new_with,      (any)nzf_device_changed, (any)nzf_device_keep,
+    (any)nzf_device_keeps,  (any)nzf_device_kept,
 #endif
 #ifdef CLIENT
     (any)nzf_client_new,     (any)nzf_client_exchange, (any)nzf_client_ask,           (any)nzf_client_on_datagram, (any)nzf_client_result,

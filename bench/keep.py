@@ -3,11 +3,11 @@
     bash bench/run keep [SECONDS]
 
 All files are in memory, and a sync takes 0.2 milliseconds there (bench/slow.c), the same for each program. A holder's PUTs go over 1,000 paths, of 64 bytes
-each, for SECONDS, 5 where they are left out: one open at a time, and then 96. Meanwhile a stranger GETs an open resource 100 times a second: the times to its
-answers are told at half and at 99 of 100, and without PUTs. Beside it SQLite's library keeps the same rows on the same disk by a program in C (WAL,
-synchronous=FULL, a transaction a change; Debian's libsqlite3-dev).
+each, for SECONDS, 5 where they are left out: one open at a time, then 16, as many as clients and proxies of this repository have open to a peer, and then 96,
+of a holder who ignores that pace and fills the server's socket. Meanwhile a stranger GETs an open resource 100 times a second: the times to its answers are
+told at half and at 99 of 100, and without PUTs. Beside them SQLite's library keeps the same rows on the same disk by a program in C (WAL, synchronous=FULL, a transaction a change; Debian's libsqlite3-dev).
 
-The status is 1 where half of the GETs take 5 milliseconds or more beside 96 open PUTs, or fewer changes are kept then than by SQLite's library. It needs the
+The status is 1 where beside 16 open PUTs half of the GETs take 5 milliseconds or more, or fewer changes are kept than by SQLite's library. It needs the
 port 5987 of this machine and a C compiler. Files are made in OSC_FOLDER, or in /dev/shm. Figures are those of a proved program."""
 import multiprocessing
 import os
@@ -26,8 +26,9 @@ from asker import PATIENCE, Asker
 from lib import HOST, ROOT, Holder, Server, fail, given, library
 from oscore import CHANGED, CONTENT, CREATED, option, spelled
 
-PORT, PATHS, OPEN, RATE = 5987, 1000, 96, 100
-MOST_MILLISECONDS = 5
+PORT, PATHS, RATE = 5987, 1000, 100
+PACE, MOST_MILLISECONDS = 16, 5
+OPEN = (1, PACE, 96)
 
 
 def built(work):
@@ -120,35 +121,47 @@ def row(what, changes, seconds, syncs, taken, times=None):
     return rate
 
 
+def synced(work):
+    """The syncs so far."""
+    return struct.unpack("=Q", (work / "syncs").read_bytes())[0]
+
+
+def served(work, env, token, seconds):
+    """What a server does, a row for each number of open PUTs: the changes a second, and the times of the GETs, at each."""
+    found = {}
+    with Server(work, PORT, 'open = ["/e"]', f'store = "{work}/store"', "[[resource]]", 'path = "/e"', 'text = "open"', env=env) as server:
+        print(f"{'no PUTs':20} GETs {{:.2f}} and {{:.2f}} ms".format(*Stranger().ask(seconds)), flush=True)
+        for most in OPEN:
+            before, begun = synced(work), processor(server.process)
+            changes, taken, times = changed(token, most, seconds)
+            what = f"{most} open PUT{'s' * (most > 1)}"
+            found[most] = row(what, changes, taken, synced(work) - before, processor(server.process) - begun, times), times
+    return found
+
+
 def main():
     seconds = given(5.0)
     if not seconds > 0:
         fail("it takes a number of seconds, or nothing", 2)
     with tempfile.TemporaryDirectory(dir=os.environ.get("OSC_FOLDER", "/dev/shm")) as name:
-        work = pathlib.Path(name)
+        work, own = pathlib.Path(name), 0
         upserts, env = built(work)
         token = Holder(work, PORT, "/log:PUT+SUB").token
-
-        def syncs():
-            return struct.unpack("=Q", (work / "syncs").read_bytes())[0]
-
-        with Server(work, PORT, 'open = ["/e"]', f'store = "{work}/store"', "[[resource]]", 'path = "/e"', 'text = "open"', env=env) as server:
-            print(f"{'no PUTs':20} GETs {{:.2f}} and {{:.2f}} ms".format(*Stranger().ask(seconds)), flush=True)
-            for most in (1, OPEN):
-                before, begun = syncs(), processor(server.process)
-                changes, taken, times = changed(token, most, seconds)
-                rate = row(f"{most} open PUT{'s' * (most > 1)}", changes, taken, syncs() - before, processor(server.process) - begun, times)
-        good = times[0] < MOST_MILLISECONDS
+        found = served(work, env, token, seconds)
         if upserts:
-            before, begun = syncs(), resource.getrusage(resource.RUSAGE_CHILDREN)
+            before, begun = synced(work), resource.getrusage(resource.RUSAGE_CHILDREN)
             done = subprocess.run([upserts, work / "sqlite", str(seconds), str(PATHS)], check=True, capture_output=True, text=True, env=env)
             changes, taken = map(float, done.stdout.split())
             ended = resource.getrusage(resource.RUSAGE_CHILDREN)
-            own = row("SQLite's own library", changes, taken, syncs() - before, ended.ru_utime + ended.ru_stime - begun.ru_utime - begun.ru_stime)
-            good &= rate >= own
+            own = row("SQLite's own library", changes, taken, synced(work) - before, ended.ru_utime + ended.ru_stime - begun.ru_utime - begun.ru_stime)
         else:
             print("keep: SQLite's library isn't installed (Debian's libsqlite3-dev): left out")
-    sys.exit(0 if good else 1)
+    rate, (half, _) = found[PACE]
+    if half >= MOST_MILLISECONDS:
+        print(f"keep: beside {PACE} open PUTs half of the GETs take {half:.2f} ms; less than {MOST_MILLISECONDS} are wanted")
+    if rate < own:
+        print(f"keep: {rate:.0f} changes a second of {PACE} open PUTs; as many as SQLite's {own:.0f} are wanted")
+    sys.exit(1 if half >= MOST_MILLISECONDS or rate < own else 0)
 
 
 main()

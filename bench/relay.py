@@ -62,12 +62,17 @@ class Relay:
             return
         if ready is self.near and sender not in self.there:
             self.meet(sender)
+        if ready is self.near:
+            self.hear(sender, datagram)
         way = self.there[sender] if ready is self.near else self.back[ready]
         self.came += 1
         if way.loses():
             self.lost += 1
         else:
             self.going.append((time.monotonic() + self.delay, way, datagram))
+
+    def hear(self, asker, datagram):
+        """What an asker sends, whether it is lost or not. A road does nothing with it."""
 
     def arrive(self):
         """What has been on its way for long enough arrives."""
@@ -98,4 +103,5 @@ def main():
         print(f"{relay.lost} of {relay.came} datagrams lost on the road", flush=True)
 
 
-main()
+if __name__ == "__main__":
+    main()

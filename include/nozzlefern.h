@@ -30,7 +30,8 @@
  * Heap. Nodes are on the heap: by malloc and free of the program, or in one array (c/heap.c). What a call takes of it is said with the call; one that
  * says nothing takes none. Each block is cleared before it is given back, so after `free` no key, secret or payload is left in it.
  *
- * Stack. A call takes less than 32 KiB of it (bench/run c_size).
+ * Stack. A call takes less than 48 KiB of it, whatever comes (bench/run stack), beside what malloc takes; one of a library for Cortex-M that is as small as
+ * clang makes it (scripts/library --small) less than 56.
  *
  * Times are milliseconds since 1970, below 2^63, and do not fall from call to call. Draws are 32 bytes of a generator that nobody can guess,
  * new for each: what is promised of keys and nonces rests on their not coming twice.
