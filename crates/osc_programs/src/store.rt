@@ -13,7 +13,7 @@ ghost use Rattle.sqlite_wal.specs.Files.{image_at};
 ghost use Rattle.osc_model.specs.Tree.{Tree as AnyTree};
 ghost use Rattle.osc_server.specs.State.{State as AnyServer};
 ghost use Rattle.osc_turn.specs.Kept.Changes.{HasTooLong};
-ghost use Rattle.osc_turn.specs.Kept.Turns.{may_leave_last};
+ghost use Rattle.osc_turn.specs.Inner.Stores.{may_leave_last};
 ghost use Rattle.osc_words.specs.declared.settings.resource.ResourceSetting.{ResourceSetting as AnySetting};
 ghost use Rattle.osc_programs.specs.Ended as ends;
 ghost use Rattle.osc_programs.specs.Serving.{tree_of, with_resource};

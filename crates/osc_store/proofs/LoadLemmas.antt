@@ -14,7 +14,8 @@ use Rattle.sqlite_trees.specs.View.{View, Advances}
 use Rattle.osc_model.specs.{path_cmp}
 use Rattle.osc_model.specs.Tree.{Tree}
 use Rattle.osc_model.specs.declared.resource.Resource.{Resource}
-use Rattle.osc_store.specs.{Holds, format_value, row_of, rows_of, Reads}
+use Rattle.osc_store.specs.{Holds, format_value, row_of, rows_of}
+use Rattle.osc_store.specs.Inner.Loading.{Reads}
 
 abbrev pub Entry : Type 0
 Entry = List ℕ × Resource

@@ -15,7 +15,9 @@ use Rattle.sqlite_trees.specs.declared.store.Direction.TheVariants.{Forward}
 use Rattle.osc_model.specs.{path_cmp}
 use Rattle.osc_model.specs.Tree.{Tree}
 use Rattle.osc_model.specs.declared.resource.Resource.{Resource}
-use Rattle.osc_store.specs.{key_of, row_of, rows_of, Holds, HasTable, Finds, Reads}
+use Rattle.osc_store.specs.{key_of, row_of, rows_of, Holds, HasTable}
+use Rattle.osc_store.specs.Inner.Loading.{Reads}
+use Rattle.osc_store.specs.Inner.Writing.{Finds}
 use Rattle.osc_store.proofs.RowLemmas.{rows_put, row_inserted, row_removed, removed_already, written_over, found_at, other_at, none_at}
 
 pub clean_before : (a b : View) → doubt a.is_clean ≤ doubt b.is_clean → IsClean b → IsClean a

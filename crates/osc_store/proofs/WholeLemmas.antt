@@ -16,7 +16,8 @@ use Rattle.sqlite_store.specs.Saved.{kept_schema}
 use Rattle.sqlite_store.specs.declared.store.FileStore.{FileStore}
 use Rattle.osc_model.specs.Tree.{Tree}
 use Rattle.sqlite_trees.specs.Tree.{Trees}
-use Rattle.osc_store.specs.Keeping.{IsReady, KeepsList}
+use Rattle.osc_store.specs.Inner.Writing.{KeepsList}
+use Rattle.osc_store.specs.Keeping.{IsReady}
 use Rattle.osc_store.specs.{Holds, IsWhole, Keeps, ListsTable, MayHold, MayLeave, ReadsAs}
 
 -- where the log has no frame, the database file alone is found as the tree that is committed

@@ -9,7 +9,7 @@ use Rattle.osc_model.specs.Tree.{Tree}
 use Rattle.osc_store.specs.{Holds, IsNamedBy, Keeps, WhyNotKept, Writes, told}
 use Rattle.osc_store.specs.declared.error.KeepError.{KeepError}
 use Rattle.osc_store.specs.declared.error.KeepError.TheVariants as keeping
-use Rattle.osc_store.specs.Keeping.{KeepsList}
+use Rattle.osc_store.specs.Inner.Writing.{KeepsList}
 
 module _ {S : Type 0} (v : S → View) (recovers : S → Trees → Type 0) (old new : S) (pending : Bool) (kept written : Tree) (writes : Writes v recovers old pending kept written) where
   -- one more change

@@ -1,34 +1,17 @@
 -- A store that keeps a tree.
-use Rattle.std.specs.Prelude.{◌≡◌, ◌⊎◌, ◌≤◌, false, true, Bool, IsTrue, ℕ, List, Some, None}
+use Rattle.std.specs.Prelude.{◌≡◌, ◌⊎◌, false, Bool, IsTrue}
 use Rattle.std.proofs.Common.{inl, inr, refl}
-use Rattle.std.specs.FinMap as finmap
 use Rattle.sqlite_value.specs.Keys.{plain}
-use Rattle.sqlite_value.specs.Order.{Row}
 use Rattle.sqlite_trees.specs.Tree.{Trees}
-use Rattle.sqlite_trees.specs.Objects.{catalog_tree}
-use Rattle.sqlite_trees.specs.View.{View, doubt}
+use Rattle.sqlite_trees.specs.View.{View}
 use Rattle.sqlite_trees.specs.declared.store.Shape.TheVariants.{Index}
 use Rattle.osc_model.specs.Tree.{Tree}
-use Rattle.osc_model.specs.declared.resource.Resource.{Resource}
-use Rattle.osc_store.specs.Rows.{Holds, row_of}
+use Rattle.osc_store.specs.Rows.{Holds}
 use Rattle.osc_store.specs.Starting.{ListsTable}
 
 -- the first tree is the table, of which no column is REAL
 abbrev pub HasTable : View → Type 0
 HasTable v = (v.shape 0 ≡ Index plain) × (v.reals 0 ≡ 0)
-
--- sqlite_schema is the same
-abbrev pub KeepsList : View → View → Type 0
-KeepsList old new = new.trees catalog_tree ≡ old.trees catalog_tree
-
--- only the cursors differ
-abbrev pub IsSame : View → View → Type 0
-IsSame old new = new ≡ record old { cursors = new.cursors }
-
--- what the path has is this row, or it has nothing
-abbrev pub Finds : Tree → List ℕ → Row → Bool → Type 0
-Finds tree path row true = (resource : Resource) × (finmap.get tree path ≡ Some resource) × (row ≡ row_of (path, resource))
-Finds tree path row false = finmap.get tree path ≡ None
 
 -- the store is open on its table, nothing failed, and tree t is the object of rowid t + 1 in sqlite_schema
 pub record IsReady (v : View) : Type 0 where
@@ -126,9 +109,3 @@ module _ {S : Type 0} (view : S → View) (recovers : S → Trees → Type 0) wh
     numbered = may.numbered;
     left = λ db there. let held = may.left db there in (held.0, once held.1);
   }
-
-  -- no wrong answer of the disk is forgotten, nor a failure, and a crash leaves nothing new
-  pub record AddsNone (faults : S → ℕ) (old new : S) : Type 0 where
-    pub clean : doubt (view old).is_clean ≤ doubt (view new).is_clean
-    pub counts : faults old ≤ faults new
-    pub outcomes : (db : Trees) → recovers new db → recovers old db

@@ -6,7 +6,8 @@ ghost use Rattle.sqlite_trees.specs.View.{IsClean, doubt, KeepsSchema, OnlyWrite
 ghost use Rattle.osc_model.specs.Tree.{Tree as AnyTree};
 ghost use Rattle.osc_store.specs.Causes.{Excuses, IsNamedBy, IsTooLong, WhyNotKept};
 ghost use Rattle.osc_store.specs.Rows.{Holds, changed};
-ghost use Rattle.osc_store.specs.Keeping.{AddsNone, Finds, HasTable, IsSame, Keeps, KeepsList, MayHold, Writes};
+ghost use Rattle.osc_store.specs.Inner.Writing.{AddsNone, Finds, IsSame, KeepsList};
+ghost use Rattle.osc_store.specs.Keeping.{HasTable, Keeps, MayHold, Writes};
 
 use crate::error::{KeepError, told};
 use crate::rows::{is_at, write_key, write_row};

@@ -6,8 +6,9 @@ ghost use Rattle.sqlite_trees.specs.View.{IsClean, KeepsSchema};
 ghost use Rattle.osc_model.specs.{most_resources};
 ghost use Rattle.osc_store.specs.Causes.{Excuses};
 ghost use Rattle.osc_store.specs.Rows.{Holds};
-ghost use Rattle.osc_store.specs.Keeping.{AddsNone, HasTable, IsReady, IsSame, Keeps};
-ghost use Rattle.osc_store.specs.Loading.{HoldsSome, IsForeign, Reads, Took};
+ghost use Rattle.osc_store.specs.Inner.Loading.{HoldsSome, IsForeign, Reads, Took};
+ghost use Rattle.osc_store.specs.Inner.Writing.{AddsNone, IsSame};
+ghost use Rattle.osc_store.specs.Keeping.{HasTable, IsReady, Keeps};
 ghost use Rattle.osc_store.specs.Opening.{Fails};
 ghost use Rattle.osc_store.specs.Starting.{ListsTable};
 

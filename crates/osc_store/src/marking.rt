@@ -7,7 +7,8 @@ ghost use Rattle.sqlite_store.specs.FileStore.{blamed, faults, recovers, view, H
 ghost use Rattle.osc_model.specs.Tree.{Tree as AnyTree};
 ghost use Rattle.osc_store.specs.Causes.{Excuses, IsNamedBy, WhyNotKept};
 ghost use Rattle.osc_store.specs.Rows.{Holds};
-ghost use Rattle.osc_store.specs.Keeping.{AddsNone, Keeps, KeepsList, MayHold, MayLeave, Writes};
+ghost use Rattle.osc_store.specs.Inner.Writing.{AddsNone, KeepsList};
+ghost use Rattle.osc_store.specs.Keeping.{Keeps, MayHold, MayLeave, Writes};
 ghost use Rattle.osc_store.specs.Starting.{IsWhole};
 
 use crate::error::{KeepError, told};

@@ -10,9 +10,9 @@ pub mod Behind
 pub mod ClockAndRandom
 pub mod Kept
 pub mod Running
-pub mod Making
 pub mod Unsent
 pub mod Runs
+pub mod Inner
 pub use ClockAndRandom.{ClockAndRandomState, Gives, IsDrawn, IsOfSeed, IsSeeded, Reads, Starts}
 pub use Pace.{CameIn, IsRefusedIn, busy_after, must_tick}
 pub use Ports.{CountsFault, Received, came_for, cause_of, grown, received_in}

@@ -11,7 +11,7 @@ use Rattle.osc_model.specs.declared.step.Step.{Step}
 use Rattle.osc_run.specs.{Cause}
 use Rattle.osc_turn.specs.{BatchState, CameIn, Draws, HasLost, IsRefusedIn, Made, MakesMore, MakesTurn, Received, any_changed, busy_after, came_for, cause_of, gave_in, grown, received_in, stepped_of, ticks_at}
 use Rattle.osc_turn.specs.Kept.{path_changed_by}
-use Rattle.osc_turn.specs.Making.{HasEnded, HasMade, HasTaken, Loses, MakesFirst, MakesNext, NextFails}
+use Rattle.osc_turn.specs.Inner.Making.{HasEnded, HasMade, HasTaken, Loses, MakesFirst, MakesNext, NextFails}
 use Rattle.osc_turn.specs.Running.{Running}
 use Rattle.osc_turn.specs.Turns.{HasFailed}
 use Rattle.osc_turn.specs.declared.error.TurnError.{TurnError}

@@ -8,7 +8,7 @@ use Rattle.osc_model.specs.declared.step.Datagram.{Datagram}
 use Rattle.osc_model.specs.declared.step.Step.{Step}
 use Rattle.osc_run.specs.{Cause}
 use Rattle.osc_turn.specs.{BatchState, Begins, CountsFault, DoesTurn, DropsTurn, EndsBy, FailsTurn, IfFailed, IfLost, Made, MissesTurn, Received, at_port, cause_of, grown, sent_by, stepped_of}
-use Rattle.osc_turn.specs.Making.{FirstFails, HasEnded, HasMade, HasTaken, MakesFirst}
+use Rattle.osc_turn.specs.Inner.Making.{FirstFails, HasEnded, HasMade, HasTaken, MakesFirst}
 use Rattle.osc_turn.specs.Running.{Running}
 use Rattle.osc_turn.specs.declared.error.TurnError.{TurnError}
 use Rattle.osc_turn.specs.declared.error.TurnError.TheVariants.{Port, Memory}

@@ -1,6 +1,6 @@
 //! The steps of a turn, one after another.
 ghost use Rattle.std.specs.Prelude.{◌≡◌, IfErr, IfNone, IfOk, IfSome, OnOk};
-ghost use Rattle.osc_turn.specs.Making.{FirstFails, MakesFirst, MakesNext, NextFails};
+ghost use Rattle.osc_turn.specs.Inner.Making.{FirstFails, MakesFirst, MakesNext, NextFails};
 ghost use Rattle.osc_turn.specs.Running.{running};
 
 use crate::clock_and_random::ClockAndRandom;

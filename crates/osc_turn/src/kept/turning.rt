@@ -8,7 +8,7 @@ ghost use Rattle.osc_store.specs.Causes.{WhyNotKept};
 ghost use Rattle.osc_turn.specs.{CountsFault, Received, grown};
 ghost use Rattle.osc_turn.specs.Kept.Changes.{path_changed_by};
 ghost use Rattle.osc_turn.specs.Kept.Turns.{Stands};
-ghost use Rattle.osc_turn.specs.Making.{HasEnded, HasMade, HasTaken};
+ghost use Rattle.osc_turn.specs.Inner.Making.{HasEnded, HasMade, HasTaken};
 ghost use Rattle.osc_turn.specs.Running.{DoesTurn, DropsTurn, FailsTurn, MissesTurn, Running as AnyRunning, any_changed, at_port, most_steps, running};
 ghost use Rattle.osc_turn.specs.declared.turning.Stepped.{Stepped as AnyStepped};
 ghost use Rattle.osc_turn.specs.Unsent.{IfFailed, IfLost, IfNoMoment, IfNotKept};

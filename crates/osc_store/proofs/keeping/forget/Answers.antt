@@ -1,6 +1,6 @@
 use Rattle.std.proofs.Common.{subst}
 use Rattle.std.proofs.lemmas.Result.{on_ok_weaker}
-use Rattle.osc_store.specs.{Finds}
+use Rattle.osc_store.specs.Inner.Writing.{Finds}
 use Rattle.osc_store.proofs.ViewLemmas.{clean_before, row_forgotten, row_missed}
 use Rattle.osc_store.proofs.keeping.forget.Goals as goal
 

@@ -1,6 +1,6 @@
 use Rattle.std.proofs.Common.{ap, ◌∙◌}
 use Rattle.sqlite_trees.specs.Tree.{Trees}
-use Rattle.osc_store.specs.{IsForeign}
+use Rattle.osc_store.specs.Inner.Loading.{IsForeign}
 use Rattle.osc_store.proofs.ViewLemmas.{clean_before}
 use Rattle.osc_store.proofs.loading.adopt.Goals as goal
 

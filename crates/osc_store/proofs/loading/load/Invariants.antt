@@ -4,7 +4,8 @@ use Rattle.std.specs.FinMap as map
 use Rattle.std.specs.Option.{IsSome}
 use Rattle.sqlite_trees.specs.View.{IsClean, KeepsSchema}
 use Rattle.osc_model.specs.{most_resources}
-use Rattle.osc_store.specs.{AddsNone, IsSame, Reads}
+use Rattle.osc_store.specs.Inner.Loading.{Reads}
+use Rattle.osc_store.specs.Inner.Writing.{AddsNone, IsSame}
 use Rattle.osc_store.proofs.loading.load.Given as goal
 
 abbrev pub invariant-rows : goal.invariant-rows

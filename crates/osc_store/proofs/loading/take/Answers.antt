@@ -2,7 +2,8 @@ use Rattle.std.proofs.Common.{◌≡◌, ◌≤◌, ◌<◌, length, true, None,
 use Rattle.std.specs.FinMap as finmap
 use Rattle.sqlite_trees.specs.View.{Advances}
 use Rattle.osc_model.specs.declared.resource.Resource.{Resource}
-use Rattle.osc_store.specs.{row_of, Reads}
+use Rattle.osc_store.specs.{row_of}
+use Rattle.osc_store.specs.Inner.Loading.{Reads}
 use Rattle.osc_model.specs.{payload_length}
 use Rattle.osc_store.proofs.ViewLemmas.{row_taken}
 use Rattle.osc_store.proofs.LoadLemmas.{row_ahead, one_entry, one_more}

@@ -2,7 +2,7 @@ use Rattle.std.proofs.Common.{◌≤◌, arith, rules, subst, sym}
 use Rattle.sqlite_disk.specs.Disk.{MoreFaults}
 use Rattle.osc_store.specs.Causes.{WhyNotKept}
 use Rattle.osc_turn.specs.{running}
-use Rattle.osc_turn.specs.Making.{HasMade}
+use Rattle.osc_turn.specs.Inner.Making.{HasMade}
 use Rattle.osc_turn.proofs.kept.CauseLemmas.{if_err_map, why_since}
 use Rattle.osc_turn.proofs.kept.MakingLemmas.{on_err, taken_whole}
 use Rattle.osc_turn.proofs.kept.turning.keep_steps.Goals as goal

@@ -2,7 +2,7 @@ use Rattle.std.proofs.Common.{◌≡◌, ◌∙◌, ◌+◌, ◌++◌, ◌∷◌
 use Rattle.std.proofs.lemmas.Grind.{common_steps}
 use Rattle.osc_turn.specs.declared.turning.Stepped.{Stepped}
 use Rattle.osc_turn.specs.{BatchState, Received, any_changed, running}
-use Rattle.osc_turn.specs.Making.{HasMade, MakesNext}
+use Rattle.osc_turn.specs.Inner.Making.{HasMade, MakesNext}
 use Rattle.osc_turn.specs.Running.{Running}
 use Rattle.osc_turn.proofs.kept.MakingLemmas.{any_more, ended_by, ended_whole, fails_at, made_more, next_at, none_in, on_err, some_in, step_made, taken_whole}
 use Rattle.osc_turn.proofs.kept.turning.more_steps.Goals as goal

@@ -1,6 +1,6 @@
 use Rattle.std.proofs.Common.{◌≡◌, ◌≤◌, false, List, Option, length}
 use Rattle.osc_turn.specs.{Received, any_changed, running}
-use Rattle.osc_turn.specs.Making.{HasMade}
+use Rattle.osc_turn.specs.Inner.Making.{HasMade}
 use Rattle.osc_turn.specs.Running.{Running}
 use Rattle.osc_turn.proofs.kept.turning.more_steps.Given as goal
 
