@@ -1,12 +1,12 @@
 #!/usr/bin/env python3
-"""Stands between an OSCORE client and its server, and opens what goes by. The ciphers are those of Python's `cryptography`; the rest is written from the
+"""Passes on what an OSCORE client and its server send, and opens it. The ciphers are those of Python's `cryptography`; the rest is written from the
 RFCs alone: CoAP (RFC 7252), OSCORE (RFC 8613), and the exchange at authz-info (RFC 9203). It knows the token's secret and algorithm, and reads all else
 of the context off the wire: both nonces, and both ids.
 
     unprotect.py SECRET ALGORITHM LISTEN_PORT SERVER_PORT
 
 It passes datagrams on between one client and the server until nothing came for two seconds, and then prints a line for each: who sent it, its code,
-and for a protected message the code, the request's Partial IV and the plaintext, each in hexadecimal. A line behind them has the context: both ids and the
+and for a protected message the code, the request's Partial IV and the plaintext, each in hexadecimal. A line after them has the context: both ids and the
 master salt."""
 import pathlib
 import select
