@@ -38,7 +38,7 @@ class Front:
     def answer(self, datagram):
         """The answer to a post, which is made once for all its repeats."""
         if datagram not in self.answers:
-            asked, nonce, own_id = loads(Message(datagram).payload), os.urandom(8), bytes([128 + len(self.answers)])
+            asked, nonce, own_id = loads(Message(datagram).payload), os.urandom(8), bytes([128 + len(self.answers) % 128])
             self.start(self.context(asked, nonce, own_id))
             head = bytes([0x60 | datagram[0] & 15, CREATED]) + datagram[2 : 4 + (datagram[0] & 15)]
             self.answers[datagram] = head + option(CONTENT_FORMAT, b"\x13") + b"\xff" + dumps({NONCE2: nonce, SERVER_ID: own_id})
