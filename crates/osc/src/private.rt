@@ -40,7 +40,12 @@ impl Place {
     }
 
     /// Makes the file beside it, which its owner alone can read and write. What an earlier try left there is removed first.
+    ///
+    /// # Errors
+    ///
+    /// `AlreadyExists` where something has its name that is no file and no folder, as a device or a link: that isn't replaced.
     pub fn create(&self, rt: &HostRuntime) -> io::Result<File> {
+        may_replace(rt, self.name.as_str())?;
         let _left = fs::remove_file(rt, self.new.as_str());
         OpenOptions::new()
             .write(true)
@@ -61,6 +66,16 @@ impl Place {
     /// Removes it.
     pub fn forget(&self, rt: &HostRuntime) {
         let _removed = fs::remove_file(rt, self.new.as_str());
+    }
+}
+
+// Whether what has this name may be replaced by a file, if anything does. (A folder is refused by the system.)
+fn may_replace(rt: &HostRuntime, name: &str) -> io::Result<()> {
+    match fs::symlink_metadata(rt, name) {
+        Ok(there) if there.is_file() || there.is_dir() => Ok(()),
+        Ok(_) => Err(io::Error::from(ErrorKind::AlreadyExists)),
+        Err(error) if error.kind() == ErrorKind::NotFound => Ok(()),
+        Err(error) => Err(error),
     }
 }
 
