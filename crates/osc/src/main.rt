@@ -440,7 +440,7 @@ fn asked(words: &RequestsWords, requests: Vec<Option<Request>>) -> Asked {
     Asked {
         requests,
         manner: Manner {
-            turns: words.turns,
+            patience: words.patience,
             pause: words.every.unwrap_or(0).saturating_mul(1000),
             again: words.again,
         },

@@ -16,7 +16,9 @@ use Rattle.osc_client.specs.{Exchanges as Begins, IsStep, core}
 use Rattle.osc_client.specs.State.{State as Client}
 use Rattle.osc_simulation.specs.{is_sealing}
 use Rattle.osc_turn.specs.Running.{Running}
+use Rattle.osc_words.specs.declared.times.Patience.{Patience}
 use Rattle.osc_programs.specs.{Passed, Upshot, Waits}
+use Rattle.osc_programs.specs.Conversation.{end_of}
 use Rattle.osc_programs.specs.Context.{CannotAgree, CannotTurn, EndsContext, Exchanges, HasUnused}
 use Rattle.osc_programs.specs.declared.asking.AskEnd.{AskEnd}
 use Rattle.osc_programs.specs.declared.asking.AskEnd.TheVariants.{Told, Open}
@@ -62,17 +64,17 @@ same_held : (held : Option ClientContextState) (a b : ClientContextState) → he
 same_held held a b e f = cc
 
 -- by turns, at first or later
-waited : (left : ℕ) (learnt : Option ClientResult) (old : Running Client) (upshot : Upshot) (rest : ℕ) (new : Running Client) → Waits left learnt old upshot rest new
+waited : (until left : ℕ) (learnt : Option ClientResult) (old : Running Client) (upshot : Upshot) (rest : ℕ) (new : Running Client) → Waits until left learnt old upshot rest new
     → (learnt ≡ Some result.Made → Unused old.node.context) → upshot.outcome ≡ Told result.Made → Unused new.node.context
-waited left learnt old upshot rest new (Waits.told n client told) before e = before (ap last_told e)
-waited left learnt old upshot rest new (Waits.still client) before e = absurd cc
-waited left learnt old upshot rest new (Waits.turns n m first next last received step more turn waits) before e =
-    waited n step.notes.result next more m last waits (made_by_step first.node next.node _ step turn.steps) e
+waited until left learnt old upshot rest new (Waits.told n client told) before e = before (ap last_told e)
+waited until left learnt old upshot rest new (Waits.still n client over) before e = absurd cc
+waited until left learnt old upshot rest new (Waits.turns n m first next last received step more early turn waits) before e =
+    waited until n step.notes.result next more m last waits (made_by_step first.node next.node _ step turn.steps) e
 
-pub exchange_made : (turns : ℕ) (old : Running Client) (upshot : Upshot) (new : Running Client) → Exchanges turns old upshot new → upshot.outcome ≡ Told result.Made
+pub exchange_made : (patience : Patience) (old : Running Client) (upshot : Upshot) (new : Running Client) → Exchanges patience old upshot new → upshot.outcome ≡ Told result.Made
     → (context : ClientContextState) × HasUnused new.node context
-exchange_made turns old upshot new it e =
-    let found = waited turns it.step.notes.result it.begun it.waited it.left new it.waits
+exchange_made patience old upshot new it e =
+    let found = waited (end_of patience it.begun) patience.turns it.step.notes.result it.begun it.waited it.left new it.waits
     (λ told. absurd (posts_none old.node it.posts.now it.posts.draw it.step it.begun.node it.posts.posts.exchanges told))
     (sym (ap (λ (u : Upshot). u.outcome) it.is) ∙ e) in
     (found.0, record { held = found.1; unused = found.2 })
@@ -84,9 +86,9 @@ one_unused client context other it held =
     record { held = held; unused = ap (λ (c : ClientContextState). c.next) (sym same) ∙ it.unused }
 
 -- the outcome, under another name
-pub exchanged_as : (turns : ℕ) (old : Running Client) (passed : Passed) (outcome other : AskEnd) (new : Running Client) → outcome ≡ other
-    → Exchanges turns old (record { passed = passed; outcome = outcome }) new → Exchanges turns old (record { passed = passed; outcome = other }) new
-exchanged_as turns old passed outcome other new e it = subst (λ (o : AskEnd). Exchanges turns old (record { passed = passed; outcome = o }) new) e it
+pub exchanged_as : (patience : Patience) (old : Running Client) (passed : Passed) (outcome other : AskEnd) (new : Running Client) → outcome ≡ other
+    → Exchanges patience old (record { passed = passed; outcome = outcome }) new → Exchanges patience old (record { passed = passed; outcome = other }) new
+exchanged_as patience old passed outcome other new e it = subst (λ (o : AskEnd). Exchanges patience old (record { passed = passed; outcome = o }) new) e it
 
 pub holds_context : (client : Client) (context : ClientContextState) → HasUnused client context → IsSome client.context
 holds_context client context it = subst IsSome (sym it.held) refl

@@ -13,7 +13,8 @@ use Rattle.osc_words.specs.declared.context_words.ContextForm.{ContextForm}
 use Rattle.osc_words.specs.declared.context_words.ContextForm.TheVariants.{Libcoap, Aiocoap, Json}
 use Rattle.osc_turn.specs.{ClockAndRandomState, IsSeeded}
 use Rattle.osc_turn.specs.Running.{Running}
-use Rattle.osc_programs.specs.Conversation.{Posts, Upshot, Waits, after_passing, sent_alone}
+use Rattle.osc_words.specs.declared.times.Patience.{Patience}
+use Rattle.osc_programs.specs.Conversation.{Posts, Upshot, Waits, after_passing, end_of, sent_alone}
 use Rattle.osc_programs.specs.Ended.{IsFault, NoSettings}
 use Rattle.osc_programs.specs.System.{Passed}
 use Rattle.osc_programs.specs.declared.asking.AskEnd.TheVariants.{Told}
@@ -22,23 +23,23 @@ use Rattle.osc_programs.specs.declared.ended.Ended.TheVariants.{Done, NotDone}
 
 -- ---- the exchange
 
--- In this number of turns it posts its token, and waits.
-pub record Exchanges (turns : ℕ) (old : Running Client) (upshot : Upshot) (new : Running Client) : Type 0 where
+-- With this patience it posts its token, and waits. Its time runs from the post on.
+pub record Exchanges (patience : Patience) (old : Running Client) (upshot : Upshot) (new : Running Client) : Type 0 where
   pub step : Step
   pub begun : Running Client
   pub posts : Posts old step begun
   pub waited : Upshot
   pub left : ℕ
-  pub waits : Waits turns step.notes.result begun waited left new
+  pub waits : Waits (end_of patience begun) patience.turns step.notes.result begun waited left new
   pub is : upshot ≡ after_passing (sent_alone step) waited
 
 -- the same from the start on, and its last result is that it has a context
-pub record Agrees (turns : ℕ) (old new : Client) : Type 0 where
+pub record Agrees (patience : Patience) (old new : Client) : Type 0 where
   pub start : ClockAndRandomState
   pub seeded : IsSeeded start
   pub passed : Passed
   pub last : Running Client
-  pub exchanges : Exchanges turns (record { node = old; busy = None; supply = start }) (record { passed = passed; outcome = Told Made }) last
+  pub exchanges : Exchanges patience (record { node = old; busy = None; supply = start }) (record { passed = passed; outcome = Told Made }) last
   pub ends : new ≡ last.node
 
 -- the client has this context, under which nothing was sealed yet: it takes number 0 next

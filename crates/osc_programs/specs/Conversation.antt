@@ -1,5 +1,5 @@
 -- What `osc client` does: it posts its token, and where that makes a security context it sends its request.
-use Rattle.std.specs.Prelude.{◌≡◌, ◌++◌, ◌/◌, ◌==◌, ℕ, suc, Bool, true, false, List, [], Option, Some, None, codes, if◌then◌else◌, option_map}
+use Rattle.std.specs.Prelude.{◌≡◌, ◌≤◌, ◌<◌, ◌⊎◌, ◌+◌, ◌-◌, ◌^◌, ◌++◌, ◌/◌, ◌==◌, min, ℕ, suc, Bool, true, false, List, [], Option, Some, None, codes, if◌then◌else◌, option_map}
 use Rattle.osc_model.specs.declared.node.Draw.{Draw}
 use Rattle.osc_model.specs.declared.node.Moment.{Moment}
 use Rattle.osc_model.specs.declared.request.Request.{Request}
@@ -10,10 +10,12 @@ use Rattle.osc_message.specs.{fresh}
 use Rattle.osc_client.specs.{Begins, Requests as Asks, acts_at, IsStep, HostAndPort}
 use Rattle.osc_client.specs.State.{State as Client}
 use Rattle.osc_words.specs.declared.settings.client.ClientSettings.{ClientSettings}
+use Rattle.osc_words.specs.declared.times.Patience.{Patience}
 use Rattle.osc_simulation.specs.{learnt_text, is_sealing, tag_of, line}
 use Rattle.osc_turn.specs.{ClockAndRandomState, Gives, IsSeeded, Received}
 use Rattle.osc_programs.specs.System.{Passed, nothing_passed, then_passed}
 use Rattle.osc_turn.specs.Running.{Running}
+use Rattle.osc_turn.specs.Time.{ms_of}
 use Rattle.osc_programs.specs.Turning.{TakesTurn}
 use Rattle.osc_programs.specs.declared.asking.AskEnd.{AskEnd}
 use Rattle.osc_programs.specs.declared.asking.AskEnd.TheVariants.{Told, Open}
@@ -57,54 +59,66 @@ sent_alone step = record { received = []; sent = step.out }
 abbrev pub at_once : AskEnd → Upshot
 at_once outcome = record { passed = nothing_passed; outcome = outcome }
 
+-- the time of the last reading of its clocks, in milliseconds
+abbrev pub time_of : Running Client → ℕ
+time_of client = ms_of client.supply.time
+
+-- the time from which on it begins no further turn, where it began to wait so
+abbrev pub end_of : Patience → Running Client → ℕ
+end_of patience begun = min (time_of begun + patience.millis) (2 ^ 64 - 1)
+
+-- it begins no further turn: none is left, or its time is up
+abbrev pub IsOver : ℕ → ℕ → Running Client → Type 0
+IsOver until left client = (left ≡ 0) ⊎ (until ≤ time_of client)
+
 -- With this number of turns left it takes turns until it has learnt something, if it hasn't yet: the outcome, and how many turns are left
--- then. It is `Open` where it still waits and no turn is left, and only there.
-pub data Waits : ℕ → Option ClientResult → Running Client → Upshot → ℕ → Running Client → Type 0 where
-  told : (left : ℕ) (client : Running Client) (result : ClientResult) → Waits left (Some result) client (at_once (Told result)) left client
-  still : (client : Running Client) → Waits 0 None client (at_once Open) 0 client
+-- then. Each turn is begun before this time. It is `Open` where it still waits and may begin no further turn, and only there.
+pub data Waits (until : ℕ) : ℕ → Option ClientResult → Running Client → Upshot → ℕ → Running Client → Type 0 where
+  told : (left : ℕ) (client : Running Client) (result : ClientResult) → Waits until left (Some result) client (at_once (Told result)) left client
+  still : (left : ℕ) (client : Running Client) → IsOver until left client → Waits until left None client (at_once Open) left client
   turns : (left rest : ℕ) (old next new : Running Client) (received : List (Option Received)) (step : Step) (upshot : Upshot)
-      → TakesTurn acts_at (IsStep is_sealing) old received step next → Waits left step.notes.result next upshot rest new
-      → Waits (suc left) None old (after_passing (record { received = received; sent = step.out }) upshot) rest new
+      → time_of old < until → TakesTurn acts_at (IsStep is_sealing) old received step next → Waits until left step.notes.result next upshot rest new
+      → Waits until (suc left) None old (after_passing (record { received = received; sent = step.out }) upshot) rest new
 
 -- It sends its request, and what it learns of that is last.
-pub record Requests (left : ℕ) (request : Request) (old : Running Client) (upshot : Upshot) (new : Running Client) : Type 0 where
+pub record Requests (until left : ℕ) (request : Request) (old : Running Client) (upshot : Upshot) (new : Running Client) : Type 0 where
   pub step : Step
   pub begun : Running Client
   pub sends : Sends request old step begun
   pub waited : Upshot
   pub rest : ℕ
-  pub waits : Waits left step.notes.result begun waited rest new
+  pub waits : Waits until left step.notes.result begun waited rest new
   pub is : upshot ≡ after_passing (sent_alone step) waited
 
 -- By what it learnt of its post: a context lets it send its request.
-abbrev pub GoesOnBy : ℕ → Request → ClientResult → Running Client → Upshot → Running Client → Type 0
-GoesOnBy left request Made old upshot new = Requests left request old upshot new
-GoesOnBy left request result old upshot new = (upshot ≡ at_once (Told result)) × (new ≡ old)
+abbrev pub GoesOnBy : ℕ → ℕ → Request → ClientResult → Running Client → Upshot → Running Client → Type 0
+GoesOnBy until left request Made old upshot new = Requests until left request old upshot new
+GoesOnBy until left request result old upshot new = (upshot ≡ at_once (Told result)) × (new ≡ old)
 
-abbrev pub GoesOn : ℕ → Request → AskEnd → Running Client → Upshot → Running Client → Type 0
-GoesOn left request (Told result) old upshot new = GoesOnBy left request result old upshot new
-GoesOn left request Open old upshot new = (upshot ≡ at_once Open) × (new ≡ old)
+abbrev pub GoesOn : ℕ → ℕ → Request → AskEnd → Running Client → Upshot → Running Client → Type 0
+GoesOn until left request (Told result) old upshot new = GoesOnBy until left request result old upshot new
+GoesOn until left request Open old upshot new = (upshot ≡ at_once Open) × (new ≡ old)
 
--- In this number of turns it posts its token, waits, and goes on by what it learnt.
-pub record Converses (turns : ℕ) (request : Request) (old : Running Client) (upshot : Upshot) (new : Running Client) : Type 0 where
+-- With this patience it posts its token, waits, and goes on by what it learnt. Its time runs from the post on.
+pub record Converses (patience : Patience) (request : Request) (old : Running Client) (upshot : Upshot) (new : Running Client) : Type 0 where
   pub step : Step
   pub begun : Running Client
   pub posts : Posts old step begun
   pub exchanged : Upshot
   pub left : ℕ
   pub between : Running Client
-  pub waits : Waits turns step.notes.result begun exchanged left between
+  pub waits : Waits (end_of patience begun) patience.turns step.notes.result begun exchanged left between
   pub further : Upshot
-  pub goes_on : GoesOn left request exchanged.outcome between further new
+  pub goes_on : GoesOn (end_of patience begun) left request exchanged.outcome between further new
   pub is : upshot ≡ after_passing (sent_alone step) (after_passing exchanged.passed further)
 
 -- the same from the start on
-pub record Talks (turns : ℕ) (request : Request) (old : Client) (outcome : AskEnd) (new : Client) : Type 0 where
+pub record Talks (patience : Patience) (request : Request) (old : Client) (outcome : AskEnd) (new : Client) : Type 0 where
   pub start : ClockAndRandomState
   pub seeded : IsSeeded start
   pub passed : Passed
   pub last : Running Client
-  pub talks : Converses turns request (record { node = old; busy = None; supply = start }) (record { passed = passed; outcome = outcome }) last
+  pub talks : Converses patience request (record { node = old; busy = None; supply = start }) (record { passed = passed; outcome = outcome }) last
   pub ends : new ≡ last.node
 
 -- ---- the client at first, and what is told at last

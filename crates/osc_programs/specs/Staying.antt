@@ -12,7 +12,8 @@ use Rattle.osc_client.specs.State.{State as Client}
 use Rattle.osc_simulation.specs.{is_sealing, learnt_text}
 use Rattle.osc_turn.specs.{ClockAndRandomState, Gives, Received}
 use Rattle.osc_turn.specs.Running.{Running}
-use Rattle.osc_programs.specs.Conversation.{Posts, Requests, Waits, outcome_text, sent_alone}
+use Rattle.osc_words.specs.declared.times.Patience.{Patience}
+use Rattle.osc_programs.specs.Conversation.{Posts, Requests, Waits, end_of, outcome_text, sent_alone}
 use Rattle.osc_programs.specs.System.{Passed, nothing_passed, then_passed}
 use Rattle.osc_programs.specs.Turning.{TakesTurn}
 use Rattle.osc_programs.specs.declared.asking.AskEnd.{AskEnd}
@@ -26,20 +27,22 @@ use Rattle.osc_programs.specs.declared.requests.Manner.{Manner}
 
 -- ---- one request
 
--- With this number of turns it sends the request, once: it goes out, or is refused at once, and then nothing is sent.
-pub record Once (turns : ℕ) (request : Request) (old : Running Client) (end : LineEnd) (passed : Passed) (new : Running Client) : Type 0 where
-  pub asks : Requests turns request old (record { passed = passed; outcome = end.outcome }) new
+-- With this patience it sends the request, once: it goes out, or is refused at once, and then nothing is sent. Its time runs from then on.
+pub record Once (patience : Patience) (request : Request) (old : Running Client) (end : LineEnd) (passed : Passed) (new : Running Client) : Type 0 where
+  pub until : ℕ
+  pub asks : Requests until patience.turns request old (record { passed = passed; outcome = end.outcome }) new
+  pub ends : until ≡ end_of patience asks.begun
   pub about : end.about ≡ message.Request
   pub sent : end.sent ≡ not (is_some asks.step.notes.result)
 
--- it posts its token, and waits: the outcome
-pub record Renews (turns : ℕ) (old : Running Client) (outcome : AskEnd) (passed : Passed) (new : Running Client) : Type 0 where
+-- It posts its token, and waits: the outcome. Its time runs from the post on.
+pub record Renews (patience : Patience) (old : Running Client) (outcome : AskEnd) (passed : Passed) (new : Running Client) : Type 0 where
   pub step : Step
   pub begun : Running Client
   pub posts : Posts old step begun
   pub waited : Passed
   pub left : ℕ
-  pub waits : Waits turns step.notes.result begun (record { passed = waited; outcome = outcome }) left new
+  pub waits : Waits (end_of patience begun) patience.turns step.notes.result begun (record { passed = waited; outcome = outcome }) left new
   pub is : passed ≡ then_passed (sent_alone step) waited
 
 -- the post made a context
@@ -48,11 +51,11 @@ is_made (Told Made) = true
 is_made outcome = false
 
 -- It posts its token, and where that makes a context it sends the request; where it doesn't, the request isn't sent.
-pub data AsksAnew (turns : ℕ) (request : Request) (old : Running Client) : LineEnd → Passed → Running Client → Type 0 where
-  stopped : (outcome : AskEnd) (passed : Passed) (new : Running Client) → Renews turns old outcome passed new → is_made outcome ≡ false
-      → AsksAnew turns request old (record { about = message.Post; sent = false; outcome = outcome }) passed new
-  asked : (outcome : AskEnd) (first next : Passed) (between new : Running Client) (end : LineEnd) → Renews turns old outcome first between → is_made outcome ≡ true
-      → Once turns request between end next new → AsksAnew turns request old end (then_passed first next) new
+pub data AsksAfterPost (patience : Patience) (request : Request) (old : Running Client) : LineEnd → Passed → Running Client → Type 0 where
+  stopped : (outcome : AskEnd) (passed : Passed) (new : Running Client) → Renews patience old outcome passed new → is_made outcome ≡ false
+      → AsksAfterPost patience request old (record { about = message.Post; sent = false; outcome = outcome }) passed new
+  asked : (outcome : AskEnd) (first next : Passed) (between new : Running Client) (end : LineEnd) → Renews patience old outcome first between → is_made outcome ≡ true
+      → Once patience request between end next new → AsksAfterPost patience request old end (then_passed first next) new
 
 -- ---- whether it is sent again
 
@@ -83,14 +86,14 @@ abbrev pub sent_by : Bool → LineEnd → LineEnd
 sent_by first end = record end { sent = first || end.sent }
 
 -- What came of one request, of a client whose context was told to be gone or not.
-pub data Attends (again : Bool) (turns : ℕ) (request : Request) (old : Running Client) (stale : Bool) : LineEnd → Passed → Running Client → Type 0 where
-  renewed : (end : LineEnd) (passed : Passed) (new : Running Client) → stale ≡ true → AsksAnew turns request old end passed new
-      → Attends again turns request old stale end passed new
-  once : (end : LineEnd) (passed : Passed) (new : Running Client) → stale ≡ false → Once turns request old end passed new → goes_again again end ≡ false
-      → Attends again turns request old stale end passed new
-  twice : (first end : LineEnd) (before after : Passed) (between new : Running Client) → stale ≡ false → Once turns request old first before between
-      → goes_again again first ≡ true → AsksAnew turns request between end after new
-      → Attends again turns request old stale (sent_by first.sent end) (then_passed before after) new
+pub data Attends (again : Bool) (patience : Patience) (request : Request) (old : Running Client) (stale : Bool) : LineEnd → Passed → Running Client → Type 0 where
+  renewed : (end : LineEnd) (passed : Passed) (new : Running Client) → stale ≡ true → AsksAfterPost patience request old end passed new
+      → Attends again patience request old stale end passed new
+  once : (end : LineEnd) (passed : Passed) (new : Running Client) → stale ≡ false → Once patience request old end passed new → goes_again again end ≡ false
+      → Attends again patience request old stale end passed new
+  twice : (first end : LineEnd) (before after : Passed) (between new : Running Client) → stale ≡ false → Once patience request old first before between
+      → goes_again again first ≡ true → AsksAfterPost patience request between end after new
+      → Attends again patience request old stale (sent_by first.sent end) (then_passed before after) new
 
 -- ---- one after another
 
@@ -132,7 +135,7 @@ pub record Attended (manner : Manner) (request : Request) (old : Running Client)
   pub ready : Running Client
   pub pauses : Pauses due old now waited ready
   pub after : Passed
-  pub attends : Attends manner.again manner.turns request ready stale end after new
+  pub attends : Attends manner.again manner.patience request ready stale end after new
   pub all : passed ≡ then_passed waited after
   pub next : next_due ≡ min (now.ms + manner.pause) (2 ^ 64 - 1)
   pub gone : next_stale ≡ is_stale end

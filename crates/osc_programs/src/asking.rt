@@ -1,10 +1,11 @@
 //! A client that runs on a socket: one exchange, and one protected request.
-ghost use Rattle.std.specs.Prelude.{◌≡◌, ◌≢◌, ◌⊎◌, ◌+◌, ◌∷◌, [], Err, List, IfErr, IfOk, IfSome, None, Option, Some, option_map, string_bytes};
+ghost use Rattle.std.specs.Prelude.{◌≡◌, ◌≢◌, ◌⊎◌, ◌+◌, ◌-◌, ◌^◌, min, ◌∷◌, [], Err, List, IfErr, IfOk, IfSome, None, Option, Some, option_map, string_bytes};
 ghost use Rattle.std.specs.Io.KnownBytes.{Appends};
 ghost use Rattle.osc_client.specs.{acts_at, IsStep, HostAndPort};
 ghost use Rattle.osc_client.specs.State.{State as AnyClient};
 ghost use Rattle.osc_model.specs.declared.step.Step.{Step as AnyStep};
 ghost use Rattle.osc_turn.specs.{Received};
+ghost use Rattle.osc_turn.specs.Time.{ms_of};
 ghost use Rattle.osc_programs.specs.Unread.{TellsWhy};
 ghost use Rattle.osc_words.specs.Settings.{StandsFor, AreClientSettings, IsClientFault, IsKeyFault};
 ghost use Rattle.osc_words.specs.declared.settings.client.ClientSettings.{ClientSettings as AnySettings};
@@ -32,15 +33,15 @@ use osc_authz::ClientDesk;
 use osc_ccm::Suite;
 use osc_client::{Client, Origin, Route};
 use osc_log::Log;
-use osc_model::{Bytes, ClientResult, Peer, Request, Step};
+use osc_model::{Bytes, ClientResult, Moment, Peer, Request, Step};
 use osc_simulation::learnt_text;
 use osc_turn::{ClockAndRandom, Pace, Port, Seeds, Turned, Watch};
-use osc_words::{ClientSettings, ClientWords};
+use osc_words::{ClientSettings, ClientWords, Patience};
 use std::alloc::{AllocError, Global};
 use std::io::{Eprint, Read, Write};
 use std::time::Clock;
 
-/// The outcome of a program's client at last: its last result, or none where it still waited when its turns were gone.
+/// The outcome of a program's client at last: its last result, or none where it still waited when its patience was over.
 #[derive(Drop)]
 pub(crate) enum AskEnd {
     /// The last result.
@@ -49,8 +50,39 @@ pub(crate) enum AskEnd {
     Open,
 }
 
+/// What is left of a client's patience.
+#[derive(Clone, Copy, Debug, PartialEq, Eq)]
+pub(crate) struct Left {
+    /// How many turns it may still take.
+    pub turns: u64,
+    /// From which millisecond on it begins none.
+    pub until: u64,
+}
+
+impl Left {
+    /// All of it, for a client that begins to wait at this moment.
+    pub fn all(patience: Patience, now: Moment) -> Left
+        ensures turns { result.turns ≡ patience.turns }
+        ensures until { result.until ≡ min (now.ms + patience.millis) (2 ^ 64 - 1) }
+    {
+        Left {
+            turns: patience.turns,
+            until: now.ms.saturating_add(patience.millis),
+        }
+    }
+}
+
+/// What a client learnt by a step, if it did, and at which moment.
+#[derive(Drop)]
+pub(crate) struct Learnt {
+    /// The moment, which is the client's time.
+    pub at: Moment,
+    /// What it learnt.
+    pub result: Option<ClientResult>,
+}
+
 /// Runs a client with the settings that the reader gives: it posts its token, and where that makes a context it sends the request of
-/// the words, protected. The line of its last result is written, or `c1 open` where the turns are gone before. Where the words want it raw, only
+/// the words, protected. The line of its last result is written, or `c1 open` where its patience is over before. Where the words want it raw, only
 /// the payload of an answer is written, and the line of any other end goes to the standard error. Where there are no settings, the log tells
 /// why; where the port fails, a line on the standard error does.
 /// A line there also tells at once what the client doesn't understand of an answer.
@@ -64,7 +96,7 @@ pub fn ask<R: Clock + Eprint + Seeds + Sockets, I: Read, L: Log, W: Write>(
 ) -> Ended
     ensures told { (result ≡ Ended.Done) ⊎ (result ≡ Ended.NotDone) → (first last : AnyClient) × (outcome : AnyOutcome) × (settings : AnySettings)
         × IfSome (I.remaining reader.old) (λ text. StandsFor AreClientSettings text settings) × spec.IsClientOf settings first
-        × (talks : spec.Talks words.now.turns words.now.request first outcome last)
+        × (talks : spec.Talks words.now.patience words.now.request first outcome last)
         × system.RunsOn (R.gave runtime.now) (R.opened runtime.now (settings.bind ∷ []) (Some settings.peer)) R.Socket.received R.Socket.sent talks.start talks.passed
         × (result ≡ spec.ended_by_outcome outcome) × Appends (W.contents writer.old) (W.contents writer.new) (spec.printed_text words.now.raw outcome) }
     ensures bad { result ≡ Ended.BadSettings → TellsWhy (λ document. IsKeyFault (IsClientFault document)) (I.remaining reader.old) (L.told log.old) (L.told log.new) }
@@ -161,7 +193,7 @@ fn outcome_of<R: Clock + Eprint + Seeds + Sockets, I: Read, L: Log>(
 ) -> Result<AskEnd, Ended>
     ensures talks { IfOk result (λ outcome. (first last : AnyClient) × (settings : AnySettings)
         × IfSome (I.remaining reader.old) (λ text. StandsFor AreClientSettings text settings) × spec.IsClientOf settings first
-        × (talks : spec.Talks words.now.turns words.now.request first outcome last)
+        × (talks : spec.Talks words.now.patience words.now.request first outcome last)
         × system.RunsOn (R.gave runtime.now) (R.opened runtime.now (settings.bind ∷ []) (Some settings.peer)) R.Socket.received R.Socket.sent talks.start talks.passed) }
     ensures bad { IfErr result (λ ended. ended ≡ Ended.BadSettings → TellsWhy (λ document. IsKeyFault (IsClientFault document)) (I.remaining reader.old) (L.told log.old) (L.told log.new)) }
     ensures short { IfOk result (λ _. IsWithin longest_settings (I.remaining reader.old)) }
@@ -237,7 +269,7 @@ fn run_at<R: Clock + Eprint + Seeds + Sockets>(
     client: Client,
     words: &ClientWords,
 ) -> Result<AskEnd, Ended>
-    ensures talks { IfOk result (λ outcome. (last : AnyClient) × (talks : spec.Talks words.now.turns words.now.request client outcome last)
+    ensures talks { IfOk result (λ outcome. (last : AnyClient) × (talks : spec.Talks words.now.patience words.now.request client outcome last)
         × system.RunsOn (R.gave runtime.now) (R.opened runtime.now (bind ∷ []) (Some peer)) R.Socket.received R.Socket.sent talks.start talks.passed) }
     ensures ends { IfErr result (ends.CannotTalk words.now.request) }
 {
@@ -263,14 +295,14 @@ fn run<A: Aside + Drop, W: Watch + Drop, P: Port>(
     words: &ClientWords,
 ) -> Result<AskEnd, Ended>
     ensures converses { IfOk result (λ outcome. (passed : AnyPassed)
-        × spec.Converses words.now.turns words.now.request (record { node = talking.old.client; busy = talking.old.pace.busy_since; supply = talking.old.supply }) (record { passed = passed; outcome = outcome }) (record { node = talking.new.client; busy = talking.new.pace.busy_since; supply = talking.new.supply })
+        × spec.Converses words.now.patience words.now.request (record { node = talking.old.client; busy = talking.old.pace.busy_since; supply = talking.old.supply }) (record { passed = passed; outcome = outcome }) (record { node = talking.new.client; busy = talking.new.pace.busy_since; supply = talking.new.supply })
         × system.Passes P.received P.sent port.old port.new passed) }
     ensures ends { IfErr result (ends.CannotTalk words.now.request) }
 {
-    let mut turns = words.turns;
     let learnt = post(alloc, port, talking)?;
-    let exchanged = awaited(alloc, port, talking, &mut turns, learnt)?;
-    go_on(alloc, port, talking, &mut turns, words, exchanged)
+    let mut left = Left::all(words.patience, learnt.at);
+    let exchanged = awaited(alloc, port, talking, &mut left, learnt)?;
+    go_on(alloc, port, talking, &mut left, words, exchanged)
 }
 
 // The request, where the outcome of the post lets it be sent.
@@ -278,17 +310,17 @@ fn go_on<A: Aside + Drop, W: Watch + Drop, P: Port>(
     alloc: Global,
     port: &mut P,
     talking: &mut Talking<A, W>,
-    turns: &mut u64,
+    left: &mut Left,
     words: &ClientWords,
     exchanged: AskEnd,
 ) -> Result<AskEnd, Ended>
     ensures goes_on { IfOk result (λ outcome. (passed : AnyPassed)
-        × spec.GoesOn turns.old words.now.request exchanged (record { node = talking.old.client; busy = talking.old.pace.busy_since; supply = talking.old.supply }) (record { passed = passed; outcome = outcome }) (record { node = talking.new.client; busy = talking.new.pace.busy_since; supply = talking.new.supply })
+        × spec.GoesOn left.old.until left.old.turns words.now.request exchanged (record { node = talking.old.client; busy = talking.old.pace.busy_since; supply = talking.old.supply }) (record { passed = passed; outcome = outcome }) (record { node = talking.new.client; busy = talking.new.pace.busy_since; supply = talking.new.supply })
         × system.Passes P.received P.sent port.old port.new passed) }
     ensures ends { IfErr result (ends.CannotTalk words.now.request) }
 {
     match exchanged {
-        AskEnd::Told(result) => go_on_by(alloc, port, talking, turns, words, result),
+        AskEnd::Told(result) => go_on_by(alloc, port, talking, left, words, result),
         AskEnd::Open => Ok(AskEnd::Open),
     }
 }
@@ -298,17 +330,17 @@ fn go_on_by<A: Aside + Drop, W: Watch + Drop, P: Port>(
     alloc: Global,
     port: &mut P,
     talking: &mut Talking<A, W>,
-    turns: &mut u64,
+    left: &mut Left,
     words: &ClientWords,
     told: ClientResult,
 ) -> Result<AskEnd, Ended>
     ensures goes_on { IfOk result (λ outcome. (passed : AnyPassed)
-        × spec.GoesOnBy turns.old words.now.request told (record { node = talking.old.client; busy = talking.old.pace.busy_since; supply = talking.old.supply }) (record { passed = passed; outcome = outcome }) (record { node = talking.new.client; busy = talking.new.pace.busy_since; supply = talking.new.supply })
+        × spec.GoesOnBy left.old.until left.old.turns words.now.request told (record { node = talking.old.client; busy = talking.old.pace.busy_since; supply = talking.old.supply }) (record { passed = passed; outcome = outcome }) (record { node = talking.new.client; busy = talking.new.pace.busy_since; supply = talking.new.supply })
         × system.Passes P.received P.sent port.old port.new passed) }
     ensures ends { IfErr result (ends.CannotTalk words.now.request) }
 {
     match told {
-        ClientResult::Made => ask_and_wait(alloc, port, talking, turns, words),
+        ClientResult::Made => ask_and_wait(alloc, port, talking, left, words),
         other => Ok(AskEnd::Told(other)),
     }
 }
@@ -318,16 +350,16 @@ fn ask_and_wait<A: Aside + Drop, W: Watch + Drop, P: Port>(
     alloc: Global,
     port: &mut P,
     talking: &mut Talking<A, W>,
-    turns: &mut u64,
+    left: &mut Left,
     words: &ClientWords,
 ) -> Result<AskEnd, Ended>
     ensures requests { IfOk result (λ outcome. (passed : AnyPassed)
-        × spec.Requests turns.old words.now.request (record { node = talking.old.client; busy = talking.old.pace.busy_since; supply = talking.old.supply }) (record { passed = passed; outcome = outcome }) (record { node = talking.new.client; busy = talking.new.pace.busy_since; supply = talking.new.supply })
+        × spec.Requests left.old.until left.old.turns words.now.request (record { node = talking.old.client; busy = talking.old.pace.busy_since; supply = talking.old.supply }) (record { passed = passed; outcome = outcome }) (record { node = talking.new.client; busy = talking.new.pace.busy_since; supply = talking.new.supply })
         × system.Passes P.received P.sent port.old port.new passed) }
     ensures ends { IfErr result (ends.CannotTalk words.now.request) }
 {
     let learnt = send_request(alloc, port, talking, &words.request)?;
-    awaited(alloc, port, talking, turns, learnt)
+    awaited(alloc, port, talking, left, learnt)
 }
 
 // Posts the token.
@@ -335,14 +367,15 @@ pub(crate) fn post<A: Aside + Drop, W: Watch + Drop, P: Port>(
     alloc: Global,
     port: &mut P,
     talking: &mut Talking<A, W>,
-) -> Result<Option<ClientResult>, Ended>
+) -> Result<Learnt, Ended>
     ensures posts { IfOk result (λ learnt. (step : AnyStep) × spec.Posts (record { node = talking.old.client; busy = talking.old.pace.busy_since; supply = talking.old.supply }) step (record { node = talking.new.client; busy = talking.new.pace.busy_since; supply = talking.new.supply })
-        × (step.notes.result ≡ learnt) × system.Passes P.received P.sent port.old port.new (spec.sent_alone step)) }
+        × (step.notes.result ≡ learnt.result) × system.Passes P.received P.sent port.old port.new (spec.sent_alone step)) }
+    ensures at { IfOk result (λ learnt. learnt.at.ms ≡ ms_of talking.new.supply.time) }
     ensures fault { IfErr result ends.IsFault }
 {
     let (now, draw) = moment_and_draw(&mut talking.supply)?;
     match talking.client.exchange(alloc, now, &draw) {
-        Ok(step) => sent(port, step),
+        Ok(step) => sent(port, now, step),
         Err(_) => Err(Ended::OutOfMemory),
     }
 }
@@ -353,9 +386,10 @@ pub(crate) fn send_request<A: Aside + Drop, W: Watch + Drop, P: Port>(
     port: &mut P,
     talking: &mut Talking<A, W>,
     request: &Request,
-) -> Result<Option<ClientResult>, Ended>
+) -> Result<Learnt, Ended>
     ensures sends { IfOk result (λ learnt. (step : AnyStep) × spec.Sends request.now (record { node = talking.old.client; busy = talking.old.pace.busy_since; supply = talking.old.supply }) step (record { node = talking.new.client; busy = talking.new.pace.busy_since; supply = talking.new.supply })
-        × (step.notes.result ≡ learnt) × system.Passes P.received P.sent port.old port.new (spec.sent_alone step)) }
+        × (step.notes.result ≡ learnt.result) × system.Passes P.received P.sent port.old port.new (spec.sent_alone step)) }
+    ensures at { IfOk result (λ learnt. learnt.at.ms ≡ ms_of talking.new.supply.time) }
     ensures ends { IfErr result (ends.CannotTalk request.now) }
 {
     if request.code.0 == 0 {
@@ -363,20 +397,24 @@ pub(crate) fn send_request<A: Aside + Drop, W: Watch + Drop, P: Port>(
     }
     let (now, draw) = moment_and_draw(&mut talking.supply)?;
     match talking.client.ask::<Suite>(alloc, now, request, &draw) {
-        Ok(step) => sent(port, step),
+        Ok(step) => sent(port, now, step),
         Err(_) => Err(Ended::OutOfMemory),
     }
 }
 
-// Sends what the step sends: what the client learnt by it, if it did.
-fn sent<P: Port>(port: &mut P, step: Step) -> Result<Option<ClientResult>, Ended>
-    ensures learnt { IfOk result (λ learnt. learnt ≡ step.notes.result) }
+// Sends what the step of this moment sends: what the client learnt by it, if it did.
+fn sent<P: Port>(port: &mut P, now: Moment, step: Step) -> Result<Learnt, Ended>
+    ensures learnt { IfOk result (λ learnt. learnt.result ≡ step.notes.result) }
+    ensures at { IfOk result (λ learnt. learnt.at ≡ now) }
     ensures passed { IfOk result (λ _. system.Passes P.received P.sent port.old port.new (spec.sent_alone step)) }
     ensures fault { IfErr result ends.IsFault }
 {
-    let learnt = sent_by(port, &step);
+    let result = sent_by(port, &step);
     drop(step);
-    learnt
+    Ok(Learnt {
+        at: now,
+        result: result?,
+    })
 }
 
 // The same of a step that somebody else drops.
@@ -394,41 +432,53 @@ pub(crate) fn awaited<A: Aside + Drop, W: Watch + Drop, P: Port>(
     alloc: Global,
     port: &mut P,
     talking: &mut Talking<A, W>,
-    turns: &mut u64,
-    learnt: Option<ClientResult>,
+    left: &mut Left,
+    learnt: Learnt,
 ) -> Result<AskEnd, Ended>
+    requires { learnt.at.ms ≡ ms_of talking.old.supply.time }
     ensures waits { IfOk result (λ outcome. (passed : AnyPassed)
-        × spec.Waits turns.old learnt (record { node = talking.old.client; busy = talking.old.pace.busy_since; supply = talking.old.supply }) (record { passed = passed; outcome = outcome }) turns.new (record { node = talking.new.client; busy = talking.new.pace.busy_since; supply = talking.new.supply })
+        × spec.Waits left.old.until left.old.turns learnt.result (record { node = talking.old.client; busy = talking.old.pace.busy_since; supply = talking.old.supply }) (record { passed = passed; outcome = outcome }) left.new.turns (record { node = talking.new.client; busy = talking.new.pace.busy_since; supply = talking.new.supply })
         × system.Passes P.received P.sent port.old port.new passed) }
+    ensures until { left.new.until ≡ left.old.until }
     ensures fault { IfErr result ends.IsFault }
 {
-    match learnt {
+    let Learnt { at, result } = learnt;
+    match result {
         Some(result) => Ok(AskEnd::Told(result)),
-        None => wait(alloc, port, talking, turns),
+        None => wait(alloc, port, talking, left, at),
     }
 }
 
-// Turns until the client has learnt something, as long as turns are left.
+// Turns until the client, whose time this is, has learnt something, as long as turns are left and its time isn't up.
 fn wait<A: Aside + Drop, W: Watch + Drop, P: Port>(
     alloc: Global,
     port: &mut P,
     talking: &mut Talking<A, W>,
-    turns: &mut u64,
+    left: &mut Left,
+    at: Moment,
 ) -> Result<AskEnd, Ended>
+    requires { at.ms ≡ ms_of talking.old.supply.time }
     ensures waits { IfOk result (λ outcome. (passed : AnyPassed)
-        × spec.Waits turns.old None (record { node = talking.old.client; busy = talking.old.pace.busy_since; supply = talking.old.supply }) (record { passed = passed; outcome = outcome }) turns.new (record { node = talking.new.client; busy = talking.new.pace.busy_since; supply = talking.new.supply })
+        × spec.Waits left.old.until left.old.turns None (record { node = talking.old.client; busy = talking.old.pace.busy_since; supply = talking.old.supply }) (record { passed = passed; outcome = outcome }) left.new.turns (record { node = talking.new.client; busy = talking.new.pace.busy_since; supply = talking.new.supply })
         × system.Passes P.received P.sent port.old port.new passed) }
+    ensures until { left.new.until ≡ left.old.until }
     ensures fault { IfErr result ends.IsFault }
 {
-    let most = *turns;
+    let Left { turns: most, until } = *left;
+    let mut now = at;
     for taken in 0..most {
+        if until <= now.ms {
+            left.turns = most - taken;
+            return Ok(AskEnd::Open);
+        }
         let learnt = client_turn(alloc, port, talking)?;
-        if let Some(result) = learnt {
-            *turns = most - taken - 1;
+        now = learnt.at;
+        if let Some(result) = learnt.result {
+            left.turns = most - taken - 1;
             return Ok(AskEnd::Told(result));
         }
     }
-    *turns = 0;
+    left.turns = 0;
     Ok(AskEnd::Open)
 }
 
@@ -437,10 +487,11 @@ pub(crate) fn client_turn<A: Aside + Drop, W: Watch + Drop, P: Port>(
     alloc: Global,
     port: &mut P,
     talking: &mut Talking<A, W>,
-) -> Result<Option<ClientResult>, Ended>
+) -> Result<Learnt, Ended>
     ensures takes { IfOk result (λ learnt. (received : List (Option Received)) × (step : AnyStep) × turning.TakesTurn acts_at (IsStep is_sealing) (record { node = talking.old.client; busy = talking.old.pace.busy_since; supply = talking.old.supply }) received step (record { node = talking.new.client; busy = talking.new.pace.busy_since; supply = talking.new.supply })
-        × (step.notes.result ≡ learnt) × system.Passes P.received P.sent port.old port.new (record { received = received; sent = step.out })
+        × (step.notes.result ≡ learnt.result) × system.Passes P.received P.sent port.old port.new (record { received = received; sent = step.out })
         × IsTold step.notes.opens (A.told talking.old.aside) (A.told talking.new.aside)) }
+    ensures at { IfOk result (λ learnt. learnt.at.ms ≡ ms_of talking.new.supply.time) }
     ensures fault { IfErr result ends.IsFault }
 {
     match take_turn(
@@ -450,23 +501,27 @@ pub(crate) fn client_turn<A: Aside + Drop, W: Watch + Drop, P: Port>(
         &mut talking.client,
         &mut talking.pace,
     ) {
-        Ok(turned) => {
+        Ok((at, turned)) => {
             tell_strange(&mut talking.aside, &turned.step.notes);
-            learnt_of(turned)
+            learnt_of(at, turned)
         }
         Err(ended) => Err(ended),
     }
 }
 
-// What the client learnt, if all that it sent went out.
-fn learnt_of(turned: Turned) -> Result<Option<ClientResult>, Ended>
-    ensures learnt { IfOk result (λ learnt. learnt ≡ turned.step.notes.result) }
+// What the client learnt by the turn of this moment, if all that it sent went out.
+fn learnt_of(at: Moment, turned: Turned) -> Result<Learnt, Ended>
+    ensures learnt { IfOk result (λ learnt. learnt.result ≡ turned.step.notes.result) }
+    ensures at { IfOk result (λ learnt. learnt.at ≡ at) }
     ensures lost { turned.fault ≢ None → result ≡ Err Ended.PortFailed }
     ensures fault { IfErr result ends.IsFault }
 {
-    let learnt = learnt_by(&turned);
+    let result = learnt_by(&turned);
     drop(turned);
-    learnt
+    Ok(Learnt {
+        at,
+        result: result?,
+    })
 }
 
 // The same of a turn that somebody else drops.

@@ -14,7 +14,7 @@ ghost use Rattle.osc_programs.specs.System as system;
 ghost use Rattle.osc_programs.specs.System.{Passed as AnyPassed};
 ghost use Rattle.osc_programs.specs.Unread.{TellsWhy};
 
-use crate::asking::{AskEnd, Talking, awaited, client_of, outcome_line, post};
+use crate::asking::{AskEnd, Left, Talking, awaited, client_of, outcome_line, post};
 use crate::context_text::context_text;
 use crate::ended::Ended;
 use crate::issue::written;
@@ -27,7 +27,7 @@ use osc_client::Client;
 use osc_log::Log;
 use osc_model::{ClientResult, Peer};
 use osc_turn::{Pace, Port, Seeds, Watch};
-use osc_words::{ContextForm, ContextWords};
+use osc_words::{ContextForm, ContextWords, Patience};
 use std::alloc::Global;
 use std::io::{Eprint, Read, Write};
 use std::time::Clock;
@@ -45,7 +45,7 @@ pub fn make_context<R: Clock + Eprint + Seeds + Sockets, I: Read, L: Log, W: Wri
 ) -> Ended
     ensures made { result ≡ Ended.Done → (first last : AnyClient) × (settings : AnySettings) × (context : ClientContextState)
         × IfSome (I.remaining reader.old) (λ text. StandsFor AreClientSettings text settings) × IsClientOf settings first
-        × (agrees : spec.Agrees words.now.turns first last)
+        × (agrees : spec.Agrees words.now.patience first last)
         × system.RunsOn (R.gave runtime.now) (R.opened runtime.now (settings.bind ∷ []) (Some settings.peer)) R.Socket.received R.Socket.sent agrees.start agrees.passed
         × spec.HasUnused last context × Appends (W.contents writer.old) (W.contents writer.new) (spec.context_text words.now.form context) }
     ensures none { result ≢ Ended.Done → result ≢ Ended.Failed → Appends (W.contents writer.old) (W.contents writer.new) [] }
@@ -80,7 +80,7 @@ fn made_text<R: Clock + Eprint + Seeds + Sockets, I: Read, L: Log>(
 ) -> Result<Vec<u8>, Ended>
     ensures made { IfOk result (λ text. (first last : AnyClient) × (settings : AnySettings) × (context : ClientContextState)
         × IfSome (I.remaining reader.old) (λ text. StandsFor AreClientSettings text settings) × IsClientOf settings first
-        × (agrees : spec.Agrees words.now.turns first last)
+        × (agrees : spec.Agrees words.now.patience first last)
         × system.RunsOn (R.gave runtime.now) (R.opened runtime.now (settings.bind ∷ []) (Some settings.peer)) R.Socket.received R.Socket.sent agrees.start agrees.passed
         × spec.HasUnused last context × (text.items ≡ spec.context_text words.now.form context)) }
     ensures bad { IfErr result (λ ended. ended ≡ Ended.BadSettings → TellsWhy (λ document. IsKeyFault (IsClientFault document)) (I.remaining reader.old) (L.told log.old) (L.told log.new)) }
@@ -104,7 +104,7 @@ fn made_at<R: Clock + Eprint + Seeds + Sockets>(
     client: Client,
     words: &ContextWords,
 ) -> Result<Vec<u8>, Ended>
-    ensures made { IfOk result (λ text. (last : AnyClient) × (context : ClientContextState) × (agrees : spec.Agrees words.now.turns client last)
+    ensures made { IfOk result (λ text. (last : AnyClient) × (context : ClientContextState) × (agrees : spec.Agrees words.now.patience client last)
         × system.RunsOn (R.gave runtime.now) (R.opened runtime.now (bind ∷ []) (Some peer)) R.Socket.received R.Socket.sent agrees.start agrees.passed
         × spec.HasUnused last context × (text.items ≡ spec.context_text words.now.form context)) }
     ensures ends { IfErr result spec.CannotTurn }
@@ -131,12 +131,12 @@ fn made_by<R: Eprint, A: Aside + Drop, W: Watch + Drop, P: Port>(
     words: &ContextWords,
 ) -> Result<Vec<u8>, Ended>
     ensures made { IfOk result (λ text. (passed : AnyPassed) × (context : ClientContextState)
-        × spec.Exchanges words.now.turns (record { node = talking.old.client; busy = talking.old.pace.busy_since; supply = talking.old.supply }) (record { passed = passed; outcome = AskEnd.Told learnt.Made }) (record { node = talking.new.client; busy = talking.new.pace.busy_since; supply = talking.new.supply })
+        × spec.Exchanges words.now.patience (record { node = talking.old.client; busy = talking.old.pace.busy_since; supply = talking.old.supply }) (record { passed = passed; outcome = AskEnd.Told learnt.Made }) (record { node = talking.new.client; busy = talking.new.pace.busy_since; supply = talking.new.supply })
         × system.Passes P.received P.sent port.old port.new passed
         × spec.HasUnused talking.new.client context × (text.items ≡ spec.context_text words.now.form context)) }
     ensures ends { IfErr result spec.CannotTurn }
 {
-    let ended = exchanged(alloc, port, talking, words.turns)?;
+    let ended = exchanged(alloc, port, talking, words.patience)?;
     match ended {
         AskEnd::Told(ClientResult::Made) => text_of(alloc, words.form, &talking.client),
         _ => {
@@ -151,16 +151,16 @@ fn exchanged<A: Aside + Drop, W: Watch + Drop, P: Port>(
     alloc: Global,
     port: &mut P,
     talking: &mut Talking<A, W>,
-    turns: u64,
+    patience: Patience,
 ) -> Result<AskEnd, Ended>
     ensures exchanges { IfOk result (λ outcome. (passed : AnyPassed)
-        × spec.Exchanges turns (record { node = talking.old.client; busy = talking.old.pace.busy_since; supply = talking.old.supply }) (record { passed = passed; outcome = outcome }) (record { node = talking.new.client; busy = talking.new.pace.busy_since; supply = talking.new.supply })
+        × spec.Exchanges patience (record { node = talking.old.client; busy = talking.old.pace.busy_since; supply = talking.old.supply }) (record { passed = passed; outcome = outcome }) (record { node = talking.new.client; busy = talking.new.pace.busy_since; supply = talking.new.supply })
         × system.Passes P.received P.sent port.old port.new passed) }
     ensures fault { IfErr result ends.IsFault }
 {
-    let mut turns = turns;
     let learnt = post(alloc, port, talking)?;
-    awaited(alloc, port, talking, &mut turns, learnt)
+    let mut left = Left::all(patience, learnt.at);
+    awaited(alloc, port, talking, &mut left, learnt)
 }
 
 // The text of the client's context.

@@ -16,7 +16,7 @@ ghost use Rattle.osc_programs.specs.System as system;
 ghost use Rattle.osc_programs.specs.System.{Passed as AnyPassed};
 ghost use Rattle.osc_programs.specs.Unread.{TellsWhy};
 
-use crate::asking::{AskEnd, Talking, awaited, client_of, client_turn, post, send_request, told};
+use crate::asking::{AskEnd, Left, Talking, awaited, client_of, client_turn, post, send_request, told};
 use crate::ended::{Ended, said};
 use crate::input::script_bytes;
 use crate::reading::client_settings;
@@ -30,7 +30,7 @@ use osc_model::{ClientResult, Moment, Peer, Request, refusals};
 use osc_script::ScriptError;
 use osc_simulation::learnt_text;
 use osc_turn::{Pace, Port, Seeds, Watch};
-use osc_words::read_requests;
+use osc_words::{Patience, read_requests};
 use std::alloc::{AllocError, Global};
 use std::io::{Eprint, Read, Write};
 use std::time::Clock;
@@ -47,8 +47,8 @@ pub struct Asked {
 /// How requests are sent one after another.
 #[derive(Clone, Copy, Debug, PartialEq, Eq)]
 pub struct Manner {
-    /// The most turns that the client takes after each post and each request.
-    pub turns: u64,
+    /// How long the client waits after each post and each request.
+    pub patience: Patience,
     /// How many milliseconds pass at least from one request to the next.
     pub pause: u64,
     /// Whether a request is sent again under a new context also where it may have been served.
@@ -299,17 +299,17 @@ fn attended<A: Aside + Drop, T: Watch + Drop, P: Port>(
     how: (Manner, bool),
     request: &Request,
 ) -> Result<LineEnd, Ended>
-    ensures attends { IfOk result (λ end. (passed : AnyPassed) × spec.Attends how.0.again how.0.turns request.now (record { node = talking.old.client; busy = talking.old.pace.busy_since; supply = talking.old.supply }) how.1 end passed (record { node = talking.new.client; busy = talking.new.pace.busy_since; supply = talking.new.supply })
+    ensures attends { IfOk result (λ end. (passed : AnyPassed) × spec.Attends how.0.again how.0.patience request.now (record { node = talking.old.client; busy = talking.old.pace.busy_since; supply = talking.old.supply }) how.1 end passed (record { node = talking.new.client; busy = talking.new.pace.busy_since; supply = talking.new.supply })
         × system.Passes P.received P.sent port.old port.new passed) }
     ensures ends { IfErr result (ends.CannotTalk request.now) }
 {
     let (manner, stale) = how;
     if stale {
-        return asked_anew(alloc, port, talking, manner.turns, request);
+        return asked_after_post(alloc, port, talking, manner.patience, request);
     }
-    let first = asked_once(alloc, port, talking, manner.turns, request)?;
+    let first = asked_once(alloc, port, talking, manner.patience, request)?;
     if goes_again(manner.again, &first) {
-        let end = asked_anew(alloc, port, talking, manner.turns, request)?;
+        let end = asked_after_post(alloc, port, talking, manner.patience, request)?;
         return Ok(sent_by(first.sent, end));
     }
     Ok(first)
@@ -327,20 +327,20 @@ fn sent_by(first: bool, end: LineEnd) -> LineEnd
 }
 
 // The token's post, and the request where that makes a context.
-fn asked_anew<A: Aside + Drop, T: Watch + Drop, P: Port>(
+fn asked_after_post<A: Aside + Drop, T: Watch + Drop, P: Port>(
     alloc: Global,
     port: &mut P,
     talking: &mut Talking<A, T>,
-    turns: u64,
+    patience: Patience,
     request: &Request,
 ) -> Result<LineEnd, Ended>
-    ensures asks { IfOk result (λ end. (passed : AnyPassed) × spec.AsksAnew turns request.now (record { node = talking.old.client; busy = talking.old.pace.busy_since; supply = talking.old.supply }) end passed (record { node = talking.new.client; busy = talking.new.pace.busy_since; supply = talking.new.supply })
+    ensures asks { IfOk result (λ end. (passed : AnyPassed) × spec.AsksAfterPost patience request.now (record { node = talking.old.client; busy = talking.old.pace.busy_since; supply = talking.old.supply }) end passed (record { node = talking.new.client; busy = talking.new.pace.busy_since; supply = talking.new.supply })
         × system.Passes P.received P.sent port.old port.new passed) }
     ensures ends { IfErr result (ends.CannotTalk request.now) }
 {
-    let outcome = renewed(alloc, port, talking, turns)?;
+    let outcome = renewed(alloc, port, talking, patience)?;
     if is_made(&outcome) {
-        return asked_once(alloc, port, talking, turns, request);
+        return asked_once(alloc, port, talking, patience, request);
     }
     Ok(LineEnd {
         about: About::Post,
@@ -354,14 +354,14 @@ fn renewed<A: Aside + Drop, T: Watch + Drop, P: Port>(
     alloc: Global,
     port: &mut P,
     talking: &mut Talking<A, T>,
-    turns: u64,
+    patience: Patience,
 ) -> Result<AskEnd, Ended>
-    ensures renews { IfOk result (λ outcome. (passed : AnyPassed) × spec.Renews turns (record { node = talking.old.client; busy = talking.old.pace.busy_since; supply = talking.old.supply }) outcome passed (record { node = talking.new.client; busy = talking.new.pace.busy_since; supply = talking.new.supply })
+    ensures renews { IfOk result (λ outcome. (passed : AnyPassed) × spec.Renews patience (record { node = talking.old.client; busy = talking.old.pace.busy_since; supply = talking.old.supply }) outcome passed (record { node = talking.new.client; busy = talking.new.pace.busy_since; supply = talking.new.supply })
         × system.Passes P.received P.sent port.old port.new passed) }
     ensures fault { IfErr result ends.IsFault }
 {
-    let mut left = turns;
     let learnt = post(alloc, port, talking)?;
+    let mut left = Left::all(patience, learnt.at);
     awaited(alloc, port, talking, &mut left, learnt)
 }
 
@@ -370,16 +370,16 @@ fn asked_once<A: Aside + Drop, T: Watch + Drop, P: Port>(
     alloc: Global,
     port: &mut P,
     talking: &mut Talking<A, T>,
-    turns: u64,
+    patience: Patience,
     request: &Request,
 ) -> Result<LineEnd, Ended>
-    ensures once { IfOk result (λ end. (passed : AnyPassed) × spec.Once turns request.now (record { node = talking.old.client; busy = talking.old.pace.busy_since; supply = talking.old.supply }) end passed (record { node = talking.new.client; busy = talking.new.pace.busy_since; supply = talking.new.supply })
+    ensures once { IfOk result (λ end. (passed : AnyPassed) × spec.Once patience request.now (record { node = talking.old.client; busy = talking.old.pace.busy_since; supply = talking.old.supply }) end passed (record { node = talking.new.client; busy = talking.new.pace.busy_since; supply = talking.new.supply })
         × system.Passes P.received P.sent port.old port.new passed) }
     ensures ends { IfErr result (ends.CannotTalk request.now) }
 {
-    let mut left = turns;
     let learnt = send_request(alloc, port, talking, request)?;
-    let sent = went_out(&learnt);
+    let mut left = Left::all(patience, learnt.at);
+    let sent = went_out(&learnt.result);
     let outcome = awaited(alloc, port, talking, &mut left, learnt)?;
     Ok(LineEnd {
         about: About::Request,

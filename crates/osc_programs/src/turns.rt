@@ -2,6 +2,7 @@
 ghost use Rattle.std.specs.Prelude.{◌≡◌, ◌≤◌, ◌++◌, ◌∷◌, [], ℕ, List, None, Option, Some, IfErr, IfOk, IfSome, OnErr, OnOk};
 ghost use Rattle.osc_turn.specs.{Received};
 ghost use Rattle.osc_turn.specs.Running.{EndsBy, Running, running};
+ghost use Rattle.osc_turn.specs.Time.{ms_of};
 ghost use Rattle.osc_programs.specs.Ended as ends;
 ghost use Rattle.osc_programs.specs.Kept.{HasCause, LeavesKept};
 ghost use Rattle.osc_log.specs.{Tells};
@@ -265,23 +266,24 @@ fn tell_error<L: Log>(log: &mut L, now: Moment, error: TurnError) -> Option<Ende
 
 // ---- one step
 
-/// One turn of the node, of one step, at the next moment and with the next draw.
+/// One turn of the node, of one step, at the next moment and with the next draw; and that moment.
 pub fn take_turn<W: Watch + Drop, P: Port, N: Node<Suite>>(
     alloc: Global,
     supply: &mut ClockAndRandom<W>,
     port: &mut P,
     node: &mut N,
     pace: &mut Pace,
-) -> Result<Turned, Ended>
-    ensures takes { IfOk result (λ turned. (received : List (Option Received)) × spec.TakesTurn N.acts N.is_step
-        (running node.old pace.old.busy_since supply.old) received turned.step (running node.new pace.new.busy_since supply.new)
-        × system.Passes P.received P.sent port.old port.new (record { received = received; sent = turned.step.out })) }
+) -> Result<(Moment, Turned), Ended>
+    ensures takes { IfOk result (λ taken. (received : List (Option Received)) × spec.TakesTurn N.acts N.is_step
+        (running node.old pace.old.busy_since supply.old) received taken.1.step (running node.new pace.new.busy_since supply.new)
+        × system.Passes P.received P.sent port.old port.new (record { received = received; sent = taken.1.step.out })) }
+    ensures at { IfOk result (λ taken. taken.0.ms ≡ ms_of supply.new.time) }
     ensures err { OnErr result ((node.new ≡ node.old) × (P.sent port.new ≡ P.sent port.old)) }
     ensures fault { IfErr result ends.IsFault }
 {
     let (now, draw) = moment_and_draw(supply)?;
     match paced_turn::<Suite, _, _>(alloc, port, node, pace, now, &draw) {
-        Ok(turned) => Ok(turned),
+        Ok(turned) => Ok((now, turned)),
         Err(error) => Err(ended_by_turn(error)),
     }
 }

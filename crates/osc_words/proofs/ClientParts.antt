@@ -19,18 +19,18 @@ use Rattle.osc_words.specs.declared.requests_words.RequestsWords.{RequestsWords}
 use Rattle.osc_words.specs.declared.words.WordsError.{WordsError}
 use Rattle.osc_words.specs.declared.words.WordsError.TheVariants as words_error
 
-pub client_said : (rows : List Row) (words : ClientWords) (payload : List ℕ) → SaysPatience rows words.turns → SaysPayload rows payload words.payload_file
+pub client_said : (rows : List Row) (words : ClientWords) (payload : List ℕ) → SaysPatience rows words.patience → SaysPayload rows payload words.payload_file
     → AreRequest rows payload words.request → words.config ≡ value_of (Client Config) rows → words.raw ≡ is_set (codes "raw") rows
     → words.check ≡ is_set (codes "check") rows → AreClientWords rows words
-client_said rows words payload turns paid request config raw check =
+client_said rows words payload patience paid request config raw check =
     record { options = each; plain = request.1; raw = raw; check = check }
   where
     says_payload : SaysPayload rows words.request.payload words.payload_file
     says_payload = subst (λ (bytes : List ℕ). SaysPayload rows bytes words.payload_file) (sym request.2) paid
 
     each : (option : ClientOption) → Says rows option words
-    each Turns = turns
-    each Timeout = turns
+    each Turns = patience
+    each Timeout = patience
     each Method = request.0 Method
     each Path = request.0 Path
     each Payload = says_payload
@@ -81,8 +81,8 @@ code_of_method None spelled said = absurd said
 pub patience_refused : (rows : List Row) (error : WordsError) → IsPatienceRefusal rows error → IsClientRefusal rows error
 patience_refused rows (words_error.Clap error) h = h
 patience_refused rows (words_error.Value option) h = elim h.0 [
-  | inl e ↦ subst (λ refused. IsClientRefusal rows (words_error.Value refused)) (sym e) (λ words. h.1 words.turns)
-  | inr e ↦ subst (λ refused. IsClientRefusal rows (words_error.Value refused)) (sym e) (λ words. h.1 words.turns)
+  | inl e ↦ subst (λ refused. IsClientRefusal rows (words_error.Value refused)) (sym e) (λ words. h.1 words.patience)
+  | inr e ↦ subst (λ refused. IsClientRefusal rows (words_error.Value refused)) (sym e) (λ words. h.1 words.patience)
 ]
 patience_refused rows (words_error.NotOne choice) h =
     subst (λ refused. IsClientRefusal rows (words_error.NotOne refused)) (sym h.0) (refl, h.1)
@@ -93,8 +93,8 @@ patience_refused rows words_error.Memory h = tt
 pub patience_of_many_refused : (rows : List Row) (error : WordsError) → IsPatienceRefusal rows error → IsRequestsRefusal rows error
 patience_of_many_refused rows (words_error.Clap error) h = h
 patience_of_many_refused rows (words_error.Value option) h = elim h.0 [
-  | inl e ↦ subst (λ refused. IsRequestsRefusal rows (words_error.Value refused)) (sym e) (λ words. h.1 words.turns)
-  | inr e ↦ subst (λ refused. IsRequestsRefusal rows (words_error.Value refused)) (sym e) (λ words. h.1 words.turns)
+  | inl e ↦ subst (λ refused. IsRequestsRefusal rows (words_error.Value refused)) (sym e) (λ words. h.1 words.patience)
+  | inr e ↦ subst (λ refused. IsRequestsRefusal rows (words_error.Value refused)) (sym e) (λ words. h.1 words.patience)
 ]
 patience_of_many_refused rows (words_error.NotOne choice) h = h
 patience_of_many_refused rows (words_error.Unread option) h = absurd h
@@ -110,14 +110,14 @@ every_refused rows (words_error.NotOne choice) h = absurd h
 every_refused rows (words_error.Unread option) h = absurd h
 every_refused rows words_error.Memory h = tt
 
-pub requests_said : (rows : List Row) (words : RequestsWords) → SaysPatience rows words.turns → value_of (Client Requests) rows ≡ Some words.requests
+pub requests_said : (rows : List Row) (words : RequestsWords) → SaysPatience rows words.patience → value_of (Client Requests) rows ≡ Some words.requests
     → IsGiven SpellsNumber (value_of (Client Every) rows) words.every → words.config ≡ value_of (Client Config) rows
     → words.again ≡ is_set (codes "again") rows → words.check ≡ is_set (codes "check") rows → AreRequestsWords rows words
-requests_said rows words turns file every config again check = record { options = each; again = again; check = check }
+requests_said rows words patience file every config again check = record { options = each; again = again; check = check }
   where
     each : (option : ClientOption) → SaysOfMany rows option words
-    each Turns = turns
-    each Timeout = turns
+    each Turns = patience
+    each Timeout = patience
     each Method = tt
     each Path = tt
     each Payload = tt

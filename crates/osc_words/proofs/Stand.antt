@@ -22,6 +22,7 @@ use Rattle.osc_words.specs.declared.named_option.NamedOption.TheVariants as opti
 use Rattle.osc_words.specs.declared.requests_words.RequestsWords.{RequestsWords}
 use Rattle.osc_words.specs.declared.source.Source.{Source}
 use Rattle.osc_words.specs.declared.source.Source.TheVariants.{Given, InFile}
+use Rattle.osc_words.specs.declared.times.Patience.{Patience as AnyPatience}
 use Rattle.osc_words.specs.declared.token_option.TokenOption.TheVariants as token
 use Rattle.osc_words.specs.declared.token_words.Expiry.{Expiry as AnyExpiry}
 use Rattle.osc_words.specs.declared.token_words.TokenAsked.{TokenAsked}
@@ -66,11 +67,11 @@ no_expiry None time expiry a b h = absurd cc
 no_expiry (Some text) None expiry a b h = absurd cc
 no_expiry (Some text) (Some other) expiry a b h = h
 
-no_patience : (turns seconds : Option (List ℕ)) (n : ℕ) → is_some turns ≡ is_some seconds → IsPatience turns seconds n → ⊥
-no_patience None None n same h = h
-no_patience None (Some text) n same h = absurd cc
-no_patience (Some text) None n same h = absurd cc
-no_patience (Some text) (Some other) n same h = h
+no_patience : (turns seconds : Option (List ℕ)) (patience : AnyPatience) → is_some turns ≡ is_some seconds → IsPatience turns seconds patience → ⊥
+no_patience None None patience same h = h
+no_patience None (Some text) patience same h = absurd cc
+no_patience (Some text) None patience same h = absurd cc
+no_patience (Some text) (Some other) patience same h = h
 
 no_payload : (hex text name : Option (List ℕ)) (payload : List ℕ) (file : Option (List ℕ)) → AreSome hex text name → IsPayload hex text name payload file → ⊥
 no_payload None None None payload file two h = absurd cc
@@ -102,7 +103,7 @@ not_asked_for : (name : Text) (rows : List Row) (choice : Choice) → name ≡ c
     → (words : ClientWords) → AsksOne rows → AreClientWords rows words → ⊥
 not_asked_for name rows (Hidden option) e f same words asks said = not_token name (codes "client") (codes "token") e f refl refl
 not_asked_for name rows Patience e f same words asks said =
-    no_patience (value_of (option.Client client.Turns) rows) (value_of (option.Client client.Timeout) rows) words.turns same (said.options client.Turns)
+    no_patience (value_of (option.Client client.Turns) rows) (value_of (option.Client client.Timeout) rows) words.patience same (said.options client.Turns)
 not_asked_for name rows Payload e f two words asks said =
     no_payload (value_of (option.Client client.Payload) rows) (value_of (option.Client client.Text) rows) (value_of (option.Client client.PayloadFile) rows)
     words.request.payload words.payload_file two (said.options client.Payload)
@@ -129,7 +130,7 @@ not_asked_for_many : (name : Text) (rows : List Row) (choice : Choice) → name 
     → (words : RequestsWords) → AsksMany rows words.requests → AreRequestsWords rows words → ⊥
 not_asked_for_many name rows (Hidden option) e f same words asks said = not_token name (codes "client") (codes "token") e f refl refl
 not_asked_for_many name rows Patience e f same words asks said =
-    no_patience (value_of (option.Client client.Turns) rows) (value_of (option.Client client.Timeout) rows) words.turns same (said.options client.Turns)
+    no_patience (value_of (option.Client client.Turns) rows) (value_of (option.Client client.Timeout) rows) words.patience same (said.options client.Turns)
 not_asked_for_many name rows Payload e f two words asks said = many_no_payload rows words.requests asks two
 not_asked_for_many name rows Asked e f bad words asks said = absurd cc
 not_asked_for_many name rows Expiry e f both words asks said = not_token name (codes "client") (codes "token") e f refl refl
@@ -287,7 +288,7 @@ nothing name rows option.ContextTimeout h (Server words) s = not_token name (cod
 nothing name rows option.ContextTimeout h (Proxy words) s = not_token name (codes "proxy") (codes "context") h.0 s.0 refl refl
 nothing name rows option.ContextTimeout h (Client words) s = not_token name (codes "client") (codes "context") h.0 s.0 refl refl
 nothing name rows option.ContextTimeout h (Requests words) s = not_token name (codes "client") (codes "context") h.0 s.0 refl refl
-nothing name rows option.ContextTimeout h (Context words) s = h.1 words.turns s.1.turns
+nothing name rows option.ContextTimeout h (Context words) s = h.1 words.patience s.1.patience
 nothing name rows option.ContextTimeout h (Lab turns ipv6) s = not_token name (codes "lab") (codes "context") h.0 s.0 refl refl
 nothing name rows option.LabTurns h (Sim words) s = not_token name (codes "sim") (codes "lab") h.0 s.0 refl refl
 nothing name rows option.LabTurns h (Token asked) s = not_token name (codes "token") (codes "lab") h.0 s.0 refl refl

@@ -15,6 +15,7 @@ use Rattle.osc_words.specs.declared.client_option.ClientOption.{ClientOption}
 use Rattle.osc_words.specs.declared.client_option.ClientOption.TheVariants.{Turns, Timeout, Method, Path, Payload, Text, PayloadFile, Format, Config}
 use Rattle.osc_words.specs.declared.client_words.ClientWords.{ClientWords}
 use Rattle.osc_words.specs.declared.named_option.NamedOption.TheVariants.{Client}
+use Rattle.osc_words.specs.declared.times.Patience.{Patience}
 
 -- the request code of the method of this name (RFC 7252 section 12.1.1)
 abbrev pub SpellsMethod : List ℕ → Code → Type 0
@@ -48,13 +49,13 @@ IsPayload hex text name payload file = ⊥
 abbrev pub SaysPayload : List Row → List ℕ → Option (List ℕ) → Type 0
 SaysPayload rows payload file = IsPayload (value_of (Client Payload) rows) (value_of (Client Text) rows) (value_of (Client PayloadFile) rows) payload file
 
-abbrev pub SaysPatience : List Row → ℕ → Type 0
-SaysPatience rows turns = IsPatience (value_of (Client Turns) rows) (value_of (Client Timeout) rows) turns
+abbrev pub SaysPatience : List Row → Patience → Type 0
+SaysPatience rows patience = IsPatience (value_of (Client Turns) rows) (value_of (Client Timeout) rows) patience
 
 -- what an option says of the client
 abbrev pub Says : List Row → ClientOption → ClientWords → Type 0
-Says rows Turns words = SaysPatience rows words.turns
-Says rows Timeout words = SaysPatience rows words.turns
+Says rows Turns words = SaysPatience rows words.patience
+Says rows Timeout words = SaysPatience rows words.patience
 Says rows Payload words = SaysPayload rows words.request.payload words.payload_file
 Says rows Text words = SaysPayload rows words.request.payload words.payload_file
 Says rows PayloadFile words = SaysPayload rows words.request.payload words.payload_file

@@ -27,6 +27,7 @@ use Rattle.osc_words.specs.declared.named_option.NamedOption.{NamedOption}
 use Rattle.osc_words.specs.declared.named_option.NamedOption.TheVariants as option
 use Rattle.osc_words.specs.declared.node_words.LogForm.{LogForm}
 use Rattle.osc_words.specs.declared.sim_words.DiagramForm.{DiagramForm}
+use Rattle.osc_words.specs.declared.times.Patience.{Patience}
 use Rattle.osc_words.specs.declared.token_option.TokenOption.{TokenOption}
 use Rattle.osc_words.specs.declared.token_option.TokenOption.TheVariants as token_option
 use Rattle.osc_words.specs.declared.words.Words.{Words}
@@ -131,7 +132,7 @@ HasNothing (Some entered) option.StoreBackup = ⊥
 HasNothing (Some entered) (option.Client refused) = AsksNothing entered.1 refused × (entered.0 ≡ codes "client")
 HasNothing (Some entered) option.ContextForm =
     (entered.0 ≡ codes "context") × ((form : ContextForm) → ¬ IsGiven SpellsContextForm (value_of option.ContextForm entered.1) (Some form))
-HasNothing (Some entered) option.ContextTimeout = (entered.0 ≡ codes "context") × ((turns : ℕ) → ¬ SpellsPatience (value_of option.ContextTimeout entered.1) turns)
+HasNothing (Some entered) option.ContextTimeout = (entered.0 ≡ codes "context") × ((patience : Patience) → ¬ SpellsPatience (value_of option.ContextTimeout entered.1) patience)
 HasNothing (Some entered) option.ContextOut = ⊥
 HasNothing (Some entered) option.LabTurns = (entered.0 ≡ codes "lab") × ((turns : ℕ) → ¬ IsGiven SpellsNumber (value_of option.LabTurns entered.1) (Some turns))
 HasNothing (Some entered) (option.Token refused) = (entered.0 ≡ codes "token") × token.SaysNothing entered.1 refused

@@ -23,6 +23,6 @@ SpellsContextForm text form = context_form_named text ≡ Some form
 
 pub record AreContextWords (rows : List Row) (words : ContextWords) : Type 0 where
   pub form : IsGiven SpellsContextForm (value_of option.ContextForm rows) (Some words.form)
-  pub turns : SpellsPatience (value_of option.ContextTimeout rows) words.turns
+  pub patience : SpellsPatience (value_of option.ContextTimeout rows) words.patience
   pub out : words.out ≡ value_of option.ContextOut rows
   pub config : words.config ≡ value_of option.NodeConfig rows

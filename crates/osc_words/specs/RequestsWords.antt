@@ -13,8 +13,8 @@ use Rattle.osc_words.specs.declared.requests_words.RequestsWords.{RequestsWords}
 
 -- what an option says of the client
 abbrev pub Says : List Row → ClientOption → RequestsWords → Type 0
-Says rows Turns words = SaysPatience rows words.turns
-Says rows Timeout words = SaysPatience rows words.turns
+Says rows Turns words = SaysPatience rows words.patience
+Says rows Timeout words = SaysPatience rows words.patience
 Says rows Requests words = value_of (Client Requests) rows ≡ Some words.requests
 Says rows Every words = IsGiven SpellsNumber (value_of (Client Every) rows) words.every
 Says rows Config words = words.config ≡ value_of (Client Config) rows

@@ -1,6 +1,7 @@
 -- How long: what the options spell that bound a time.
 use Rattle.std.specs.Prelude.{◌≡◌, ◌==◌, ◌<◌, ◌^◌, ◌-◌, ◌*◌, ◌+◌, ◌++◌, ◌∷◌, [], ℕ, List, Option, Some, None, if◌then◌else◌, min}
 use Rattle.osc_script.specs.{SpellsNumber}
+use Rattle.osc_words.specs.declared.times.Patience.{Patience}
 use Rattle.osc_words.specs.declared.token_words.Expiry.{Expiry}
 use Rattle.osc_words.specs.declared.token_words.Expiry.TheVariants.{At, After}
 
@@ -37,19 +38,19 @@ abbrev pub second_of : ℕ → Expiry → ℕ
 second_of now (At second) = second
 second_of now (After seconds) = min (now + seconds) (2 ^ 64 - 1)
 
--- a number of seconds, at 50 turns each: that number of turns, or as many as a number of 64 bits counts
-pub record SpellsTimeout (text : List ℕ) (turns : ℕ) : Type 0 where
+-- a number of seconds: that number of milliseconds, or as many as a number of 64 bits counts
+pub record SpellsTimeout (text : List ℕ) (millis : ℕ) : Type 0 where
   pub seconds : ℕ
   pub number : SpellsNumber text seconds
-  pub value : turns ≡ min (seconds * 50) (2 ^ 64 - 1)
+  pub value : millis ≡ min (seconds * 1000) (2 ^ 64 - 1)
 
--- the same where there is a text; where there is none, as many turns as a number of 64 bits counts
-abbrev pub SpellsPatience : Option (List ℕ) → ℕ → Type 0
-SpellsPatience (Some text) turns = SpellsTimeout text turns
-SpellsPatience None turns = turns ≡ 2 ^ 64 - 1
+-- how long a client waits: a number of turns, however long they take, or a number of seconds, however many turns that is
+abbrev pub IsPatience : Option (List ℕ) → Option (List ℕ) → Patience → Type 0
+IsPatience (Some text) None patience = SpellsNumber text patience.turns × (patience.millis ≡ 2 ^ 64 - 1)
+IsPatience None (Some text) patience = SpellsTimeout text patience.millis × (patience.turns ≡ 2 ^ 64 - 1)
+IsPatience number seconds patience = ⊥
 
--- how long a client waits: a number of turns, or a number of seconds
-abbrev pub IsPatience : Option (List ℕ) → Option (List ℕ) → ℕ → Type 0
-IsPatience (Some text) None turns = SpellsNumber text turns
-IsPatience None (Some text) turns = SpellsTimeout text turns
-IsPatience number seconds turns = ⊥
+-- a number of seconds, where there is a text; where there is none, without an end
+abbrev pub SpellsPatience : Option (List ℕ) → Patience → Type 0
+SpellsPatience (Some text) patience = SpellsTimeout text patience.millis × (patience.turns ≡ 2 ^ 64 - 1)
+SpellsPatience None patience = (patience.turns ≡ 2 ^ 64 - 1) × (patience.millis ≡ 2 ^ 64 - 1)

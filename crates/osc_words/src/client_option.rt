@@ -7,7 +7,7 @@ ghost use Rattle.osc_words.specs.ClientOptions as spec;
 pub enum ClientOption {
     /// `--turns`: after how many turns it gives up.
     Turns,
-    /// `--timeout`: after how many seconds it gives up at the latest, at 50 turns a second.
+    /// `--timeout`: after how many seconds of its own clock it gives up.
     Timeout,
     /// `--method`: what is to be done with the resource.
     Method,
@@ -102,7 +102,7 @@ impl ClientOption {
             ClientOption::Turns =>
                 "The most turns that it takes, each a datagram or 10 ms without one",
             ClientOption::Timeout =>
-                "The most seconds that it takes, at 50 turns a second; this or --turns is to be given",
+                "The seconds after which it gives up; this or --turns is to be given",
             ClientOption::Method => "GET, POST, PUT or DELETE",
             ClientOption::Path => "The resource, as /a/b: 1 to 8 segments of 1 to 32 bytes",
             ClientOption::Payload => "The bytes of the payload; none by default",

@@ -12,6 +12,7 @@ use crate::choice::Choice;
 use crate::client_option::ClientOption;
 use crate::named_option::NamedOption;
 use crate::source::FileName;
+use crate::times::Patience;
 use crate::words::WordsError;
 use crate::{given, times};
 use clap::ArgMatches;
@@ -22,8 +23,8 @@ use std::alloc::Global;
 /// What `osc client` is asked for, before the file is read that the payload may be in.
 #[derive(Debug, PartialEq, Eq, Drop)]
 pub struct ClientWords {
-    /// The most turns that it takes.
-    pub turns: u64,
+    /// How long it waits, for both of its messages together.
+    pub patience: Patience,
     /// What it asks for, under the context of its token. The code is a method's, 1 to 4. The payload is empty where it is in a file.
     pub request: Request,
     /// The file that the payload is in, if it does.
@@ -43,10 +44,10 @@ pub(crate) fn client_words(
 ) -> Result<ClientWords, WordsError>
     ensures { MatchResult result (spec.AreClientWords (rows_of (found_of options.now))) (IsClientRefusal (rows_of (found_of options.now))) }
 {
-    let turns = patience(options)?;
+    let patience = patience(options)?;
     let (payload, payload_file) = payload(alloc, options)?;
     Ok(ClientWords {
-        turns,
+        patience,
         request: request(alloc, options, payload)?,
         payload_file,
         raw: given::is_set(options, "raw"),
@@ -71,19 +72,19 @@ fn request(alloc: Global, options: &ArgMatches<'_>, payload: Bytes) -> Result<Re
 
 // ---- one of several options
 
-/// The most turns: a number of turns, or 50 for each second.
-pub(crate) fn patience(options: &ArgMatches<'_>) -> Result<u64, WordsError>
+/// How long it waits: a number of turns, or of seconds.
+pub(crate) fn patience(options: &ArgMatches<'_>) -> Result<Patience, WordsError>
     ensures { MatchResult result (spec.SaysPatience (rows_of (found_of options.now))) (IsPatienceRefusal (rows_of (found_of options.now))) }
 {
     let turns = given::text(options, NamedOption::Client(ClientOption::Turns));
     let seconds = given::text(options, NamedOption::Client(ClientOption::Timeout));
     match (turns, seconds) {
         (Some(text), None) => match values::number(text) {
-            Some(turns) => Ok(turns),
+            Some(turns) => Ok(Patience::of_turns(turns)),
             None => Err(WordsError::Value(NamedOption::Client(ClientOption::Turns))),
         },
         (None, Some(text)) => match times::timeout(text) {
-            Some(turns) => Ok(turns),
+            Some(millis) => Ok(Patience::of_millis(millis)),
             None => Err(WordsError::Value(NamedOption::Client(ClientOption::Timeout))),
         },
         (Some(_), Some(_)) | (None, None) => Err(WordsError::NotOne(Choice::Patience)),

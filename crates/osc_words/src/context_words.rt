@@ -10,6 +10,7 @@ ghost use Rattle.osc_words.specs.declared.context_words.ContextForm.{ContextForm
 
 use crate::named_option::NamedOption;
 use crate::source::FileName;
+use crate::times::Patience;
 use crate::words::WordsError;
 use crate::{given, times};
 use clap::ArgMatches;
@@ -20,8 +21,8 @@ use std::alloc::Global;
 pub struct ContextWords {
     /// For which stack the context is written.
     pub form: ContextForm,
-    /// The most turns that it takes; `u64::MAX` where no seconds are given.
-    pub turns: u64,
+    /// How long it waits; without an end where no seconds are given.
+    pub patience: Patience,
     /// The file that the context is written to, or for aiocoap the folder; it goes to the standard output where there is none.
     pub out: Option<FileName>,
     /// The file that the settings are in; they come on the standard input where there is none.
@@ -66,7 +67,7 @@ pub(crate) fn context_words(
 {
     Ok(ContextWords {
         form: form(options)?,
-        turns: patience(options)?,
+        patience: patience(options)?,
         out: given::file(alloc, options, NamedOption::ContextOut)?,
         config: given::file(alloc, options, NamedOption::NodeConfig)?,
     })
@@ -84,18 +85,18 @@ fn form(options: &ArgMatches<'_>) -> Result<ContextForm, WordsError>
     Ok(form)
 }
 
-// The most turns: 50 for each second.
-fn patience(options: &ArgMatches<'_>) -> Result<u64, WordsError>
+// How long it waits.
+fn patience(options: &ArgMatches<'_>) -> Result<Patience, WordsError>
     ensures { MatchResult result
         (SpellsPatience (value_of NamedOption.ContextTimeout (rows_of (found_of options.now))))
         (IsRefusalOf NamedOption.ContextTimeout (SpellsPatience (value_of NamedOption.ContextTimeout (rows_of (found_of options.now))))) }
 {
     let option = NamedOption::ContextTimeout;
     let Some(text) = given::text(options, option) else {
-        return Ok(u64::MAX);
+        return Ok(Patience::of_turns(u64::MAX));
     };
-    let Some(turns) = times::timeout(text) else {
+    let Some(millis) = times::timeout(text) else {
         return Err(WordsError::Value(option));
     };
-    Ok(turns)
+    Ok(Patience::of_millis(millis))
 }

@@ -41,6 +41,7 @@ pub use settings::{
 pub use sim_words::{DiagramForm, SimWords};
 pub use source::{FileName, Source};
 pub use store_words::StoreWords;
+pub use times::Patience;
 pub use token_option::TokenOption;
 pub use token_words::{Expiry, OpenClaims, TokenAsked, TokenWords};
 pub use words::{Words, WordsError, fault_line};

@@ -31,7 +31,7 @@ pub enum NamedOption {
     Client(ClientOption),
     /// `--form` of `osc context`: for which stack the context is written.
     ContextForm,
-    /// `--timeout` of `osc context`: after how many seconds it gives up at the latest, at 50 turns a second.
+    /// `--timeout` of `osc context`: after how many seconds of its own clock it gives up.
     ContextTimeout,
     /// `--out` of `osc context`: the file that the context is written to, or for aiocoap the folder.
     ContextOut,
@@ -135,7 +135,7 @@ impl NamedOption {
             NamedOption::ContextForm =>
                 "For which stack the context is written: libcoap, aiocoap, or json for any",
             NamedOption::ContextTimeout =>
-                "The most seconds that it takes, at 50 turns a second; it ends with the exchange by default",
+                "The seconds after which it gives up; it ends with the exchange by default",
             NamedOption::ContextOut =>
                 "A file that its owner alone can read, or a folder for aiocoap; the standard output by default",
             NamedOption::Token(option) => option.help(),

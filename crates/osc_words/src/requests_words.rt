@@ -11,6 +11,7 @@ use crate::client_words::{client_words, patience};
 use crate::given;
 use crate::named_option::NamedOption;
 use crate::source::FileName;
+use crate::times::Patience;
 use crate::words::{Words, WordsError};
 use clap::ArgMatches;
 use std::alloc::Global;
@@ -18,8 +19,8 @@ use std::alloc::Global;
 /// What `osc client` is asked for where its requests are in a file.
 #[derive(Debug, PartialEq, Eq, Drop)]
 pub struct RequestsWords {
-    /// The most turns that it takes after each of its messages.
-    pub turns: u64,
+    /// How long it waits after each of its messages.
+    pub patience: Patience,
     /// The file that its requests are in, one a line; `-` is the standard input.
     pub requests: FileName,
     /// How many seconds pass at least from one request to the next, if any have to.
@@ -69,10 +70,10 @@ fn requests_words(
     requires { choices.AsksMany (rows_of (found_of options.now)) name.now }
     ensures { MatchResult result (spec.AreRequestsWords (rows_of (found_of options.now))) (IsRequestsRefusal (rows_of (found_of options.now))) }
 {
-    let turns = patience(options)?;
+    let patience = patience(options)?;
     let every = given::number(options, NamedOption::Client(ClientOption::Every))?;
     Ok(RequestsWords {
-        turns,
+        patience,
         requests: FileName::new(alloc, name)?,
         every,
         again: given::is_set(options, "again"),

@@ -5,6 +5,37 @@ ghost use Rattle.osc_words.specs.Times as spec;
 
 use osc_script::values;
 
+/// How long a client waits: it begins no further turn once either is used up. One that isn't given is `u64::MAX`.
+#[derive(Clone, Copy, Debug, PartialEq, Eq)]
+pub struct Patience {
+    /// The most turns that it takes.
+    pub turns: u64,
+    /// How many milliseconds it takes them for.
+    pub millis: u64,
+}
+
+impl Patience {
+    /// This number of turns, however long they take.
+    pub(crate) fn of_turns(turns: u64) -> Patience
+        ensures { result ≡ record { turns = turns; millis = u64.MAX } }
+    {
+        Patience {
+            turns,
+            millis: u64::MAX,
+        }
+    }
+
+    /// Turns for this number of milliseconds, however many.
+    pub(crate) fn of_millis(millis: u64) -> Patience
+        ensures { result ≡ record { turns = u64.MAX; millis = millis } }
+    {
+        Patience {
+            turns: u64::MAX,
+            millis,
+        }
+    }
+}
+
 /// A number of seconds: decimal digits and the letter of a unit, `s`, `m`, `h` or `d`.
 pub(crate) fn time(text: &str) -> Option<u64>
     ensures { Reads (spec.SpellsTime text.now) result }
@@ -14,11 +45,11 @@ pub(crate) fn time(text: &str) -> Option<u64>
     values::decimal(digits)?.checked_mul(unit)
 }
 
-/// A number of turns: a number of seconds, at 50 turns each.
+/// A number of milliseconds: those of a number of seconds.
 pub(crate) fn timeout(text: &str) -> Option<u64>
     ensures { Reads (spec.SpellsTimeout text.now) result }
 {
-    Some(values::number(text)?.saturating_mul(50))
+    Some(values::number(text)?.saturating_mul(1000))
 }
 
 // How many seconds the unit of this letter is.

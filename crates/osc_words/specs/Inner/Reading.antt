@@ -20,6 +20,7 @@ use Rattle.osc_words.specs.declared.client_option.ClientOption.TheVariants.{Turn
 use Rattle.osc_words.specs.declared.hidden_option.HiddenOption.{HiddenOption}
 use Rattle.osc_words.specs.declared.named_option.NamedOption.{NamedOption}
 use Rattle.osc_words.specs.declared.named_option.NamedOption.TheVariants.{Client, ContextForm, ContextTimeout, NodeLog, Token}
+use Rattle.osc_words.specs.declared.times.Patience.{Patience as AnyPatience}
 use Rattle.osc_words.specs.declared.words.Words.{Words}
 use Rattle.osc_words.specs.declared.words.WordsError.{WordsError}
 use Rattle.osc_words.specs.declared.words.WordsError.TheVariants.{Clap, Value, NotOne, Unread, Memory}
@@ -64,7 +65,7 @@ IsClientRefusal rows error = ⊥
 
 -- neither of the options of patience says anything, or they aren't given as they have to be
 abbrev pub IsPatienceRefusal : List Row → WordsError → Type 0
-IsPatienceRefusal rows (Value option) = ((option ≡ Client Turns) ⊎ (option ≡ Client Timeout)) × ((turns : ℕ) → ¬ client.SaysPatience rows turns)
+IsPatienceRefusal rows (Value option) = ((option ≡ Client Turns) ⊎ (option ≡ Client Timeout)) × ((patience : AnyPatience) → ¬ client.SaysPatience rows patience)
 IsPatienceRefusal rows (NotOne choice) = (choice ≡ Patience) × IsNotOne rows Patience
 IsPatienceRefusal rows Memory = Unit {0}
 IsPatienceRefusal rows error = ⊥

@@ -18,7 +18,7 @@ returns-clause-requests g c =
         sends = sent.1;
         waited = record { passed = waited.0; outcome = outcome };
         rest = _;
-        waits = waits_as _ _ _ _ _ _ _ sent.2 waited.1;
+        waits = waits_as _ _ _ _ _ _ _ _ sent.2 waited.1;
         is = refl;
       },
       passes_more g.P.Port.received g.P.Port.sent _ _ _ (sent_alone sent.0) waited.0 sent.3 waited.2,

@@ -12,6 +12,6 @@ returns-in-Some-clause-waits g c =
     let client : Running Client = (record { node = talking.client; busy = talking.pace.busy_since; supply = talking.supply }) in
     let result = c.in-Some.result in (
       nothing_passed,
-      subst (λ learnt. Waits c.args.turns.now learnt client (at_once (Told result)) c.args.turns.now client) (sym c.in-Some.is) (told c.args.turns.now client result),
+      subst (λ learnt. Waits c.args.left.now.until c.args.left.now.turns learnt client (at_once (Told result)) c.args.left.now.turns client) (sym c.in-Some.is) (told c.args.left.now.turns client result),
       passes_none g.P.Port.received g.P.Port.sent _,
     )

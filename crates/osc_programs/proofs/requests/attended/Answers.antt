@@ -7,7 +7,7 @@ use Rattle.osc_programs.proofs.requests.attended.Goals as goal
 
 pub returns-then-stale-clause-attends : goal.returns-then-stale-clause-attends
 returns-then-stale-clause-attends g c =
-    IfOk-weaker c.asked_anew.result _ _ (λ end asked. (asked.0, renewed end asked.0 _ c.if-stale.true asked.1, asked.2)) c.asked_anew.ensures.asks
+    IfOk-weaker c.asked_after_post.result _ _ (λ end asked. (asked.0, renewed end asked.0 _ c.if-stale.true asked.1, asked.2)) c.asked_after_post.ensures.asks
 
 pub returns-then-goes_again-clause-attends : goal.returns-then-goes_again-clause-attends
 returns-then-goes_again-clause-attends g c =

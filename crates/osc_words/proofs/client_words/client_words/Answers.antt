@@ -5,10 +5,10 @@ use Rattle.osc_words.proofs.client_words.client_words.Goals as goal
 
 pub returns : goal.returns
 returns c =
-    client_said (rows_of (found_of c.args.options.now)) _ _ c.in_ok-turns.ensures c.in_ok-payload.ensures c.in_ok-request.ensures c.in_ok-file.ensures
+    client_said (rows_of (found_of c.args.options.now)) _ _ c.in_ok-patience.ensures c.in_ok-payload.ensures c.in_ok-request.ensures c.in_ok-file.ensures
     c.is_set.ensures c.is_set-2.ensures
 
-pub returns-in_err-turns : goal.returns-in_err-turns
-returns-in_err-turns c =
+pub returns-in_err-patience : goal.returns-in_err-patience
+returns-in_err-patience c =
     let p = err_from_is_err_and c.from_residual.result c.from_residual.ensures.1 in
-    rw (p.1, p.2) (patience_refused (rows_of (found_of c.args.options.now)) _ c.in_err-turns.ensures)
+    rw (p.1, p.2) (patience_refused (rows_of (found_of c.args.options.now)) _ c.in_err-patience.ensures)

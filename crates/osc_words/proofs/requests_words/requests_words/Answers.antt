@@ -6,13 +6,13 @@ use Rattle.osc_words.proofs.requests_words.requests_words.Goals as goal
 
 pub returns : goal.returns
 returns c =
-    requests_said (rows_of (found_of c.args.options.now)) _ c.in_ok-turns.ensures (c.requires.1 ∙ ap (λ (name : List ℕ). Some name) (sym c.in_ok-new.ensures)) c.in_ok-every.ensures c.in_ok-file.ensures
+    requests_said (rows_of (found_of c.args.options.now)) _ c.in_ok-patience.ensures (c.requires.1 ∙ ap (λ (name : List ℕ). Some name) (sym c.in_ok-new.ensures)) c.in_ok-every.ensures c.in_ok-file.ensures
     c.is_set.ensures c.is_set-2.ensures
 
-pub returns-in_err-turns : goal.returns-in_err-turns
-returns-in_err-turns c =
+pub returns-in_err-patience : goal.returns-in_err-patience
+returns-in_err-patience c =
     let p = err_from_is_err_and c.from_residual.result c.from_residual.ensures.1 in
-    rw (p.1, p.2) (patience_of_many_refused (rows_of (found_of c.args.options.now)) _ c.in_err-turns.ensures)
+    rw (p.1, p.2) (patience_of_many_refused (rows_of (found_of c.args.options.now)) _ c.in_err-patience.ensures)
 
 pub returns-in_err-every : goal.returns-in_err-every
 returns-in_err-every c =

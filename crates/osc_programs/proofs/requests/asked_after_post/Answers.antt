@@ -3,7 +3,7 @@ use Rattle.std.proofs.lemmas.Result.{IfOk-weaker}
 use Rattle.osc_programs.specs.{then_passed}
 use Rattle.osc_programs.specs.Staying.{asked, stopped}
 use Rattle.osc_programs.proofs.Passing.{passes_more}
-use Rattle.osc_programs.proofs.requests.asked_anew.Goals as goal
+use Rattle.osc_programs.proofs.requests.asked_after_post.Goals as goal
 
 pub returns-then-is_made-clause-asks : goal.returns-then-is_made-clause-asks
 returns-then-is_made-clause-asks g c =
