@@ -1,5 +1,5 @@
 -- What is known of some value, and a client's turns.
-use Rattle.std.proofs.Common.{◌≡◌, ◌∙◌, ◌+◌, ◌-◌, ◌^◌, ◌<◌, ◌≤◌, ◌≢◌, ℕ, suc, inl, inr, List, [], ◌++◌, Option, Some, None, Result, Ok, Err, IfOk, refl, sym, subst, ap, ap₂, append_assoc, append-nil, arith}
+use Rattle.std.proofs.Common.{◌≡◌, ◌∙◌, ◌+◌, ◌-◌, ◌^◌, ◌<◌, ◌≤◌, ◌≢◌, ◌⊎◌, ℕ, suc, inr, List, [], ◌++◌, Option, Some, None, Result, Ok, Err, IfOk, refl, sym, subst, ap, ap₂, append_assoc, append-nil, arith}
 use Rattle.std.specs.Option.{IfSome}
 use Rattle.std.specs.Prelude.{min}
 use Rattle.osc_model.specs.declared.step.ClientResult.{ClientResult}
@@ -13,8 +13,7 @@ use Rattle.osc_simulation.specs.{is_sealing}
 use Rattle.osc_turn.specs.{Received}
 use Rattle.osc_programs.specs.{GoesOn, GoesOnBy, Passed, Requests, Upshot, Waits, at_once, nothing_passed, told, still, then_passed, turns, TakesTurn}
 use Rattle.osc_turn.specs.Running.{Running}
-use Rattle.osc_words.specs.declared.times.Patience.{Patience}
-use Rattle.osc_programs.specs.Conversation.{IsOver, end_of, time_of}
+use Rattle.osc_programs.specs.Conversation.{IsOver, time_of}
 use Rattle.osc_programs.specs.declared.asking.AskEnd.{AskEnd}
 use Rattle.osc_programs.specs.declared.asking.AskEnd.TheVariants.{Told, Open}
 
@@ -84,11 +83,11 @@ still_open until most taken left first now passed e over so_far =
     subst (λ (all : Passed). Waits until most None first (record { passed = all; outcome = Open }) left now) (then_nothing passed) all
 
 -- the time of a client is this moment's
-pub is_early : (until : ℕ) (now : Moment) (client : Running Client) → now.ms ≡ time_of client → now.ms < until → time_of client < until
-is_early until now client e lt = subst (λ (ms : ℕ). ms < until) e lt
+pub is_early : (until : ℕ) (now : Moment) (ms : ℕ) → now.ms ≡ ms → now.ms < until → ms < until
+is_early until now ms e lt = subst (λ (n : ℕ). n < until) e lt
 
-pub is_late : (until left : ℕ) (now : Moment) (client : Running Client) → now.ms ≡ time_of client → until ≤ now.ms → IsOver until left client
-is_late until left now client e le = inr (subst (λ (ms : ℕ). until ≤ ms) e le)
+pub is_late : (until left : ℕ) (now : Moment) (ms : ℕ) → now.ms ≡ ms → until ≤ now.ms → (left ≡ 0) ⊎ (until ≤ ms)
+is_late until left now ms e le = inr (subst (λ (n : ℕ). until ≤ n) e le)
 
 -- whatever else than a context is last
 pub is_last : (until left : ℕ) (request : Request) (result : ClientResult) (client : Running Client) → result ≢ Made
@@ -109,10 +108,9 @@ pub waits_as : (until left : ℕ) (learnt other : Option ClientResult) (first : 
     → learnt ≡ other → Waits until left other first upshot rest last → Waits until left learnt first upshot rest last
 waits_as until left learnt other first upshot rest last e waits = subst (λ (l : Option ClientResult). Waits until left l first upshot rest last) (sym e) waits
 
--- what began to wait at a moment waits as long as its patience says
-pub ends_so : (patience : Patience) (begun : Running Client) (now : Moment) (until : ℕ) → now.ms ≡ time_of begun → until ≡ min (now.ms + patience.millis) (2 ^ 64 - 1)
-    → until ≡ end_of patience begun
-ends_so patience begun now until at is = is ∙ ap (λ (ms : ℕ). min (ms + patience.millis) (2 ^ 64 - 1)) at
+-- the time from which on a client begins no further turn that began to wait at a moment
+pub ends_so : (millis : ℕ) (now : Moment) (ms until : ℕ) → now.ms ≡ ms → until ≡ min (now.ms + millis) (2 ^ 64 - 1) → until ≡ min (ms + millis) (2 ^ 64 - 1)
+ends_so millis now ms until at is = is ∙ ap (λ (n : ℕ). min (n + millis) (2 ^ 64 - 1)) at
 
 -- the same by other numbers
 pub waits_so : (until other left most : ℕ) (learnt : Option ClientResult) (first : Running Client) (upshot : Upshot) (rest : ℕ) (last : Running Client)

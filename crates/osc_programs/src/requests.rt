@@ -16,7 +16,9 @@ ghost use Rattle.osc_programs.specs.System as system;
 ghost use Rattle.osc_programs.specs.System.{Passed as AnyPassed};
 ghost use Rattle.osc_programs.specs.Unread.{TellsWhy};
 
-use crate::asking::{AskEnd, Left, Talking, awaited, client_of, client_turn, post, send_request, told};
+use crate::asking::{
+    AskEnd, Left, Talking, awaited, client_of, client_turn, post, send_request, told,
+};
 use crate::ended::{Ended, said};
 use crate::input::script_bytes;
 use crate::reading::client_settings;

@@ -9,7 +9,7 @@ pub returns-clause-converses : goal.returns-clause-converses
 returns-clause-converses g c =
     let posted = c.in_ok-learnt.ensures.posts in
     let waited = c.in_ok-exchanged.ensures.waits in
-    let until = ends_so c.args.words.now.patience _ c.in_ok-learnt.learnt.at _ c.in_ok-learnt.ensures.at c.all-left.ensures.until in
+    let until = ends_so c.args.words.now.patience.millis c.in_ok-learnt.learnt.at _ _ c.in_ok-learnt.ensures.at c.all-left.ensures.until in
     IfOk-weaker c.go_on.result _ _
     (λ outcome goes. (
       then_passed (sent_alone posted.0) (then_passed waited.0 goes.0),

@@ -9,7 +9,7 @@ pub returns-clause-once : goal.returns-clause-once
 returns-clause-once g c =
     let sent = c.in_ok-learnt.ensures.sends in
     let waited = c.in_ok-outcome.ensures.waits in
-    let until = ends_so c.args.patience _ c.in_ok-learnt.learnt.at _ c.in_ok-learnt.ensures.at c.all-left.ensures.until in (
+    let until = ends_so c.args.patience.millis c.in_ok-learnt.learnt.at _ _ c.in_ok-learnt.ensures.at c.all-left.ensures.until in (
       then_passed (sent_alone sent.0) waited.0,
       record {
         until = _;

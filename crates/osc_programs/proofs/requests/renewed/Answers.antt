@@ -8,7 +8,7 @@ use Rattle.osc_programs.proofs.requests.renewed.Goals as goal
 pub returns-clause-renews : goal.returns-clause-renews
 returns-clause-renews g c =
     let posted = c.in_ok-learnt.ensures.posts in
-    let until = ends_so c.args.patience _ c.in_ok-learnt.learnt.at _ c.in_ok-learnt.ensures.at c.all-left.ensures.until in
+    let until = ends_so c.args.patience.millis c.in_ok-learnt.learnt.at _ _ c.in_ok-learnt.ensures.at c.all-left.ensures.until in
     IfOk-weaker c.awaited.result _ _
     (λ outcome waited. (
       then_passed (sent_alone posted.0) waited.0,

@@ -24,3 +24,6 @@ returns-in-Ok-clause-takes g c =
       },
       record { given = came_given due done.0 c.in-Ok.turned.step _ _ done.1; handed = done.4 },
     )
+
+pub returns-in-Ok-clause-at : goal.returns-in-Ok-clause-at
+returns-in-Ok-clause-at g c = c.in_ok-now.ensures.gives.reads.is_moment
