@@ -1,10 +1,10 @@
 -- Why settings are none, as the log tells it before `settings: bad`: the key and what should be there, never what is there.
 use Rattle.std.specs.Prelude.{◌≡◌, ◌≢◌, ◌⊎◌, ℕ, List, ◌++◌, map, Option, Some, None, IfSome, codes, decimal}
-use Rattle.std.specs.Str.{IsUtf8}
+use Rattle.std.specs.Str.{IsUtf8, utf8_valid_len}
 use Rattle.toml.specs.Data.{Members}
 use Rattle.osc_log.specs.{IsUnreadText as Unread, Told, Writes, shown_byte}
 use Rattle.osc_log.specs.declared.form.Form.{Form}
-use Rattle.osc_words.specs.Settings.{Lacks, form_of, name_of}
+use Rattle.osc_words.specs.Settings.{Lacks, form_of, line_at, name_of}
 use Rattle.osc_programs.specs.Input.{IsBeyond, longest_settings}
 use Rattle.osc_words.specs.declared.settings.error.KeyFault.{KeyFault}
 use Rattle.osc_words.specs.declared.settings.error.KeyFault.TheVariants.{Unknown, Missing, Wrong}
@@ -20,7 +20,7 @@ key_text (Missing key) = codes "key " ++ name_of key ++ codes " is missing, and 
 key_text (Wrong key) = codes "key " ++ name_of key ++ codes " should be " ++ form_of key
 
 abbrev pub why_text : SettingsError → List ℕ
-why_text NotToml = codes "the text is no TOML"
+why_text (NotToml line) = codes "line " ++ decimal line ++ codes ": not TOML"
 why_text (Key fault) = key_text fault
 why_text (Target number fault) = codes "target " ++ decimal number ++ codes ": " ++ key_text fault
 why_text Memory = codes "out of memory"
@@ -42,9 +42,9 @@ IsLongText form text = Unread form (Some long_words) text
 
 -- ---- of which bytes
 
--- lack of memory apart, the bytes are no UTF-8, and so no TOML, or their text is at fault so
+-- lack of memory apart, the bytes are no UTF-8, and so no TOML, of which the line of the first that isn't is told; or their text is at fault so
 abbrev pub IsWhy : (Members → SettingsError → Type 0) → List ℕ → SettingsError → Type 0
-IsWhy Is bytes why = ((¬ IsUtf8 bytes) × (why ≡ NotToml)) ⊎ Lacks Is bytes why
+IsWhy Is bytes why = ((¬ IsUtf8 bytes) × (why ≡ NotToml (line_at bytes (utf8_valid_len bytes)))) ⊎ Lacks Is bytes why
 
 -- the log told what of these bytes is at fault, where they are known
 pub record TellsFault (Is : Members → SettingsError → Type 0) (bytes : Option (List ℕ)) (old new : Told) : Type 0 where

@@ -4,19 +4,20 @@ ghost use Rattle.osc_programs.specs.Ended as ends;
 ghost use Rattle.osc_log.specs.{Writes};
 ghost use Rattle.osc_programs.specs.Input.{IsWithin, TakesAtMost, longest_settings};
 ghost use Rattle.osc_programs.specs.Unread as spec;
-ghost use Rattle.osc_words.specs.Settings.{StandsFor, IsClientFault, IsFaultOfProxy, IsKeyFault, IsServerFault, AreClientSettings, AreProxySettings, AreServerSettings};
+ghost use Rattle.osc_words.specs.Settings.{StandsFor, IsClientFault, IsFaultOfProxy, IsKeyFault, IsServerFault, AreClientSettings, AreProxySettings, AreServerSettings, line_at};
+ghost use Rattle.std.specs.Str.{utf8_valid_len, valid_up_to};
 
 use crate::ended::Ended;
 use crate::input::{LONGEST_SETTINGS, bytes_within};
 use crate::unread::{long_words, unread_words};
 use osc_log::Log;
 use osc_words::{
-    ClientSettings, ProxySettings, ServerSettings, SettingsError, read_client_settings,
+    ClientSettings, ProxySettings, ServerSettings, SettingsError, line_at, read_client_settings,
     read_proxy_settings, read_server_settings,
 };
 use std::alloc::Global;
 use std::io::Read;
-use std::str;
+use std::str::{self, Utf8Error};
 
 /// The settings of a server that the reader gives. Where they are none, the log tells why.
 pub(crate) fn server_settings<I: Read, L: Log>(
@@ -43,7 +44,7 @@ fn server_settings_in(alloc: Global, bytes: &[u8]) -> Result<ServerSettings, Set
 {
     match str::from_utf8(bytes) {
         Ok(text) => read_server_settings(alloc, text),
-        Err(_) => Err(SettingsError::NotToml),
+        Err(error) => Err(not_utf8(bytes, &error)),
     }
 }
 
@@ -72,7 +73,7 @@ fn proxy_settings_in(alloc: Global, bytes: &[u8]) -> Result<ProxySettings, Setti
 {
     match str::from_utf8(bytes) {
         Ok(text) => read_proxy_settings(alloc, text),
-        Err(_) => Err(SettingsError::NotToml),
+        Err(error) => Err(not_utf8(bytes, &error)),
     }
 }
 
@@ -101,11 +102,19 @@ fn client_settings_in(alloc: Global, bytes: &[u8]) -> Result<ClientSettings, Set
 {
     match str::from_utf8(bytes) {
         Ok(text) => read_client_settings(alloc, text),
-        Err(_) => Err(SettingsError::NotToml),
+        Err(error) => Err(not_utf8(bytes, &error)),
     }
 }
 
 // ---- what they share
+
+// What is wrong with bytes that aren't UTF-8: the line of the first that isn't.
+fn not_utf8(bytes: &[u8], error: &Utf8Error) -> SettingsError
+    requires { valid_up_to error.now ≡ utf8_valid_len bytes.now }
+    ensures { result ≡ SettingsError.NotToml (line_at bytes.now (utf8_valid_len bytes.now)) }
+{
+    SettingsError::NotToml(line_at(bytes, error.valid_up_to()))
+}
 
 // All that the reader gives, where that is no more than settings may have. Where it is more, the log tells that.
 fn settings_bytes<I: Read, L: Log>(

@@ -32,7 +32,7 @@ fn why_text(alloc: Global, why: &SettingsError) -> Result<String, AllocError>
     ensures { IfOk result (λ text. string_bytes text ≡ spec.why_text why.now) }
 {
     match why {
-        SettingsError::NotToml => String::from_str(alloc, "the text is no TOML"),
+        SettingsError::NotToml(line) => format!(in alloc; "line {line}: not TOML"),
         SettingsError::Key(fault) => key_text(alloc, fault),
         SettingsError::Target(number, fault) => target_text(alloc, *number, fault),
         SettingsError::Memory => String::from_str(alloc, "out of memory"),

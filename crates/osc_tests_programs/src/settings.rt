@@ -20,7 +20,7 @@ fn secrets_are_not_printed(rt: HostRuntime) -> Result<(), Fail> {
 #[test]
 fn errors_are_told(rt: HostRuntime) -> Result<(), Fail> {
     for (error, wanted) in &[
-        (SettingsError::NotToml, "settings: bad"),
+        (SettingsError::NotToml(7), "settings: bad"),
         (
             SettingsError::Key(KeyFault::Wrong(SettingsKey::Bind)),
             "settings: bad",

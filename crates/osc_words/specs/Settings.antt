@@ -5,7 +5,7 @@ pub mod Document
 pub mod Settings
 pub mod Faults
 pub mod Inner
-pub use Document.{IsAlgorithmAt, IsBooleanAt, IsLeftOut, IsPortAt, IsSecondsAt, ListedAt, MayBeSecondsAt, MaySpellAt, SpelledAt, StandForEach, StandsFor, other_key}
+pub use Document.{IsAlgorithmAt, IsBooleanAt, IsLeftOut, IsLineOf, IsPortAt, IsSecondsAt, ListedAt, MayBeSecondsAt, MaySpellAt, SpelledAt, StandForEach, StandsFor, line_at, other_key}
 pub use Faults.{IsArrayAt, IsClientFault, IsFaultAt, IsFaultOfProxy, IsFirstFault, IsItemFault, IsKeyFault, IsOriginFault, IsOther, IsProxyFault, IsRevokedIdsFault, IsServerFault, IsTargetFault, IsTextAt, IsWrongAt, Lacks}
 pub use Keys.{form_of, name_of}
 pub use Settings.{AreAddressTexts, AreAddresses, AreAddressesAt, AreClientSettings, AreProxySettings, AreResources, AreResourcesAt, AreRevokedIds, AreRevokedIdsAt, AreServerSettings, IsAddressText, IsAlone, IsContentOf, IsFormatOf, IsOrigin, IsOriginPort, IsPathOf, IsPathText, IsResource, IsResourceTable, IsRevokedId, IsSalt, IsSubtrees, IsTarget, IsTargetTable, client_keys, proxy_keys, server_keys, target_keys}

@@ -14,6 +14,7 @@ mod values;
 
 pub use addresses::MOST_ADDRESSES;
 pub use client::{ClientSettings, read_client_settings};
+pub use document::line_at;
 pub use error::{KeyFault, SettingsError};
 pub use key::SettingsKey;
 pub use proxy::{ProxySettings, TargetSetting, read_proxy_settings};

@@ -96,7 +96,7 @@ first_fault (c ∷ ds) (suc i) d (x ∷ xs) fault lt is h s = ((x, h.0), first_f
 
 pub item_refused : (ds : List Value) (i : ℕ) (d : Value) (xs : List TargetSetting) (number : ℕ) (error : SettingsError) → i < length ds → d ≡ get_or ds i d
     → StandForEach IsTargetTable (items_view (take i ds)) xs → number ≡ length xs + 1 → IsRefusedAs number (IsItemFault (view d)) error → IsItemRefused (items_view ds) error
-item_refused ds i d xs number NotToml lt is h n s = absurd s
+item_refused ds i d xs number (NotToml line) lt is h n s = absurd s
 item_refused ds i d xs number (Key fault) lt is h n s = absurd s
 item_refused ds i d xs number (Target m fault) lt is h n s =
     let long = each_length IsTargetTable (take i ds) xs h in
@@ -109,7 +109,7 @@ pub targets_read : {R : Type 0} (listed : R → List TargetSetting) (document : 
     → MatchResult r (λ x. StandForEach IsTargetTable items (listed x)) (IsItemRefused items)
     → MatchResult r (λ x. ListedAt (name_of key.Target) IsTargetTable document (listed x)) (AreTargetsRefused document)
 targets_read listed document items (Ok x) e h = (items, items_there (name_of key.Target) document items e, h)
-targets_read listed document items (Err NotToml) e h = absurd h
+targets_read listed document items (Err (NotToml line)) e h = absurd h
 targets_read listed document items (Err (Key fault)) e h = absurd h
 targets_read listed document items (Err (Target number fault)) e h = (items, items_there (name_of key.Target) document items e, h)
 targets_read listed document items (Err error.Memory) e h = tt

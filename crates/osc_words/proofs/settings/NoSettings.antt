@@ -124,7 +124,7 @@ server_fault document fault s h a = elim h [
 ]
 
 pub no_server : (document : Members) (error : SettingsError) (s : ServerSettings) → error ≢ Memory → IsKeyFault (IsServerFault document) error → ¬ AreServerSettings document s
-no_server document NotToml s some h a = h
+no_server document (NotToml line) s some h a = h
 no_server document (Key fault) s some h a = server_fault document fault s h a
 no_server document (Target number fault) s some h a = h
 no_server document Memory s some h a = some refl
@@ -156,7 +156,7 @@ one_array : (found : Option Data) (items others : Items) → found ≡ Some (arr
 one_array found items others e f = cc
 
 pub no_proxy : (document : Members) (error : SettingsError) (s : ProxySettings) → error ≢ Memory → IsFaultOfProxy document error → ¬ AreProxySettings document s
-no_proxy document NotToml s some h a = h
+no_proxy document (NotToml line) s some h a = h
 no_proxy document (Key fault) s some h a = elim h [
   | inl other ↦ no_other proxy_keys document fault other a.keys
   | inr only ↦ elim only.1 [
@@ -217,7 +217,7 @@ client_fault document fault s h a = elim h [
 ]
 
 pub no_client : (document : Members) (error : SettingsError) (s : ClientSettings) → error ≢ Memory → IsKeyFault (IsClientFault document) error → ¬ AreClientSettings document s
-no_client document NotToml s some h a = h
+no_client document (NotToml line) s some h a = h
 no_client document (Key fault) s some h a = client_fault document fault s h a
 no_client document (Target number fault) s some h a = h
 no_client document Memory s some h a = some refl

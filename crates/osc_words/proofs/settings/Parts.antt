@@ -14,7 +14,7 @@ use Rattle.osc_words.specs.declared.settings.key.SettingsKey.TheVariants as key
 use Rattle.osc_words.proofs.settings.Keys.{some_there}
 
 pub fault_within : (F G : KeyFault → Type 0) (error : SettingsError) → ((fault : KeyFault) → F fault → G fault) → IsKeyFault F error → IsKeyFault G error
-fault_within F G NotToml so h = absurd h
+fault_within F G (NotToml line) so h = absurd h
 fault_within F G (Key fault) so h = so fault h
 fault_within F G (Target number fault) so h = absurd h
 fault_within F G Memory so h = tt
@@ -76,14 +76,14 @@ host_refused document error port there right =
 
 pub proxy_refused : (F : KeyFault → Type 0) (document : Members) (error : SettingsError) → ((fault : KeyFault) → F fault → IsProxyFault document fault)
     → IsKeyFault F error → IsFaultOfProxy document error
-proxy_refused F document NotToml so h = absurd h
+proxy_refused F document (NotToml line) so h = absurd h
 proxy_refused F document (Key fault) so h = so fault h
 proxy_refused F document (Target number fault) so h = absurd h
 proxy_refused F document Memory so h = tt
 
 pub targets_refused : (document : Members) (peers : List Peer) (error : SettingsError) → other_key proxy_keys document ≡ None → AreAddressesAt (name_of key.Bind) document peers
     → AreTargetsRefused document error → IsFaultOfProxy document error
-targets_refused document peers NotToml only bind h = absurd h
+targets_refused document peers (NotToml line) only bind h = absurd h
 targets_refused document peers (Key fault) only bind h = inr (only, inr ((peers, bind), h))
 targets_refused document peers (Target number fault) only bind h = record {
   keys = only;
@@ -100,15 +100,15 @@ targets_refused document peers Memory only bind h = tt
 -- ---- of a text
 
 pub no_document : (Is : Members → SettingsError → Type 0) (text : List ℕ) (error : SettingsError) → IsNoDocument text error → Lacks Is text error
-no_document Is text NotToml h = h
+no_document Is text (NotToml line) h = h
 no_document Is text (Key fault) h = absurd h
 no_document Is text (Target number fault) h = absurd h
 no_document Is text Memory h = tt
 
 pub lacks : {S : Type 0} (Are : Members → S → Type 0) (Is : Members → SettingsError → Type 0) (text : List ℕ) (document : Members) (r : Result S SettingsError)
-    → (¬ Is document NotToml) → parse_document text ≡ Some document → MatchResult r (Are document) (Is document) → IfErr r (Lacks Is text)
+    → ((line : ℕ) → ¬ Is document (NotToml line)) → parse_document text ≡ Some document → MatchResult r (Are document) (Is document) → IfErr r (Lacks Is text)
 lacks Are Is text document (Ok s) never e h = tt
-lacks Are Is text document (Err NotToml) never e h = absurd (never h)
+lacks Are Is text document (Err (NotToml line)) never e h = absurd (never line h)
 lacks Are Is text document (Err (Key fault)) never e h = subst (λ o. IsSomeAnd o (λ document. Is document (Key fault))) (sym e) h
 lacks Are Is text document (Err (Target number fault)) never e h = subst (λ o. IsSomeAnd o (λ document. Is document (Target number fault))) (sym e) h
 lacks Are Is text document (Err Memory) never e h = tt
@@ -116,7 +116,7 @@ lacks Are Is text document (Err Memory) never e h = tt
 -- no settings are at fault
 pub bad : {S : Type 0} (Are : Members → S → Type 0) (Is : Members → SettingsError → Type 0) (text : List ℕ) (error : SettingsError)
     → ((document : Members) (error : SettingsError) (s : S) → error ≢ Memory → Is document error → ¬ Are document s) → Lacks Is text error → error ≢ Memory → (s : S) → ¬ StandsFor Are text s
-bad Are Is text NotToml never h some s = subst (λ o. ¬ IsSomeAnd o (λ document. Are document s)) (sym h) (λ none. none)
+bad Are Is text (NotToml line) never h some s = subst (λ o. ¬ IsSomeAnd o (λ document. Are document s)) (sym h.0) (λ none. none)
 bad Are Is text (Key fault) never h some s = by (parse_document text) h
   where
     by : (o : Option Members) → IsSomeAnd o (λ document. Is document (Key fault)) → ¬ IsSomeAnd o (λ document. Are document s)

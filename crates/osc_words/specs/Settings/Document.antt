@@ -1,5 +1,5 @@
 -- What is in a document of TOML, key by key.
-use Rattle.std.specs.Prelude.{◌≡◌, ℕ, ℤ, Bool, if◌then◌else◌, List, [], ◌∷◌, Option, Some, None, IsSomeAnd}
+use Rattle.std.specs.Prelude.{◌≡◌, ◌≤◌, ◌==◌, ◌+◌, ℕ, ℤ, Bool, if◌then◌else◌, List, [], ◌∷◌, count_by, length, take, Option, Some, None, IsSomeAnd}
 use Rattle.std.specs.List.{list_any}
 use Rattle.std.specs.Str.{bytes_eq}
 use Rattle.toml.specs.Data.{Data, Items, Members, no_members, member, no_items, item, string, integer, boolean, array, get_member}
@@ -8,6 +8,14 @@ use Rattle.osc_model.specs.declared.algorithm.Algorithm.{Algorithm}
 use Rattle.osc_words.specs.Settings.Keys.{name_of}
 use Rattle.osc_words.specs.Settings.Values.{IsAlgorithm, IsPort, IsSeconds}
 use Rattle.osc_words.specs.declared.settings.key.SettingsKey.{SettingsKey}
+
+-- the line of a place in a text, counted from 1: one more than the line ends before it
+abbrev pub line_at : List ℕ → ℕ → ℕ
+line_at text place = count_by (λ byte. byte == 10) (take place text) + 1
+
+-- it is the line of some place in the text
+abbrev pub IsLineOf : List ℕ → ℕ → Type 0
+IsLineOf text line = (place : ℕ) × (place ≤ length text) × (line ≡ line_at text place)
 
 -- the text is a document that stands for these settings
 abbrev pub StandsFor : {S : Type 0} → (Members → S → Type 0) → List ℕ → S → Type 0

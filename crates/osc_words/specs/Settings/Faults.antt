@@ -4,7 +4,7 @@ use Rattle.std.specs.Prelude.{◌≡◌, ◌⊎◌, ℕ, zero, suc, true, List, 
 use Rattle.toml.specs.Data.{Data, Items, Members, no_items, item, array, table, string, get_member}
 use Rattle.toml.specs.Parse.{parse_document}
 use Rattle.osc_model.specs.declared.node.Peer.{Peer}
-use Rattle.osc_words.specs.Settings.Document.{other_key, IsLeftOut, SpelledAt, MaySpellAt, IsAlgorithmAt, IsBooleanAt, IsPortAt, IsSecondsAt, ListedAt}
+use Rattle.osc_words.specs.Settings.Document.{other_key, IsLeftOut, IsLineOf, SpelledAt, MaySpellAt, IsAlgorithmAt, IsBooleanAt, IsPortAt, IsSecondsAt, ListedAt}
 use Rattle.osc_words.specs.Settings.Keys.{name_of}
 use Rattle.osc_words.specs.Settings.Settings.{server_keys, proxy_keys, target_keys, client_keys, AreAddressesAt, AreResourcesAt, AreRevokedIds, AreRevokedIdsAt, IsOrigin, IsPathText, IsTargetTable}
 use Rattle.osc_words.specs.Settings.Values.{IsAddress, IsFileName, IsHost, IsOpenAddress, IsRevocationPath, SpellsHex, SpellsBytes}
@@ -155,8 +155,9 @@ abbrev pub IsFaultOfProxy : Members → SettingsError → Type 0
 IsFaultOfProxy document (error.Target number fault) = IsFaultIn document number fault
 IsFaultOfProxy document other = IsKeyFault (IsProxyFault document) other
 
--- lack of memory apart, the text is no document, or one that is at fault so
+-- Lack of memory apart, the text is no document, or one that is at fault so. Of the first a line of the text is told: the parser says that its place is
+-- in the text, and no more of it.
 abbrev pub Lacks : (Members → SettingsError → Type 0) → List ℕ → SettingsError → Type 0
-Lacks Is text error.NotToml = parse_document text ≡ None
+Lacks Is text (error.NotToml line) = (parse_document text ≡ None) × IsLineOf text line
 Lacks Is text error.Memory = Unit {0}
 Lacks Is text other = IsSomeAnd (parse_document text) (λ document. Is document other)

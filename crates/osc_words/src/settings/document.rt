@@ -1,13 +1,14 @@
 //! What is in a document of TOML, key by key.
-ghost use Rattle.std.specs.Prelude.{◌≡◌, IfOk, MatchResult, None, Some, find, is_some, not, option_and_then, option_map, string_bytes};
+ghost use Rattle.std.specs.Prelude.{◌≡◌, ◌≤◌, ℕ, IfOk, MatchResult, None, Some, find, is_some, length, not, option_and_then, option_map, string_bytes};
 ghost use Rattle.std.specs.BTreeMap.{keys as keys_of};
 ghost use Rattle.std.specs.List.{list_any};
 ghost use Rattle.std.specs.Str.{bytes_eq};
 ghost use Rattle.toml.specs.Data.{as_array, as_bool, as_integer, get_member};
+ghost use Rattle.toml.specs.Errors.{IsMemory, IsWithin};
 ghost use Rattle.toml.specs.Parse.{parse_document};
 ghost use Rattle.toml.specs.View.{items_view, table_view, view};
 ghost use Rattle.osc_words.specs.Settings.Document as spec;
-ghost use Rattle.osc_words.specs.Settings.Document.{IsAlgorithmAt, IsBooleanAt, IsPortAt, IsSecondsAt, SpelledAt};
+ghost use Rattle.osc_words.specs.Settings.Document.{IsAlgorithmAt, IsBooleanAt, IsLineOf, IsPortAt, IsSecondsAt, SpelledAt};
 ghost use Rattle.osc_words.specs.Settings.Faults.{IsFaultAt, IsKeyFault, IsOther};
 ghost use Rattle.osc_words.specs.Settings.Keys.{name_of};
 ghost use Rattle.osc_words.specs.Settings.Inner.Reading as reading;
@@ -28,9 +29,28 @@ pub(crate) fn document(alloc: Global, text: &str) -> Result<Table, SettingsError
 {
     match toml::table_from_str(alloc, text) {
         Ok(table) => Ok(table),
-        Err(error) if error.is_memory() => Err(SettingsError::Memory),
-        Err(_) => Err(SettingsError::NotToml),
+        Err(error) => Err(no_document(text, &error)),
     }
+}
+
+// What is wrong with a text that this error of the parser is of.
+fn no_document(text: &str, error: &toml::de::Error) -> SettingsError
+    requires { IsWithin text.now error.now }
+    ensures memory { IsMemory error.now → result ≡ SettingsError.Memory }
+    ensures line { ¬ IsMemory error.now → (line : ℕ) × (result ≡ SettingsError.NotToml line) × IsLineOf text.now line }
+{
+    match error.span() {
+        None => SettingsError::Memory,
+        Some(span) => SettingsError::NotToml(line_at(text.as_bytes(), span.start)),
+    }
+}
+
+/// The line of a place in a text, counted from 1.
+pub fn line_at(text: &[u8], place: usize) -> usize
+    requires { place ≤ length text.now }
+    ensures { result ≡ spec.line_at text.now place }
+{
+    text[..place].iter().filter(|byte| **byte == b'\n').count() + 1
 }
 
 // ---- keys

@@ -12,9 +12,9 @@ use thiserror::Error;
 /// Why a text gives no settings: of several faults the first.
 #[derive(Debug, Drop, Error)]
 pub enum SettingsError {
-    /// It is no TOML.
+    /// It is no TOML: the line of the place where it is at fault, counted from 1.
     #[error("settings: bad")]
-    NotToml,
+    NotToml(usize),
     /// One of its keys is at fault.
     #[error("settings: bad")]
     Key(KeyFault),

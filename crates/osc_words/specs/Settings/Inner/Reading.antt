@@ -4,7 +4,7 @@ use Rattle.std.specs.declared.alloc.Global.{Global}
 use Rattle.toml.specs.Data.{Data, Items, Members, get_member, as_str}
 use Rattle.toml.specs.Parse.{parse_document}
 use Rattle.osc_model.specs.{IsPath}
-use Rattle.osc_words.specs.Settings.Document.{ListedAt, StandForEach}
+use Rattle.osc_words.specs.Settings.Document.{IsLineOf, ListedAt, StandForEach}
 use Rattle.osc_words.specs.Settings.Faults.{IsArrayAt, IsFaultAt, IsFirstFault, IsKeyFault}
 use Rattle.osc_words.specs.Settings.Keys.{name_of}
 use Rattle.osc_words.specs.declared.settings.error.KeyFault.{KeyFault}
@@ -18,7 +18,7 @@ use Rattle.osc_words.specs.declared.settings.key.SettingsKey.TheVariants as key
 
 -- the text is no document, or there was no memory
 abbrev pub IsNoDocument : List ℕ → SettingsError → Type 0
-IsNoDocument text error.NotToml = parse_document text ≡ None
+IsNoDocument text (error.NotToml line) = (parse_document text ≡ None) × IsLineOf text line
 IsNoDocument text error.Memory = Unit {0}
 IsNoDocument text other = ⊥
 

@@ -12,9 +12,9 @@ returns-in_err-table c =
     rw (p.1, p.2) (record { read = tt; lacks = none; bad = bad AreClientSettings (λ document. IsKeyFault (IsClientFault document)) c.args.text.now c.in_err-table.field-0.0 no_client none })
 
 pub returns-clause-lacks : goal.returns-clause-lacks
-returns-clause-lacks c = lacks AreClientSettings (λ document. IsKeyFault (IsClientFault document)) c.args.text.now (table_view c.in_ok-table.table) c.settings_in.result (λ h. h) c.in_ok-table.ensures c.settings_in.ensures
+returns-clause-lacks c = lacks AreClientSettings (λ document. IsKeyFault (IsClientFault document)) c.args.text.now (table_view c.in_ok-table.table) c.settings_in.result (λ line h. h) c.in_ok-table.ensures c.settings_in.ensures
 
 pub returns-clause-bad : goal.returns-clause-bad
 returns-clause-bad c =
     all_bad AreClientSettings (λ document. IsKeyFault (IsClientFault document)) c.args.text.now c.settings_in.result no_client
-    (lacks AreClientSettings (λ document. IsKeyFault (IsClientFault document)) c.args.text.now (table_view c.in_ok-table.table) c.settings_in.result (λ h. h) c.in_ok-table.ensures c.settings_in.ensures)
+    (lacks AreClientSettings (λ document. IsKeyFault (IsClientFault document)) c.args.text.now (table_view c.in_ok-table.table) c.settings_in.result (λ line h. h) c.in_ok-table.ensures c.settings_in.ensures)
