@@ -1,16 +1,19 @@
 -- What `--check` says of settings that it read. Nothing of a key, a secret, a token or a payload is in it.
-use Rattle.std.specs.Prelude.{ℕ, Bool, true, false, List, [], ◌++◌, ◌==◌, length, map, Option, Some, None, codes, decimal, if◌then◌else◌}
+use Rattle.std.specs.Prelude.{◌≡◌, ℕ, Bool, true, false, List, [], ◌++◌, ◌==◌, length, map, IfSome, Option, Some, None, codes, decimal, if◌then◌else◌}
+use Rattle.std.specs.Io.KnownBytes.{Appends}
 use Rattle.std.specs.List.{flat_map}
+use Rattle.std.specs.Str.{bytes_eq}
 use Rattle.hex.specs.Hex.{encode_lower}
 use Rattle.osc_model.specs.{algorithm_number, peer_text}
 use Rattle.osc_model.specs.declared.node.Peer.{Peer}
+use Rattle.osc_words.specs.Settings.{AreServerSettings, StandsFor}
 use Rattle.osc_words.specs.declared.settings.client.ClientSettings.{ClientSettings}
 use Rattle.osc_words.specs.declared.settings.proxy.ProxySettings.{ProxySettings}
 use Rattle.osc_words.specs.declared.settings.proxy.TargetSetting.{TargetSetting}
 use Rattle.osc_words.specs.declared.settings.resource.ResourceSetting.{ResourceSetting}
 use Rattle.osc_words.specs.declared.settings.server.ServerSettings.{ServerSettings}
 use Rattle.osc_simulation.specs.{line}
-use Rattle.osc_log.specs.{shown_byte}
+use Rattle.osc_log.specs.{IsUnreadText, Told, Writes, shown_byte}
 
 -- NAME and an address with its port
 abbrev pub address_line : List ℕ → Peer → List ℕ
@@ -74,6 +77,38 @@ abbrev pub server_text : ServerSettings → List ℕ
 server_text settings =
     flat_map (address_line (codes "bind")) settings.bind.items ++ shown_line (codes "audience") settings.audience ++ store_text settings.store
     ++ flat_map (shown_line (codes "open")) settings.open.items ++ rules_text settings ++ flat_map resource_line settings.resources.items
+
+-- ---- a key of a server that everybody knows
+
+-- the bytes 40 to 4f, which the documentation prints as a key
+abbrev pub is_printed : List ℕ → Bool
+is_printed key = bytes_eq key (codes "@ABCDEFGHIJKLMNO")
+
+abbrev pub is_printed_if : Option (List ℕ) → Bool
+is_printed_if None = false
+is_printed_if (Some key) = is_printed key
+
+-- what is said of that key, where it is the server's own or its former one
+abbrev pub printed_words : ServerSettings → Option (List ℕ)
+printed_words settings =
+    if is_printed settings.key then Some (codes "settings: key key is printed in the documentation: make one by osc key")
+    else if is_printed_if settings.old_key then Some (codes "settings: key old_key is printed in the documentation: make one by osc key")
+    else None
+
+-- the log told that
+pub record TellsPrinted (settings : ServerSettings) (old new : Told) : Type 0 where
+  pub words : List ℕ
+  pub is_printed : printed_words settings ≡ Some words
+  pub text : List ℕ
+  pub is_text : IsUnreadText old.form (Some words) text
+  pub tells : Writes old new text
+
+-- These bytes are settings of a server, and what was understood of them was written; then the log told that.
+pub record RefusesPrinted (bytes before after : Option (List ℕ)) (old new : Told) : Type 0 where
+  pub settings : ServerSettings
+  pub stands : IfSome bytes (λ text. StandsFor AreServerSettings text settings)
+  pub said : Appends before after (server_text settings)
+  pub tells : TellsPrinted settings old new
 
 -- ---- of a proxy
 

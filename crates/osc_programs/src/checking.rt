@@ -1,5 +1,5 @@
 //! Settings that are read, and no more: what was understood is said.
-ghost use Rattle.std.specs.Prelude.{◌≡◌, ◌+◌, IfSome};
+ghost use Rattle.std.specs.Prelude.{◌≡◌, ◌⊎◌, ◌+◌, IfSome, None, option_map};
 ghost use Rattle.std.specs.Io.KnownBytes.{Appends};
 ghost use Rattle.osc_programs.specs.Checked as spec;
 ghost use Rattle.osc_programs.specs.Ended as ends;
@@ -19,7 +19,8 @@ use osc_words::{ClientSettings, ProxySettings, ServerSettings};
 use std::alloc::Global;
 use std::io::{Read, Write};
 
-/// Reads the settings of a server, and writes what they are, but for what is secret. Where there are none, the log tells why.
+/// Reads the settings of a server, and writes what they are, but for what is secret. Where there are none, the log tells why. Settings with the key
+/// that the documentation prints are refused after that: anyone could mint tokens for them.
 pub fn check_server<I: Read, L: Log, W: Write>(
     alloc: Global,
     reader: &mut I,
@@ -27,14 +28,15 @@ pub fn check_server<I: Read, L: Log, W: Write>(
     writer: &mut W,
 ) -> Ended
     ensures done { result ≡ Ended.Done → (settings : ServedBy) × IfSome (I.remaining reader.old) (λ text. StandsFor AreServerSettings text settings)
-        × Appends (W.contents writer.old) (W.contents writer.new) (spec.server_text settings) }
-    ensures bad { result ≡ Ended.BadSettings → TellsWhy (λ document. IsKeyFault (IsServerFault document)) (I.remaining reader.old) (L.told log.old) (L.told log.new) }
+        × Appends (W.contents writer.old) (W.contents writer.new) (spec.server_text settings) × (spec.printed_words settings ≡ None) }
+    ensures bad { result ≡ Ended.BadSettings → TellsWhy (λ document. IsKeyFault (IsServerFault document)) (I.remaining reader.old) (L.told log.old) (L.told log.new)
+        ⊎ spec.RefusesPrinted (I.remaining reader.old) (W.contents writer.old) (W.contents writer.new) (L.told log.old) (L.told log.new) }
     ensures short { result ≡ Ended.Done → IsWithin longest_settings (I.remaining reader.old) }
     ensures end { TakesAtMost (longest_settings + 1) (I.remaining reader.old) (I.remaining reader.new) }
     ensures ends { ends.EndsNode result }
 {
     match server_settings(alloc, reader, log) {
-        Ok(settings) => say_server(alloc, &settings, writer),
+        Ok(settings) => judge_server(alloc, log, &settings, writer),
         Err(ended) => ended,
     }
 }
@@ -77,6 +79,68 @@ pub fn check_client<I: Read, L: Log, W: Write>(
         Ok(settings) => say_client(alloc, &settings, writer),
         Err(ended) => ended,
     }
+}
+
+// ---- a key that everybody knows
+
+// Says what was understood, and then refuses a key that is printed.
+fn judge_server<L: Log, W: Write>(
+    alloc: Global,
+    log: &mut L,
+    settings: &ServerSettings,
+    writer: &mut W,
+) -> Ended
+    ensures said { (result ≡ Ended.Done) ⊎ (result ≡ Ended.BadSettings) → Appends (W.contents writer.old) (W.contents writer.new) (spec.server_text settings.now) }
+    ensures done { result ≡ Ended.Done → spec.printed_words settings.now ≡ None }
+    ensures bad { result ≡ Ended.BadSettings → spec.TellsPrinted settings.now (L.told log.old) (L.told log.new) }
+    ensures ends { ends.EndsNode result }
+{
+    match say_server(alloc, settings, writer) {
+        Ended::Done => judge_keys(alloc, log, settings),
+        fault => fault,
+    }
+}
+
+fn judge_keys<L: Log>(alloc: Global, log: &mut L, settings: &ServerSettings) -> Ended
+    ensures done { result ≡ Ended.Done → spec.printed_words settings.now ≡ None }
+    ensures bad { result ≡ Ended.BadSettings → spec.TellsPrinted settings.now (L.told log.old) (L.told log.new) }
+    ensures either { (result ≡ Ended.Done) ⊎ (result ≡ Ended.BadSettings) }
+{
+    match printed_words(settings) {
+        None => Ended::Done,
+        Some(words) => {
+            log.no_settings(alloc, Some(words));
+            Ended::BadSettings
+        }
+    }
+}
+
+fn printed_words(settings: &ServerSettings) -> Option<&'static str>
+    ensures { option_map (λ words. words.now) result ≡ spec.printed_words settings.now }
+{
+    if is_printed(&settings.key) {
+        Some("settings: key key is printed in the documentation: make one by osc key")
+    } else if is_printed_if(&settings.old_key) {
+        Some("settings: key old_key is printed in the documentation: make one by osc key")
+    } else {
+        None
+    }
+}
+
+fn is_printed_if(key: &Option<[u8; 16]>) -> bool
+    ensures { result ≡ spec.is_printed_if key.now }
+{
+    match key {
+        Some(key) => is_printed(key),
+        None => false,
+    }
+}
+
+// The key that the documentation prints has the bytes 40 to 4f.
+fn is_printed(key: &[u8; 16]) -> bool
+    ensures { result ≡ spec.is_printed key.now }
+{
+    key.as_slice() == b"@ABCDEFGHIJKLMNO".as_slice()
 }
 
 // ---- what was understood
