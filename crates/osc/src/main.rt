@@ -241,7 +241,7 @@ fn server_from<I: Read + Drop>(
     let ended = if words.check {
         check_server(alloc, &mut input, &mut faults, &mut output)
     } else if let Some(form) = words.log {
-        let mut lines = Lines::new(log_form(form), AtOnce::new(rt.stderr()));
+        let mut lines = Lines::new(log_form(form), words.counters, AtOnce::new(rt.stderr()));
         serve(alloc, rt, &mut input, &mut lines, words.turns).ended
     } else {
         serve(alloc, rt, &mut input, &mut faults, words.turns).ended
@@ -288,7 +288,7 @@ fn proxy_from<I: Read + Drop>(
     let ended = if words.check {
         check_proxy(alloc, &mut input, &mut faults, &mut output)
     } else if let Some(form) = words.log {
-        let mut lines = Lines::new(log_form(form), AtOnce::new(rt.stderr()));
+        let mut lines = Lines::new(log_form(form), words.counters, AtOnce::new(rt.stderr()));
         forward(alloc, rt, &mut input, &mut lines, words.turns)
     } else {
         forward(alloc, rt, &mut input, &mut faults, words.turns)

@@ -3,7 +3,7 @@ use Rattle.std.proofs.Common.{◌≡◌, ◌∙◌, ◌/◌, ◌==◌, ℕ, Bool
 use Rattle.std.proofs.lemmas.Bool.{eqb-true, eq-eqb}
 use Rattle.osc_model.specs.declared.node.Moment.{Moment}
 use Rattle.osc_model.specs.declared.step.Datagram.{Datagram}
-use Rattle.osc_log.specs.Counters.{hourly_text}
+use Rattle.osc_log.specs.Counters.{due_text}
 use Rattle.osc_log.specs.Faults.{untold_text}
 use Rattle.osc_log.specs.Kinds.{kind_of}
 use Rattle.osc_log.specs.Limits.{after_line, limits_at, with_line}
@@ -77,8 +77,8 @@ said_of : (form : Form) (seen : Seen) (turn : Turn) (held : Held) (text : List �
 said_of form seen turn held text last serves (log.told same_turn same_held time is_time) =
     let telling = telling_of form time in
     let first = told_after telling turn seen.limits turn.step.out serves in
-    let hourly = hourly_text telling turn seen.counters held in
-    (time, is_time, inl (first.0, hourly, ap (λ (t : List ℕ). t ++ hourly) first.1))
+    let due = due_text telling turn seen.counters held in
+    (time, is_time, inl (first.0, due, ap (λ (t : List ℕ). t ++ due) first.1))
 said_of form seen turn held text last serves (log.untold same_turn same_held time is_time) = (time, is_time, inr (stands_itself (untold_text form time)))
 
 -- either of them, with more said around it

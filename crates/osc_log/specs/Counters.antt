@@ -1,5 +1,5 @@
 -- What a log counts over all turns of a node, and when it tells of that.
-use Rattle.std.specs.Prelude.{ℕ, ◌+◌, ◌-◌, ◌^◌, ◌==◌, min, Bool, false, List, ◌∷◌, [], ◌++◌, length, replicate, if◌then◌else◌, nat_le, nat_lt, Option, Some, None, is_some, codes, decimal, slice_index, slice_set, unwrap_or}
+use Rattle.std.specs.Prelude.{ℕ, ◌+◌, ◌*◌, ◌-◌, ◌^◌, ◌==◌, min, Bool, false, List, ◌∷◌, [], ◌++◌, length, replicate, if◌then◌else◌, nat_le, nat_lt, Option, Some, None, is_some, codes, decimal, slice_index, slice_set, unwrap_or}
 use Rattle.osc_model.specs.declared.node.Moment.{Moment}
 use Rattle.osc_model.specs.declared.step.RefusedRequest.{RefusedRequest}
 use Rattle.osc_log.specs.Line.{Growing, begun, ended, with_number}
@@ -8,8 +8,9 @@ use Rattle.osc_log.specs.declared.counters.Counters.{Counters}
 use Rattle.osc_log.specs.declared.held.Held.{Held}
 use Rattle.osc_log.specs.declared.held.Held.TheVariants.{Server, Proxy}
 
-abbrev pub no_counters : Counters
-no_counters = record { due = None; received = 0; sent = 0; served = 0; refused = 0; reasons = replicate 32 0 }
+-- nothing was counted, by a log that tells of it after so many seconds
+abbrev pub no_counters : ℕ → Counters
+no_counters every = record { every = every; due = None; received = 0; sent = 0; served = 0; refused = 0; reasons = replicate 32 0 }
 
 -- `some` more, as far as a number of 64 bits counts
 abbrev pub more : ℕ → ℕ → ℕ
@@ -30,14 +31,15 @@ abbrev pub with_reason : Option RefusedRequest → List ℕ → List ℕ
 with_reason None counts = counts
 with_reason (Some refused) counts = one_more (place_of refused.reason) counts
 
--- an hour after a moment, in milliseconds
-abbrev pub hour_after : Moment → ℕ
-hour_after now = now.ms + 3_600_000
+-- so many seconds after a moment, in milliseconds
+abbrev pub seconds_after : ℕ → Moment → ℕ
+seconds_after seconds now = now.ms + seconds * 1000
 
 -- a turn counts as one, with the datagram that came by it, what it sent, served and refused
 abbrev pub with_turn : Turn → Counters → Counters
 with_turn turn counters = record {
-  due = Some (unwrap_or counters.due (hour_after turn.now));
+  every = counters.every;
+  due = Some (unwrap_or counters.due (seconds_after counters.every turn.now));
   received = more counters.received (one_if turn.received);
   sent = more counters.sent (length turn.step.out);
   served = more counters.served (one_if (is_some turn.step.notes.served));
@@ -49,7 +51,7 @@ with_turn turn counters = record {
 abbrev pub with_lost : Counters → Counters
 with_lost counters = record counters { received = more counters.received 1 }
 
--- they are told by the first turn that is an hour after the first one, and by each that is an hour after they were told last
+-- they are told by the first turn that is so many seconds after the first one, and by each that is as many after they were told last
 abbrev pub is_due : Option ℕ → Turn → Bool
 is_due None turn = false
 is_due (Some due) turn = nat_le due turn.now.ms
@@ -58,7 +60,7 @@ abbrev pub are_due : Turn → Counters → Bool
 are_due turn counters = is_due counters.due turn
 
 abbrev pub told_at : Moment → Counters → Counters
-told_at now counters = record counters { due = Some (hour_after now) }
+told_at now counters = record counters { due = Some (seconds_after counters.every now) }
 
 -- after a turn, whose line of counters is told where it is due
 abbrev pub after_turn : Turn → Counters → Counters
@@ -85,5 +87,5 @@ counted_text telling now counters held =
     (with_number (codes "sent") counters.sent (with_number (codes "received") counters.received (begun telling.form now telling.time (codes "counted"))))))))
 
 -- the counters with this turn, where they are due
-abbrev pub hourly_text : Telling → Turn → Counters → Held → List ℕ
-hourly_text telling turn counters held = if are_due turn (with_turn turn counters) then counted_text telling turn.now (with_turn turn counters) held else []
+abbrev pub due_text : Telling → Turn → Counters → Held → List ℕ
+due_text telling turn counters held = if are_due turn (with_turn turn counters) then counted_text telling turn.now (with_turn turn counters) held else []

@@ -25,9 +25,9 @@ pub data Event : Type 0 where
 
 -- ---- what it says
 
--- nothing was seen yet
-abbrev pub nothing_seen : Seen
-nothing_seen = record { limits = none_told 0; counters = no_counters }
+-- nothing was seen yet, by a log that tells its counters after so many seconds
+abbrev pub nothing_seen : ℕ → Seen
+nothing_seen every = record { limits = none_told 0; counters = no_counters every }
 
 -- what is said of an event by a log that has seen this much, and what it has seen then. There may be no memory for the lines of a turn.
 pub data SaysOf (form : Form) (seen : Seen) : Event → List ℕ → Seen → Type 0 where

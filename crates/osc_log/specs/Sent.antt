@@ -2,7 +2,7 @@
 use Rattle.std.specs.Prelude.{ℕ, ◌==◌, ◌/◌, if◌then◌else◌, List, [], ◌∷◌, ◌++◌}
 use Rattle.osc_model.specs.declared.node.Moment.{Moment}
 use Rattle.osc_model.specs.declared.step.Datagram.{Datagram}
-use Rattle.osc_log.specs.Counters.{after_turn, hourly_text}
+use Rattle.osc_log.specs.Counters.{after_turn, due_text}
 use Rattle.osc_log.specs.Json as json
 use Rattle.osc_log.specs.Kinds.{kind_of}
 use Rattle.osc_log.specs.Limits.{after_line, is_told, limits_at}
@@ -70,7 +70,7 @@ telling_of form time = record { form = form; time = time }
 -- what is told of a turn at this time: its lines, and then the counters, where these are due
 abbrev pub turn_text : Form → List ℕ → Seen → Turn → Held → List ℕ
 turn_text form time seen turn held =
-    told_by (telling_of form time) turn seen.limits turn.step.out ++ hourly_text (telling_of form time) turn seen.counters held
+    told_by (telling_of form time) turn seen.limits turn.step.out ++ due_text (telling_of form time) turn seen.counters held
 
 -- what the log has seen after it
 abbrev pub seen_after : Turn → Seen → Seen

@@ -5,12 +5,11 @@ ghost use Rattle.osc_log.specs.Counters as spec;
 use crate::turn::Turn;
 use osc_model::{Moment, RefusedRequest};
 
-// How often counters are told, in milliseconds: each hour.
-const AN_HOUR: u64 = 3600000;
-
 /// What was counted since the first turn.
 #[derive(Clone, Copy, Debug, PartialEq, Eq)]
 pub(crate) struct Counters {
+    /// After how many seconds they are told.
+    pub every: u32,
     /// From which moment on they are told, in milliseconds since 1970; none before the first turn.
     pub due: Option<u64>,
     /// The datagrams that came.
@@ -26,11 +25,12 @@ pub(crate) struct Counters {
 }
 
 impl Counters {
-    /// Nothing was counted.
-    pub fn none() -> Counters
-        ensures { result ≡ spec.no_counters }
+    /// Nothing was counted; what is will be told after so many seconds.
+    pub fn none(every: u32) -> Counters
+        ensures { result ≡ spec.no_counters every }
     {
         Counters {
+            every,
             due: None,
             received: 0,
             sent: 0,
@@ -55,7 +55,8 @@ impl Counters {
         ensures { result ≡ spec.with_turn turn.entry.now self }
     {
         Counters {
-            due: Some(self.due.unwrap_or(hour_after(turn.moment()))),
+            every: self.every,
+            due: Some(self.due.unwrap_or(seconds_after(self.every, turn.moment()))),
             received: self.received.saturating_add(turn.has_received() as u64),
             sent: self.sent.saturating_add(turn.sent().len() as u64),
             served: self.served.saturating_add(turn.served().is_some() as u64),
@@ -64,7 +65,8 @@ impl Counters {
         }
     }
 
-    /// Whether they are told by this turn, which they count: the first that is an hour after the first turn, and after they were told last.
+    /// Whether they are told by this turn, which they count: the first that is so many seconds after the first turn, and
+    /// after they were told last.
     pub fn are_due(&self, turn: &Turn<'_>) -> bool
         ensures { result ≡ spec.are_due turn.entry.now self.now }
     {
@@ -91,16 +93,17 @@ impl Counters {
         ensures { result ≡ spec.told_at now self }
     {
         Counters {
-            due: Some(hour_after(now)),
+            due: Some(seconds_after(self.every, now)),
             ..self
         }
     }
 }
 
-fn hour_after(now: Moment) -> u64
-    ensures { result ≡ spec.hour_after now }
+// The millisecond that is so many seconds after a moment.
+fn seconds_after(seconds: u32, now: Moment) -> u64
+    ensures { result ≡ spec.seconds_after seconds now }
 {
-    now.ms + AN_HOUR
+    now.ms + u64::from(seconds) * 1000
 }
 
 fn with_reason(counts: [u64; 32], why: Option<RefusedRequest>) -> [u64; 32]

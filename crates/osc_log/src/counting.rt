@@ -11,14 +11,14 @@ use osc_model::Moment;
 use std::alloc::{AllocError, Global};
 
 /// The line of the counters with this turn, where they are due, and else nothing.
-pub(crate) fn hourly_text<N: TellsHeld>(
+pub(crate) fn due_text<N: TellsHeld>(
     alloc: Global,
     telling: &Telling<'_>,
     turn: &Turn<'_>,
     counters: Counters,
     node: &N,
 ) -> Result<Vec<u8>, AllocError>
-    ensures { IfOk result (λ text. text.items ≡ spec.hourly_text telling.entry.now turn.entry.now counters (N.held node.now)) }
+    ensures { IfOk result (λ text. text.items ≡ spec.due_text telling.entry.now turn.entry.now counters (N.held node.now)) }
 {
     let counters = counters.with_turn(turn);
     if counters.are_due(turn) {

@@ -1,4 +1,4 @@
-//! The log of a node: what its turns did, by lines of text or of JSON, and counters each hour.
+//! The log of a node: what its turns did, by lines of text or of JSON, and counters from time to time.
 #![tactic(auto)]
 
 mod at_once;

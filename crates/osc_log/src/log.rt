@@ -131,8 +131,8 @@ impl<W: Write + Drop> Log for Faults<W> {
 
 /// Tells by lines of one form. What is served has its line each time. Of other lines the first 20 of each kind in one second are told, and the
 /// others counted: how many they were is told by a line for each kind, before the next line of a later second. The kinds are refusals for which
-/// no security context was found, refusals of requests whose context was found, and what else was sent. Each hour a line has counters of all turns
-/// so far. Lines that can't be written are counted too, and told of once something can be written again.
+/// no security context was found, refusals of requests whose context was found, and what else was sent. A line has counters of all turns so far, after
+/// each so many seconds. Lines that can't be written are counted too, and told of once something can be written again.
 #[derive(Drop)]
 pub struct Lines<W: Write + Drop> {
     form: Form,
@@ -141,17 +141,17 @@ pub struct Lines<W: Write + Drop> {
 }
 
 impl<W: Write + Drop> Lines<W> {
-    /// Lines of this form, which this writer takes.
-    pub fn new(form: Form, writer: W) -> Lines<W>
+    /// Lines of this form, with counters after each so many seconds, which this writer takes.
+    pub fn new(form: Form, every: u32, writer: W) -> Lines<W>
         ensures form { result.form ≡ form }
         ensures output { written_by W.contents result.output ≡ none_dropped (W.contents writer) }
         ensures writer { result.output.writer ≡ writer }
-        ensures seen { result.seen ≡ spec.nothing_seen }
+        ensures seen { result.seen ≡ spec.nothing_seen every }
     {
         Lines {
             form,
             output: Output::new(writer),
-            seen: Seen::nothing(),
+            seen: Seen::nothing(every),
         }
     }
 

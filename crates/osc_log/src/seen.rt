@@ -17,13 +17,13 @@ pub(crate) struct Seen {
 }
 
 impl Seen {
-    /// Nothing yet. Takes no memory.
-    pub fn nothing() -> Seen
-        ensures { result ≡ spec.nothing_seen }
+    /// Nothing yet; what is counted will be told after so many seconds. Takes no memory.
+    pub fn nothing(every: u32) -> Seen
+        ensures { result ≡ spec.nothing_seen every }
     {
         Seen {
             limits: Limits::none(0),
-            counters: Counters::none(),
+            counters: Counters::none(every),
         }
     }
 

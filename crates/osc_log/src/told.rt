@@ -4,7 +4,7 @@ ghost use Rattle.osc_log.specs.Limits.{after_line};
 ghost use Rattle.osc_log.specs.Time.{IsTime};
 ghost use Rattle.osc_log.specs.Sent as spec;
 
-use crate::counting::hourly_text;
+use crate::counting::due_text;
 use crate::form::Form;
 use crate::held::TellsHeld;
 use crate::kind::Kind;
@@ -46,7 +46,7 @@ fn text_at<N: TellsHeld>(
     let mut text = told_by(alloc, &telling, turn, seen.limits)?;
     add(
         &mut text,
-        &hourly_text(alloc, &telling, turn, seen.counters, node)?,
+        &due_text(alloc, &telling, turn, seen.counters, node)?,
     )?;
     Ok(text)
 }

@@ -8,7 +8,7 @@ use std::test::Fail;
 #[test]
 fn a_text_has_an_end(rt: HostRuntime) -> Result<(), Fail> {
     let mut endless = Endless { given: 0 };
-    let mut lines = Lines::new(Form::Text, Vec::from_slice(rt.alloc(), b"> ")?);
+    let mut lines = Lines::new(Form::Text, 3600, Vec::from_slice(rt.alloc(), b"> ")?);
     assert_eq!(rt;
         serve(rt.alloc(), &rt, &mut endless, &mut lines, 1).ended,
         Ended::BadSettings
@@ -30,7 +30,7 @@ fn settings_end_alike_with_any_log(rt: HostRuntime) -> Result<(), Fail> {
         Ended::BadSettings
     );
     let mut reader = b"bind = 1".as_slice();
-    let mut lines = Lines::new(Form::Text, BrokenWriter { writes: 0 });
+    let mut lines = Lines::new(Form::Text, 3600, BrokenWriter { writes: 0 });
     assert_eq!(rt;
         forward(rt.alloc(), &rt, &mut reader, &mut lines, 1),
         Ended::BadSettings

@@ -98,7 +98,7 @@ fn tell<W: Write + Drop>(alloc: Global, lines: &mut Lines<W>, now: Moment, step:
 
 /// Whether this is told of the step alone.
 fn is_told(alloc: Global, form: Form, step: Step, text: &[u8]) -> bool {
-    let mut lines = Lines::new(form, Vec::new(alloc));
+    let mut lines = Lines::new(form, 3600, Vec::new(alloc));
     tell(alloc, &mut lines, moment(), &step);
     lines.into_writer().as_slice() == text
 }
@@ -248,7 +248,7 @@ fn what_is_sent(rt: HostRuntime) -> Result<(), Fail> {
 fn lines_are_written(rt: HostRuntime) -> Result<(), Fail> {
     let alloc = rt.alloc();
     let step = serving(alloc, b"\x01\xb3log")?;
-    let mut lines = Lines::new(Form::Text, Vec::from_slice(alloc, b"> ")?);
+    let mut lines = Lines::new(Form::Text, 3600, Vec::from_slice(alloc, b"> ")?);
     tell(alloc, &mut lines, moment(), &step);
     lines.lost(moment());
     assert_eq!(rt;
@@ -269,7 +269,7 @@ fn many_refusals_are_counted(rt: HostRuntime) -> Result<(), Fail> {
     let alloc = rt.alloc();
     let refused = refusing(alloc, Code::UNAUTHORIZED, None)?;
     let served = serving(alloc, b"\x01\xb3log")?;
-    let mut lines = Lines::new(Form::Text, Vec::new(alloc));
+    let mut lines = Lines::new(Form::Text, 3600, Vec::new(alloc));
     for ms in 0..23 {
         tell(alloc, &mut lines, later(ms), &refused);
     }
@@ -294,7 +294,7 @@ fn a_new_second_tells_what_was_left_out(rt: HostRuntime) -> Result<(), Fail> {
     let alloc = rt.alloc();
     let refused = refusing(alloc, Code::UNAUTHORIZED, None)?;
     let none = Step::sending(Datagrams::new(alloc));
-    let mut lines = Lines::new(Form::Text, Vec::new(alloc));
+    let mut lines = Lines::new(Form::Text, 3600, Vec::new(alloc));
     for ms in 0..23 {
         tell(alloc, &mut lines, later(ms), &refused);
     }
@@ -327,7 +327,7 @@ fn a_new_second_tells_what_was_left_out(rt: HostRuntime) -> Result<(), Fail> {
 fn a_broken_output_ends_nothing(rt: HostRuntime) -> Result<(), Fail> {
     let alloc = rt.alloc();
     let step = serving(alloc, b"\x01\xb3log")?;
-    let mut lines = Lines::new(Form::Text, BrokenWriter { writes: 1 });
+    let mut lines = Lines::new(Form::Text, 3600, BrokenWriter { writes: 1 });
     for _ in 0..3 {
         tell(alloc, &mut lines, moment(), &step);
     }
@@ -354,7 +354,7 @@ fn dropped_lines_are_told_of(rt: HostRuntime) -> Result<(), Fail> {
         taken: Vec::new(alloc),
         fd: 2,
     };
-    let mut lines = Lines::new(Form::Text, pipe);
+    let mut lines = Lines::new(Form::Text, 3600, pipe);
     // The second write that is refused is that of a notice.
     tell(alloc, &mut lines, moment(), &step);
     lines.lost(moment());
@@ -384,7 +384,7 @@ fn a_cut_line_counts(rt: HostRuntime) -> Result<(), Fail> {
         room: 60,
         taken: Vec::new(alloc),
     };
-    let mut lines = Lines::new(Form::Text, narrow);
+    let mut lines = Lines::new(Form::Text, 3600, narrow);
     tell(alloc, &mut lines, moment(), &step);
     assert_eq!(rt; lines.dropped(), 2);
     assert_eq!(rt;
@@ -451,7 +451,7 @@ fn each_line_is_an_object(rt: HostRuntime) -> Result<(), Fail> {
 
 /// The line of a wall clock that is so many seconds behind.
 fn behind_line(alloc: Global, form: Form, seconds: u64) -> Vec<u8> {
-    let mut lines = Lines::new(form, Vec::new(alloc));
+    let mut lines = Lines::new(form, 3600, Vec::new(alloc));
     lines.behind(moment(), seconds);
     lines.into_writer()
 }
@@ -480,7 +480,7 @@ fn faults_are_objects(rt: HostRuntime) -> Result<(), Fail> {
         taken: Vec::new(alloc),
         fd: 2,
     };
-    let mut lines = Lines::new(Form::Json, pipe);
+    let mut lines = Lines::new(Form::Json, 3600, pipe);
     lines.no_settings(alloc, Some("dropped"));
     tell(
         alloc,
@@ -529,7 +529,7 @@ fn shared(alloc: Global, id: &[u8]) -> Result<SharedBytes, AllocError> {
 
 /// What is told in this form of a post and of what is served, by the token of this id.
 fn told_by(alloc: Global, form: Form, id: &[u8]) -> Result<Vec<u8>, AllocError> {
-    let mut lines = Lines::new(form, Vec::new(alloc));
+    let mut lines = Lines::new(form, 3600, Vec::new(alloc));
     let post = posting(alloc, id)?;
     let served = serving_by(alloc, id)?;
     for &step in &[&post, &served] {
@@ -570,7 +570,7 @@ fn two_hours(alloc: Global, form: Form) -> Result<Vec<u8>, AllocError> {
     let replayed = refusing(alloc, Code::UNAUTHORIZED, Some(23))?;
     let served = serving(alloc, b"\x01\xb3log")?;
     let none = Step::sending(Datagrams::new(alloc));
-    let mut lines = Lines::new(form, Vec::new(alloc));
+    let mut lines = Lines::new(form, 3600, Vec::new(alloc));
     for &(ms, step) in &[
         (0, &refused),
         (1, &replayed),

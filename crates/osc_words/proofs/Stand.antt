@@ -260,6 +260,40 @@ nothing name rows option.NodeLog h (Lab turns ipv6) s = elim h.0 [
   | inl e ↦ not_token name (codes "lab") (codes "server") e s.0 refl refl
   | inr e ↦ not_token name (codes "lab") (codes "proxy") e s.0 refl refl
 ]
+nothing name rows option.NodeCounters h (Sim words) s = elim h.0 [
+  | inl e ↦ not_token name (codes "sim") (codes "server") e s.0 refl refl
+  | inr e ↦ not_token name (codes "sim") (codes "proxy") e s.0 refl refl
+]
+nothing name rows option.NodeCounters h (Token asked) s = elim h.0 [
+  | inl e ↦ not_token name (codes "token") (codes "server") e s.0 refl refl
+  | inr e ↦ not_token name (codes "token") (codes "proxy") e s.0 refl refl
+]
+nothing name rows option.NodeCounters h Key s = elim h.0 [
+  | inl e ↦ not_token name (codes "key") (codes "server") e s refl refl
+  | inr e ↦ not_token name (codes "key") (codes "proxy") e s refl refl
+]
+nothing name rows option.NodeCounters h (Store words) s = elim h.0 [
+  | inl e ↦ not_token name (codes "store") (codes "server") e s.0 refl refl
+  | inr e ↦ not_token name (codes "store") (codes "proxy") e s.0 refl refl
+]
+nothing name rows option.NodeCounters h (Server words) s = h.1 words.counters s.1.counters
+nothing name rows option.NodeCounters h (Proxy words) s = h.1 words.counters s.1.counters
+nothing name rows option.NodeCounters h (Client words) s = elim h.0 [
+  | inl e ↦ not_token name (codes "client") (codes "server") e s.0 refl refl
+  | inr e ↦ not_token name (codes "client") (codes "proxy") e s.0 refl refl
+]
+nothing name rows option.NodeCounters h (Requests words) s = elim h.0 [
+  | inl e ↦ not_token name (codes "client") (codes "server") e s.0 refl refl
+  | inr e ↦ not_token name (codes "client") (codes "proxy") e s.0 refl refl
+]
+nothing name rows option.NodeCounters h (Context words) s = elim h.0 [
+  | inl e ↦ not_token name (codes "context") (codes "server") e s.0 refl refl
+  | inr e ↦ not_token name (codes "context") (codes "proxy") e s.0 refl refl
+]
+nothing name rows option.NodeCounters h (Lab turns ipv6) s = elim h.0 [
+  | inl e ↦ not_token name (codes "lab") (codes "server") e s.0 refl refl
+  | inr e ↦ not_token name (codes "lab") (codes "proxy") e s.0 refl refl
+]
 nothing name rows option.StoreFile h (Sim words) s = not_token name (codes "sim") (codes "store") h.0 s.0 refl refl
 nothing name rows option.StoreFile h (Token asked) s = not_token name (codes "token") (codes "store") h.0 s.0 refl refl
 nothing name rows option.StoreFile h Key s = not_token name (codes "key") (codes "store") h.0 s refl refl

@@ -11,7 +11,7 @@ use Rattle.osc_words.specs.ClientWords as client
 use Rattle.osc_words.specs.Choices.{AsksMany, AsksOne, IsNotOne, command_of, not_one_text}
 use Rattle.osc_words.specs.ContextWords.{AreContextWords, SpellsContextForm}
 use Rattle.osc_words.specs.NamedOptions.{refusal_text, unread_text, value_of}
-use Rattle.osc_words.specs.NodeWords.{AreNodeWords, SpellsLogForm}
+use Rattle.osc_words.specs.NodeWords.{AreNodeWords, SayCounters, SpellsLogForm}
 use Rattle.osc_words.specs.Options.{flag_rule, form_rule, is_set, option_rule, value_rule, word_rule}
 use Rattle.osc_words.specs.RequestsWords as requests
 use Rattle.osc_words.specs.SimWords.{AreSimWords, SpellsForm}
@@ -60,11 +60,11 @@ store_app =
     with_rule (with_rule (with_rule (with_rule (new_app (codes "store")) (flag_rule (codes "dump"))) (flag_rule (codes "until-damage"))) (value_rule (codes "backup") false))
     (word_rule (codes "file"))
 
--- osc NAME [--config FILE] [--check] [--turns N] [--log[=FORM]]
+-- osc NAME [--config FILE] [--check] [--turns N] [--log[=FORM]] [--counters SECONDS]
 abbrev pub node_app : Text → App
 node_app name =
-    with_rule (with_rule (with_rule (with_rule (new_app name) (value_rule (codes "config") false)) (flag_rule (codes "check"))) (value_rule (codes "turns") false))
-    (form_rule (codes "log") (codes "text"))
+    with_rule (with_rule (with_rule (with_rule (with_rule (new_app name) (value_rule (codes "config") false)) (flag_rule (codes "check"))) (value_rule (codes "turns") false))
+    (form_rule (codes "log") (codes "text"))) (value_rule (codes "counters") false)
 
 -- osc lab --turns N [--ipv6]
 abbrev pub lab_app : App
@@ -127,6 +127,8 @@ HasNothing (Some entered) option.ProxyTurns = (entered.0 ≡ codes "proxy") × (
 HasNothing (Some entered) option.NodeConfig = ⊥
 HasNothing (Some entered) option.NodeLog =
     ((entered.0 ≡ codes "server") ⊎ (entered.0 ≡ codes "proxy")) × ((form : Option LogForm) → ¬ IsGiven SpellsLogForm (value_of option.NodeLog entered.1) form)
+HasNothing (Some entered) option.NodeCounters =
+    ((entered.0 ≡ codes "server") ⊎ (entered.0 ≡ codes "proxy")) × ((seconds : ℕ) → ¬ SayCounters entered.1 seconds)
 HasNothing (Some entered) option.StoreFile = (entered.0 ≡ codes "store") × (value_of option.StoreFile entered.1 ≡ None)
 HasNothing (Some entered) option.StoreBackup = ⊥
 HasNothing (Some entered) (option.Client refused) = AsksNothing entered.1 refused × (entered.0 ≡ codes "client")

@@ -4,7 +4,7 @@ use Rattle.clap.specs.Words.{Row, first_of}
 use Rattle.osc_words.specs.ClientOptions as client
 use Rattle.osc_words.specs.Options as token
 use Rattle.osc_words.specs.declared.named_option.NamedOption.{NamedOption}
-use Rattle.osc_words.specs.declared.named_option.NamedOption.TheVariants.{SimOnly, SimDiagram, SimPcap, NodeConfig, NodeLog, StoreFile, StoreBackup, Client, ContextForm, ContextTimeout, ContextOut, Token}
+use Rattle.osc_words.specs.declared.named_option.NamedOption.TheVariants.{SimOnly, SimDiagram, SimPcap, NodeConfig, NodeLog, NodeCounters, StoreFile, StoreBackup, Client, ContextForm, ContextTimeout, ContextOut, Token}
 
 abbrev pub name_of : NamedOption → List ℕ
 name_of SimOnly = codes "only"
@@ -12,6 +12,7 @@ name_of SimDiagram = codes "diagram"
 name_of SimPcap = codes "pcap"
 name_of NodeConfig = codes "config"
 name_of NodeLog = codes "log"
+name_of NodeCounters = codes "counters"
 name_of StoreFile = codes "file"
 name_of StoreBackup = codes "backup"
 name_of (Client option) = client.name_of option
@@ -32,6 +33,7 @@ form_of SimDiagram = codes "text or svg"
 form_of SimPcap = codes "a file"
 form_of NodeConfig = codes "a file of settings"
 form_of NodeLog = codes "text or json"
+form_of NodeCounters = codes "a number of seconds, 1 to 4294967295, beside --log"
 form_of StoreFile = codes "a file of a store"
 form_of StoreBackup = codes "a file"
 form_of (Client option) = client.form_of option

@@ -303,14 +303,15 @@ fn with_node_options<'a>(
     command: Command<'a>,
     turns: NamedOption,
 ) -> Result<Command<'a>, AllocError>
-    ensures app { IfOk result (λ more. app_of more ≡ with_rule (with_rule (with_rule (with_rule (app_of command.entry)
-        (value_rule (codes "config") false)) (flag_rule (codes "check"))) (value_rule (name_of turns) false)) (form_rule (codes "log") (codes "text"))) }
+    ensures app { IfOk result (λ more. app_of more ≡ with_rule (with_rule (with_rule (with_rule (with_rule (app_of command.entry)
+        (value_rule (codes "config") false)) (flag_rule (codes "check"))) (value_rule (name_of turns) false)) (form_rule (codes "log") (codes "text"))) (value_rule (codes "counters") false)) }
     ensures local { IfOk result (λ more. (out-Command more).has_globals ≡ (out-Command command.entry).has_globals) }
 {
     let command = with_option(alloc, command, NamedOption::NodeConfig, false)?;
     let command = with_flag(alloc, command, "check", CHECK_HELP)?;
     let command = with_option(alloc, command, turns, false)?;
-    with_form(alloc, command, NamedOption::NodeLog, "text")
+    let command = with_form(alloc, command, NamedOption::NodeLog, "text")?;
+    with_option(alloc, command, NamedOption::NodeCounters, false)
 }
 
 // The subcommand that asks a server.

@@ -27,6 +27,8 @@ pub enum NamedOption {
     StoreBackup,
     /// `--log` of `osc server` and `osc proxy`: how it tells of each turn.
     NodeLog,
+    /// `--counters` of `osc server` and `osc proxy`: after how many seconds that tells its counters.
+    NodeCounters,
     /// An option of `osc client`.
     Client(ClientOption),
     /// `--form` of `osc context`: for which stack the context is written.
@@ -53,6 +55,7 @@ impl NamedOption {
             NamedOption::SimPcap => "pcap",
             NamedOption::NodeConfig => "config",
             NamedOption::NodeLog => "log",
+            NamedOption::NodeCounters => "counters",
             NamedOption::StoreFile => "file",
             NamedOption::StoreBackup => "backup",
             NamedOption::Client(option) => option.name(),
@@ -76,6 +79,7 @@ impl NamedOption {
             NamedOption::SimPcap | NamedOption::StoreBackup | NamedOption::ContextOut => "a file",
             NamedOption::NodeConfig => "a file of settings",
             NamedOption::NodeLog => "text or json",
+            NamedOption::NodeCounters => "a number of seconds, 1 to 4294967295, beside --log",
             NamedOption::StoreFile => "a file of a store",
             NamedOption::Client(option) => option.form(),
             NamedOption::ContextForm => "libcoap, aiocoap or json",
@@ -106,7 +110,7 @@ impl NamedOption {
             NamedOption::SimDiagram | NamedOption::NodeLog | NamedOption::ContextForm => "FORM",
             NamedOption::SimPcap | NamedOption::NodeConfig | NamedOption::StoreFile => "FILE",
             NamedOption::StoreBackup | NamedOption::ContextOut => "TO",
-            NamedOption::ContextTimeout => "SECONDS",
+            NamedOption::ContextTimeout | NamedOption::NodeCounters => "SECONDS",
             NamedOption::Client(option) => option.value_name(),
             NamedOption::Token(option) => option.value_name(),
         }
@@ -129,6 +133,8 @@ impl NamedOption {
                 "A file that the settings stand in; the standard input by default",
             NamedOption::NodeLog =>
                 "Tells of each request that is served or refused, on the standard error: as text, or as json",
+            NamedOption::NodeCounters =>
+                "How many seconds after a line of counters --log tells the next one; 3600 by default",
             NamedOption::StoreFile => "The file that a server's settings name as its store",
             NamedOption::StoreBackup => "A new file that alone is a store of the same resources",
             NamedOption::Client(option) => option.help(),

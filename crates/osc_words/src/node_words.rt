@@ -2,7 +2,8 @@
 ghost use Rattle.std.specs.Prelude.{◌≡◌, IfNone, MatchResult};
 ghost use Rattle.clap.specs.Words.{found_of, rows_of};
 ghost use Rattle.osc_words.specs.NodeWords as spec;
-ghost use Rattle.osc_words.specs.Inner.Reading.{IsNodeRefusal};
+ghost use Rattle.osc_script.specs.{Reads};
+ghost use Rattle.osc_words.specs.Inner.Reading.{IsNodeRefusal, IsRefusalOf};
 ghost use Rattle.osc_words.specs.declared.node_words.LogForm.{LogForm as AnyForm};
 
 use crate::given;
@@ -10,6 +11,7 @@ use crate::named_option::NamedOption;
 use crate::source::FileName;
 use crate::words::WordsError;
 use clap::ArgMatches;
+use osc_script::values;
 use std::alloc::Global;
 
 /// What a server or a proxy is asked for.
@@ -19,6 +21,8 @@ pub struct NodeWords {
     pub turns: u64,
     /// How it tells of each turn, if it does.
     pub log: Option<LogForm>,
+    /// After how many seconds that tells its counters.
+    pub counters: u32,
     /// Whether it only reads its settings, and says what it understood.
     pub check: bool,
     /// The file that its settings are in; they come on the standard input where there is none.
@@ -63,7 +67,34 @@ pub(crate) fn node_words(
     Ok(NodeWords {
         turns: given::turns(options, turns)?,
         log: given::log_form(options, NamedOption::NodeLog)?,
+        counters: counters(options)?,
         check: given::is_set(options, "check"),
         config: given::file(alloc, options, NamedOption::NodeConfig)?,
     })
+}
+
+// After how many seconds a log tells its counters.
+fn counters(options: &ArgMatches<'_>) -> Result<u32, WordsError>
+    ensures { MatchResult result
+        (spec.SayCounters (rows_of (found_of options.now)))
+        (IsRefusalOf NamedOption.NodeCounters (spec.SayCounters (rows_of (found_of options.now)))) }
+{
+    let option = NamedOption::NodeCounters;
+    let log = given::text(options, NamedOption::NodeLog);
+    match (log, given::text(options, option)) {
+        (_, None) => Ok(3600),
+        (Some(_), Some(text)) => seconds(text).ok_or(WordsError::Value(option)),
+        (None, Some(_)) => Err(WordsError::Value(option)),
+    }
+}
+
+fn seconds(text: &str) -> Option<u32>
+    ensures { Reads (spec.SpellsCounters text.now) result }
+{
+    let seconds = values::number(text)?;
+    if 1 <= seconds && seconds <= 4294967295 {
+        Some(seconds as u32)
+    } else {
+        None
+    }
 }

@@ -27,9 +27,9 @@ pub enum Words {
     Key,
     /// `osc store [--dump] [--until-damage] [--backup TO] FILE`: list what the store in this file holds.
     Store(StoreWords),
-    /// `osc server [--config FILE] [--check] [--turns N] [--log[=FORM]]`: run a server.
+    /// `osc server [--config FILE] [--check] [--turns N] [--log[=FORM]] [--counters SECONDS]`: run a server.
     Server(NodeWords),
-    /// `osc proxy [--config FILE] [--check] [--turns N] [--log[=FORM]]`: run a forward proxy.
+    /// `osc proxy [--config FILE] [--check] [--turns N] [--log[=FORM]] [--counters SECONDS]`: run a forward proxy.
     Proxy(NodeWords),
     /// `osc client`: post a token and send a request.
     Client(ClientWords),

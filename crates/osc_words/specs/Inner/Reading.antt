@@ -8,7 +8,7 @@ use Rattle.osc_words.specs.Command.{AreWords, HasNothing, HasNotOne}
 use Rattle.osc_words.specs.Choices.{IsNotOne, command_of}
 use Rattle.osc_words.specs.ContextWords.{SpellsContextForm}
 use Rattle.osc_words.specs.NamedOptions as named
-use Rattle.osc_words.specs.NodeWords.{SpellsLogForm}
+use Rattle.osc_words.specs.NodeWords.{SayCounters, SpellsLogForm}
 use Rattle.osc_words.specs.Options.{value_of}
 use Rattle.osc_words.specs.RequestsWords as requests
 use Rattle.osc_words.specs.Sources.{file_option_of, option_of}
@@ -19,7 +19,7 @@ use Rattle.osc_words.specs.declared.choice.Choice.TheVariants.{Hidden, Patience}
 use Rattle.osc_words.specs.declared.client_option.ClientOption.TheVariants.{Turns, Timeout}
 use Rattle.osc_words.specs.declared.hidden_option.HiddenOption.{HiddenOption}
 use Rattle.osc_words.specs.declared.named_option.NamedOption.{NamedOption}
-use Rattle.osc_words.specs.declared.named_option.NamedOption.TheVariants.{Client, ContextForm, ContextTimeout, NodeLog, Token}
+use Rattle.osc_words.specs.declared.named_option.NamedOption.TheVariants.{Client, ContextForm, ContextTimeout, NodeCounters, NodeLog, Token}
 use Rattle.osc_words.specs.declared.times.Patience.{Patience as AnyPatience}
 use Rattle.osc_words.specs.declared.words.Words.{Words}
 use Rattle.osc_words.specs.declared.words.WordsError.{WordsError}
@@ -33,10 +33,11 @@ IsRefusalOf option P (NotOne hidden) = ⊥
 IsRefusalOf option P (Unread hidden) = ⊥
 IsRefusalOf option P Memory = Unit {0}
 
--- a node's `--turns`, which is this option, is refused, or its `--log`
+-- a node's `--turns`, which is this option, is refused, or its `--log`, or its `--counters`
 abbrev pub IsNodeRefusal : NamedOption → List Row → WordsError → Type 0
 IsNodeRefusal turns rows error =
-    IsRefusalOf turns (SpellsTurns (named.value_of turns rows)) error ⊎ IsRefusalOf NodeLog (IsGiven SpellsLogForm (named.value_of NodeLog rows)) error
+    IsRefusalOf turns (SpellsTurns (named.value_of turns rows)) error
+    ⊎ (IsRefusalOf NodeLog (IsGiven SpellsLogForm (named.value_of NodeLog rows)) error ⊎ IsRefusalOf NodeCounters (SayCounters rows) error)
 
 -- a value that others should not see is in this file, or in none and is given
 abbrev pub IsInOne : HiddenOption → List Row → Option (List ℕ) → Type 0
