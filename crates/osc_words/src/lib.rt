@@ -35,7 +35,7 @@ pub use request_lines::read_requests;
 pub use requests_words::RequestsWords;
 pub use settings::{
     ClientSettings, KeyFault, MOST_ADDRESSES, ProxySettings, ResourceSetting, ServerSettings,
-    SettingsError, SettingsKey, StoreFile, TargetSetting, line_at, read_client_settings,
+    SettingsError, SettingsKey, StoreDisk, StoreFile, TargetSetting, line_at, read_client_settings,
     read_proxy_settings, read_server_settings,
 };
 pub use sim_words::{DiagramForm, SimWords};

@@ -20,4 +20,4 @@ pub use key::SettingsKey;
 pub use proxy::{ProxySettings, TargetSetting, read_proxy_settings};
 pub use resource::ResourceSetting;
 pub use server::{ServerSettings, read_server_settings};
-pub use store_file::StoreFile;
+pub use store_file::{StoreDisk, StoreFile};

@@ -2,7 +2,7 @@
 use Rattle.std.proofs.Common.{◌≡◌, ◌≢◌, ℕ, Bool, zero, suc, List, [], ◌∷◌, Option, Some, None, refl, inl, inr, sym, ◌∙◌, subst}
 use Rattle.toml.specs.Data.{Data, Items, Members, no_items, item, array, string, get_member}
 use Rattle.osc_model.specs.declared.node.Peer.{Peer}
-use Rattle.osc_words.specs.Settings.{IsBooleanAt, IsPortAt, IsSecondsAt, ListedAt, MayBeSecondsAt, MaySpellAt, SpelledAt, StandForEach, other_key, IsArrayAt, IsClientFault, IsFaultAt, IsFaultOfProxy, IsFirstFault, IsItemFault, IsKeyFault, IsOriginFault, IsOther, IsRevokedIdsFault, IsServerFault, IsTargetFault, IsTextAt, IsWrongAt, name_of, AreAddressesAt, AreClientSettings, AreProxySettings, AreRevokedIds, AreRevokedIdsAt, AreServerSettings, IsOrigin, IsPathText, IsSubtrees, IsTarget, IsTargetTable, client_keys, proxy_keys, server_keys, target_keys, IsAddress, IsFileName, IsHost, IsOpenAddress, IsRevocationPath, SpellsBytes, SpellsHex}
+use Rattle.osc_words.specs.Settings.{IsBooleanAt, IsPortAt, IsSecondsAt, ListedAt, MayBeSecondsAt, MaySpellAt, SpelledAt, StandForEach, other_key, IsArrayAt, IsClientFault, IsFaultAt, IsFaultOfProxy, IsFirstFault, IsItemFault, IsKeyFault, IsOriginFault, IsOther, IsRevokedIdsFault, IsServerFault, IsStoreDiskFault, IsTargetFault, IsTextAt, IsWrongAt, name_of, AreAddressesAt, AreClientSettings, AreProxySettings, AreRevokedIds, AreRevokedIdsAt, AreServerSettings, IsOrigin, IsPathText, IsStoreDisk, IsSubtrees, IsTarget, IsTargetTable, client_keys, proxy_keys, server_keys, target_keys, IsAddress, IsFileName, IsHost, IsOpenAddress, IsRevocationPath, SpellsBytes, SpellsHex}
 use Rattle.osc_words.specs.declared.settings.client.ClientSettings.{ClientSettings}
 use Rattle.osc_words.specs.declared.settings.error.KeyFault.{KeyFault}
 use Rattle.osc_words.specs.declared.settings.error.SettingsError.{SettingsError}
@@ -12,6 +12,8 @@ use Rattle.osc_words.specs.declared.settings.key.SettingsKey.TheVariants as key
 use Rattle.osc_words.specs.declared.settings.proxy.ProxySettings.{ProxySettings}
 use Rattle.osc_words.specs.declared.settings.proxy.TargetSetting.{TargetSetting}
 use Rattle.osc_words.specs.declared.settings.server.ServerSettings.{ServerSettings}
+use Rattle.osc_words.specs.declared.settings.store_file.StoreDisk.{StoreDisk}
+use Rattle.osc_words.specs.declared.settings.store_file.StoreDisk.TheVariants.{Any, WholeSectors}
 use Rattle.osc_words.proofs.settings.Keys.{some_there}
 
 -- ---- of one key
@@ -81,6 +83,16 @@ no_ids document fault (Some root) ids h r a = elim h [
 no_subtrees : (document : Members) (fault : KeyFault) (may : Bool) → IsWrongAt key.Subtrees IsBooleanAt document fault → IsSubtrees document may → ⊥
 no_subtrees document fault may h a = elim a [ inl there ↦ h.1 may there | inr out ↦ some_there (get_member (name_of key.Subtrees) document) h.0 out.0 ]
 
+no_disk : (document : Members) (fault : KeyFault) (disk : StoreDisk) → IsStoreDiskFault document fault → IsStoreDisk document disk → ⊥
+no_disk document fault Any h a = elim h [
+  | inl wrong ↦ some_there (get_member (name_of key.StoreDisk) document) wrong.0 a
+  | inr storeless ↦ there_not (get_member (name_of key.StoreDisk) document) _ storeless.0 a
+]
+no_disk document fault WholeSectors h a = elim h [
+  | inl wrong ↦ wrong.1 a.0
+  | inr storeless ↦ some_there (get_member (name_of key.Store) document) a.1 storeless.1
+]
+
 server_fault : (document : Members) (fault : KeyFault) (s : ServerSettings) → IsServerFault document fault → AreServerSettings document s → ⊥
 server_fault document fault s h a = elim h [
   | inl other ↦ no_other server_keys document fault other a.keys
@@ -106,9 +118,12 @@ server_fault document fault s h a = elim h [
                       | inl subtrees ↦ no_subtrees document fault s.subtrees subtrees a.subtrees
                       | inr reached ↦ elim reached.1 [
                         | inl store ↦ no_may key.Store IsFileName document fault s.store store a.store
-                        | inr kept ↦ elim a.resources [
-                          | inl there ↦ kept.1.1 s.resources.items there
-                          | inr out ↦ some_there (get_member (name_of key.Resource) document) kept.1.0 out.0
+                        | inr kept ↦ elim kept.1 [
+                          | inl disk ↦ no_disk document fault s.store_disk disk a.store_disk
+                          | inr supposed ↦ elim a.resources [
+                            | inl there ↦ supposed.1.1 s.resources.items there
+                            | inr out ↦ some_there (get_member (name_of key.Resource) document) supposed.1.0 out.0
+                          ]
                         ]
                       ]
                     ]

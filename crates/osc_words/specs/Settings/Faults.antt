@@ -6,7 +6,7 @@ use Rattle.toml.specs.Parse.{parse_document}
 use Rattle.osc_model.specs.declared.node.Peer.{Peer}
 use Rattle.osc_words.specs.Settings.Document.{other_key, IsLeftOut, IsLineOf, SpelledAt, MaySpellAt, IsAlgorithmAt, IsBooleanAt, IsPortAt, IsSecondsAt, ListedAt}
 use Rattle.osc_words.specs.Settings.Keys.{name_of}
-use Rattle.osc_words.specs.Settings.Settings.{server_keys, proxy_keys, target_keys, client_keys, AreAddressesAt, AreResourcesAt, AreRevokedIds, AreRevokedIdsAt, IsOrigin, IsPathText, IsTargetTable}
+use Rattle.osc_words.specs.Settings.Settings.{server_keys, proxy_keys, target_keys, client_keys, AreAddressesAt, AreResourcesAt, AreRevokedIds, AreRevokedIdsAt, IsOrigin, IsPathText, IsStoreDisk, IsTargetTable, IsWhole}
 use Rattle.osc_words.specs.Settings.Values.{IsAddress, IsFileName, IsHost, IsOpenAddress, IsRevocationPath, SpellsHex, SpellsBytes}
 use Rattle.osc_words.specs.declared.settings.error.KeyFault.{KeyFault}
 use Rattle.osc_words.specs.declared.settings.error.KeyFault.TheVariants.{Unknown, Missing, Wrong}
@@ -15,6 +15,7 @@ use Rattle.osc_words.specs.declared.settings.error.SettingsError.TheVariants as 
 use Rattle.osc_words.specs.declared.settings.key.SettingsKey.{SettingsKey}
 use Rattle.osc_words.specs.declared.settings.key.SettingsKey.TheVariants as key
 use Rattle.osc_words.specs.declared.settings.proxy.TargetSetting.{TargetSetting}
+use Rattle.osc_words.specs.declared.settings.store_file.StoreDisk.{StoreDisk}
 
 -- ---- of one key
 
@@ -61,6 +62,15 @@ abbrev pub RevokedIdsThen : Members → (KeyFault → Type 0) → KeyFault → T
 RevokedIdsThen document Later fault = IsRevokedIdsFault document fault
     ⊎ (((root : Option (List ℕ)) × (ids : List (List ℕ)) × MaySpellAt (name_of key.Revoked) IsRevocationPath document root × AreRevokedIds root document ids) × Later fault)
 
+-- what is said of the disk is no such text, or there is no store
+abbrev pub IsStoreDiskFault : Members → KeyFault → Type 0
+IsStoreDiskFault document fault =
+    ((is_some (get_member (name_of key.StoreDisk) document) ≡ true) × (¬ IsWhole document) × (fault ≡ Wrong key.StoreDisk))
+    ⊎ (IsWhole document × IsLeftOut (name_of key.Store) document × (fault ≡ Missing key.Store))
+
+abbrev pub StoreDiskThen : Members → (KeyFault → Type 0) → KeyFault → Type 0
+StoreDiskThen document Later fault = IsStoreDiskFault document fault ⊎ (((disk : StoreDisk) × IsStoreDisk document disk) × Later fault)
+
 abbrev pub IsServerFault : Members → KeyFault → Type 0
 IsServerFault document =
     OnlyThen server_keys document
@@ -75,7 +85,8 @@ IsServerFault document =
     (MayThen key.ReservedId (λ key. SpelledAt key (SpellsBytes 0 64)) document
     (MayThen key.Subtrees IsBooleanAt document
     (MayThen key.Store (λ key. SpelledAt key IsFileName) document
-    (IsWrongAt key.Resource AreResourcesAt document))))))))))))
+    (StoreDiskThen document
+    (IsWrongAt key.Resource AreResourcesAt document)))))))))))))
 
 -- ---- of a proxy
 

@@ -1,7 +1,7 @@
 -- The keys of settings: their names, and what should be at each, in words.
 use Rattle.std.specs.Prelude.{ℕ, List, codes}
 use Rattle.osc_words.specs.declared.settings.key.SettingsKey.{SettingsKey}
-use Rattle.osc_words.specs.declared.settings.key.SettingsKey.TheVariants.{Alg, Audience, Bind, Context, ContextSeconds, Format, Hex, Host, Key, OldKey, Open, Path, Peer, Port, ReservedId, Resource, Revoked, RevokedIds, Salt, Secret, Store, Subtrees, Target, Text, To, Token}
+use Rattle.osc_words.specs.declared.settings.key.SettingsKey.TheVariants.{Alg, Audience, Bind, Context, ContextSeconds, Format, Hex, Host, Key, OldKey, Open, Path, Peer, Port, ReservedId, Resource, Revoked, RevokedIds, Salt, Secret, Store, StoreDisk, Subtrees, Target, Text, To, Token}
 
 abbrev pub name_of : SettingsKey → List ℕ
 name_of Alg = codes "alg"
@@ -25,6 +25,7 @@ name_of RevokedIds = codes "revoked_ids"
 name_of Salt = codes "salt"
 name_of Secret = codes "secret"
 name_of Store = codes "store"
+name_of StoreDisk = codes "store_disk"
 name_of Subtrees = codes "subtrees"
 name_of Target = codes "target"
 name_of Text = codes "text"
@@ -53,6 +54,7 @@ form_of RevokedIds = codes "an array of at most 64 ids, as ['01', '0a02'], each 
 form_of Salt = codes "a text of at most 64 bytes in hexadecimal"
 form_of Secret = codes "a text of 1 to 64 bytes in hexadecimal"
 form_of Store = codes "a text, the name of a file"
+form_of StoreDisk = codes "the text 'whole-sectors'"
 form_of Subtrees = codes "true or false"
 form_of Target = codes "tables [[target]] of host, port and to"
 form_of Text = codes "a text"

@@ -1,5 +1,5 @@
 -- Which settings a document stands for, program by program. A key that isn't named here is in none of them.
-use Rattle.std.specs.Prelude.{◌≡◌, ◌⊎◌, ◌≤◌, ℕ, Bool, true, pos, List, [], ◌∷◌, length, Option, Some, None, codes}
+use Rattle.std.specs.Prelude.{◌≡◌, ◌⊎◌, ◌≤◌, ℕ, Bool, true, pos, List, [], ◌∷◌, length, Option, Some, None, is_some, codes}
 use Rattle.toml.specs.Data.{Data, Items, Members, array, string, integer, table, get_member}
 use Rattle.osc_model.specs.{IsPath, default_port, longest_payload, most_resources}
 use Rattle.osc_model.specs.declared.algorithm.Algorithm.{Algorithm}
@@ -14,6 +14,8 @@ use Rattle.osc_words.specs.declared.settings.proxy.ProxySettings.{ProxySettings}
 use Rattle.osc_words.specs.declared.settings.proxy.TargetSetting.{TargetSetting}
 use Rattle.osc_words.specs.declared.settings.resource.ResourceSetting.{ResourceSetting}
 use Rattle.osc_words.specs.declared.settings.server.ServerSettings.{ServerSettings}
+use Rattle.osc_words.specs.declared.settings.store_file.StoreDisk.{StoreDisk}
+use Rattle.osc_words.specs.declared.settings.store_file.StoreDisk.TheVariants as disk
 
 -- ---- of a server or a proxy
 
@@ -43,7 +45,7 @@ AreAddressesAt name document peers = (value : Data) × (get_member name document
 
 abbrev pub server_keys : List SettingsKey
 server_keys = key.Audience ∷ key.Bind ∷ key.ContextSeconds ∷ key.Key ∷ key.OldKey ∷ key.Open ∷ key.ReservedId ∷ key.Resource ∷ key.Revoked
-    ∷ key.RevokedIds ∷ key.Store ∷ key.Subtrees ∷ []
+    ∷ key.RevokedIds ∷ key.Store ∷ key.StoreDisk ∷ key.Subtrees ∷ []
 
 abbrev pub resource_keys : List SettingsKey
 resource_keys = key.Format ∷ key.Hex ∷ key.Path ∷ key.Text ∷ []
@@ -104,6 +106,15 @@ AreRevokedIds (Some root) document ids = AreRevokedIdsAt root (codes "revoked_id
 abbrev pub IsSubtrees : Members → Bool → Type 0
 IsSubtrees document may = IsBooleanAt (codes "subtrees") document may ⊎ (IsLeftOut (codes "subtrees") document × (may ≡ true))
 
+-- the owner says that the disk of the store writes each sector whole
+abbrev pub IsWhole : Members → Type 0
+IsWhole document = get_member (codes "store_disk") document ≡ Some (string (codes "whole-sectors"))
+
+-- what is supposed of the disk of a store: nothing where this is left out
+abbrev pub IsStoreDisk : Members → StoreDisk → Type 0
+IsStoreDisk document disk.Any = IsLeftOut (codes "store_disk") document
+IsStoreDisk document disk.WholeSectors = IsWhole document × (is_some (get_member (codes "store") document) ≡ true)
+
 pub record AreServerSettings (document : Members) (settings : ServerSettings) : Type 0 where
   pub keys : other_key server_keys document ≡ None
   pub bind : AreAddressesAt (codes "bind") document settings.bind.items
@@ -117,6 +128,7 @@ pub record AreServerSettings (document : Members) (settings : ServerSettings) : 
   pub reserved_id : MaySpellAt (codes "reserved_id") (SpellsBytes 0 64) document settings.reserved_id
   pub subtrees : IsSubtrees document settings.subtrees
   pub store : MaySpellAt (codes "store") IsFileName document settings.store
+  pub store_disk : IsStoreDisk document settings.store_disk
   pub resources : AreResources document settings.resources.items
 
 -- ---- of a proxy

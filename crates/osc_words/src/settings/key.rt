@@ -26,6 +26,7 @@ pub enum SettingsKey {
     Salt,
     Secret,
     Store,
+    StoreDisk,
     Subtrees,
     Target,
     Text,
@@ -60,6 +61,7 @@ impl SettingsKey {
             SettingsKey::Salt => "salt",
             SettingsKey::Secret => "secret",
             SettingsKey::Store => "store",
+            SettingsKey::StoreDisk => "store_disk",
             SettingsKey::Subtrees => "subtrees",
             SettingsKey::Target => "target",
             SettingsKey::Text => "text",
@@ -100,6 +102,7 @@ impl SettingsKey {
             }
             SettingsKey::Secret => "a text of 1 to 64 bytes in hexadecimal",
             SettingsKey::Store => "a text, the name of a file",
+            SettingsKey::StoreDisk => "the text 'whole-sectors'",
             SettingsKey::Subtrees => "true or false",
             SettingsKey::Target => "tables [[target]] of host, port and to",
             SettingsKey::Text => "a text",

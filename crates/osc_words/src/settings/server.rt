@@ -1,10 +1,10 @@
 //! Settings of a server.
-ghost use Rattle.std.specs.Prelude.{◌≢◌, IfErr, IfOk, MatchResult, codes};
+ghost use Rattle.std.specs.Prelude.{◌≢◌, ◌↔◌, IfErr, IfOk, IsTrue, MatchResult, codes};
 ghost use Rattle.toml.specs.View.{items_view, table_view, view};
 ghost use Rattle.osc_words.specs.Settings.Document.{IsBooleanAt, IsSecondsAt, ListedAt, MayBeSecondsAt, MaySpellAt, SpelledAt, StandForEach, StandsFor};
-ghost use Rattle.osc_words.specs.Settings.Faults.{IsFaultAt, IsKeyFault, IsServerFault, IsTextAt, IsWrongAt, Lacks};
+ghost use Rattle.osc_words.specs.Settings.Faults.{IsFaultAt, IsKeyFault, IsServerFault, IsStoreDiskFault, IsTextAt, IsWrongAt, Lacks};
 ghost use Rattle.osc_words.specs.Settings.Inner.Reading.{AllListedAt, IsRefusal, StandForAll};
-ghost use Rattle.osc_words.specs.Settings.Settings.{AreServerSettings, IsPathText, IsSubtrees};
+ghost use Rattle.osc_words.specs.Settings.Settings.{AreServerSettings, IsPathText, IsStoreDisk, IsSubtrees, IsWhole};
 ghost use Rattle.osc_words.specs.Settings.Values.{IsFileName, IsRevocationPath, SpellsBytes};
 ghost use Rattle.osc_words.specs.declared.settings.key.SettingsKey.TheVariants as AnyKey;
 ghost use Rattle.osc_words.specs.declared.settings.server.ServerSettings.{ServerSettings as AnySettings};
@@ -14,11 +14,11 @@ use crate::settings::document::{
     array_at, boolean_at, bytes_within_at, document, has, items_at, only, read_at,
     revocation_path_at, seconds_at, store_file_at, text_at, untyped_at,
 };
-use crate::settings::error::{SettingsError, ValueError};
+use crate::settings::error::{KeyFault, SettingsError, ValueError};
 use crate::settings::key::SettingsKey;
 use crate::settings::resource::{ResourceSetting, resources};
 use crate::settings::revoked::revoked_ids;
-use crate::settings::store_file::StoreFile;
+use crate::settings::store_file::{StoreDisk, StoreFile};
 use crate::settings::values;
 use osc_model::limits::LONGEST_ID;
 use osc_model::{Bytes, Path, Peer};
@@ -28,7 +28,7 @@ use std::fmt;
 use toml::{Table, Value};
 
 /// The keys of its settings.
-const KEYS: [SettingsKey; 12] = [
+const KEYS: [SettingsKey; 13] = [
     SettingsKey::Audience,
     SettingsKey::Bind,
     SettingsKey::ContextSeconds,
@@ -40,6 +40,7 @@ const KEYS: [SettingsKey; 12] = [
     SettingsKey::Revoked,
     SettingsKey::RevokedIds,
     SettingsKey::Store,
+    SettingsKey::StoreDisk,
     SettingsKey::Subtrees,
 ];
 
@@ -73,6 +74,9 @@ pub struct ServerSettings {
     pub subtrees: bool,
     /// The file of its store: `store`, the name of a file. Left out: its resources end with the process.
     pub store: Option<StoreFile>,
+    /// What its owner says of the disk of its store: `store_disk`, the text `whole-sectors`. Left out: nothing is supposed of it. It is where
+    /// `store` is.
+    pub store_disk: StoreDisk,
 }
 
 // The key isn't printed.
@@ -83,12 +87,12 @@ impl fmt::Debug for ServerSettings {
 }
 
 /// Reads the settings of a server: a document with the keys `bind`, `key`, `audience` and `open`, if need be with `old_key`,
-/// `revoked`, `revoked_ids` beside it, `context_seconds`, `reserved_id`, `subtrees`, `store` and `resource`, and with no other. A resource has the keys `path`, and `text` or `hex`, if need be `format`, and no other.
+/// `revoked`, `revoked_ids` beside it, `context_seconds`, `reserved_id`, `subtrees`, `store`, `store_disk` and `resource`, and with no other. A resource has the keys `path`, and `text` or `hex`, if need be `format`, and no other.
 ///
 /// # Errors
 ///
 /// The first fault where the text is no such document, `bind` before `key`, `old_key`, `audience`, `open`, `revoked`,
-/// `revoked_ids`, `context_seconds`, `reserved_id`, `subtrees`, `store` and `resource`, and `Memory` for lack of memory.
+/// `revoked_ids`, `context_seconds`, `reserved_id`, `subtrees`, `store`, `store_disk` and `resource`, and `Memory` for lack of memory.
 pub fn read_server_settings(alloc: Global, text: &str) -> Result<ServerSettings, SettingsError>
     ensures read { IfOk result (StandsFor AreServerSettings text.now) }
     ensures lacks { IfErr result (Lacks (λ document. IsKeyFault (IsServerFault document)) text.now) }
@@ -121,6 +125,7 @@ fn settings_in(alloc: Global, table: &Table) -> Result<ServerSettings, SettingsE
         reserved_id: reserved_id(alloc, table)?,
         subtrees: subtrees(table)?,
         store: store(alloc, table)?,
+        store_disk: store_disk(table)?,
         resources: resources(alloc, table)?,
     })
 }
@@ -215,6 +220,28 @@ fn store(alloc: Global, table: &Table) -> Result<Option<StoreFile>, SettingsErro
     } else {
         Ok(None)
     }
+}
+
+fn store_disk(table: &Table) -> Result<StoreDisk, SettingsError>
+    ensures { MatchResult result (IsStoreDisk (table_view table.now)) (IsKeyFault (IsStoreDiskFault (table_view table.now))) }
+{
+    if !has(SettingsKey::StoreDisk, table) {
+        return Ok(StoreDisk::Any);
+    }
+    if !is_whole(table) {
+        return Err(SettingsError::Key(KeyFault::Wrong(SettingsKey::StoreDisk)));
+    }
+    if has(SettingsKey::Store, table) {
+        Ok(StoreDisk::WholeSectors)
+    } else {
+        Err(SettingsError::Key(KeyFault::Missing(SettingsKey::Store)))
+    }
+}
+
+fn is_whole(table: &Table) -> bool
+    ensures { IsTrue result ↔ IsWhole (table_view table.now) }
+{
+    text_at(SettingsKey::StoreDisk, table) == Some("whole-sectors")
 }
 
 fn paths(alloc: Global, values: &[Value]) -> Result<Vec<Path>, ValueError>

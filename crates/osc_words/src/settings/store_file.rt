@@ -1,4 +1,4 @@
-//! The files that stores are in.
+//! The files that stores are in, and what is supposed of their disk.
 ghost use Rattle.std.specs.Prelude.{◌≡◌, IfOk};
 ghost use Rattle.std.specs.Str.{IsUtf8};
 
@@ -9,6 +9,15 @@ use std::marker::Model;
 #[derive(Debug, Drop)]
 pub struct StoreFile {
     text: String,
+}
+
+/// What is supposed of the disk of a store, of a write during which the power goes.
+#[derive(Clone, Copy, Debug, PartialEq, Eq)]
+pub enum StoreDisk {
+    /// Nothing.
+    Any,
+    /// Each sector is as before the write, or as after it.
+    WholeSectors,
 }
 
 impl Model for StoreFile {

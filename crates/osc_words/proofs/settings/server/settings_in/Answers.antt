@@ -2,7 +2,7 @@ use Rattle.std.proofs.Common.{◌≡◌, ℕ, List, Option, inl, inr, subst}
 use Rattle.std.proofs.lemmas.Result.{err_from_is_err_and}
 use Rattle.toml.specs.Data.{Members}
 use Rattle.toml.specs.View.{table_view}
-use Rattle.osc_words.specs.Settings.{IsBooleanAt, IsSecondsAt, ListedAt, SpelledAt, IsFaultAt, IsOther, IsRevokedIdsFault, IsServerFault, IsTextAt, IsWrongAt, AreAddressesAt, AreResourcesAt, AreRevokedIds, IsPathText, server_keys, IsFileName, IsRevocationPath, SpellsBytes}
+use Rattle.osc_words.specs.Settings.{IsBooleanAt, IsSecondsAt, ListedAt, SpelledAt, IsFaultAt, IsOther, IsRevokedIdsFault, IsServerFault, IsStoreDiskFault, IsTextAt, IsWrongAt, AreAddressesAt, AreResourcesAt, AreRevokedIds, IsPathText, server_keys, IsFileName, IsRevocationPath, SpellsBytes}
 use Rattle.osc_words.specs.declared.settings.key.SettingsKey.TheVariants as key
 use Rattle.osc_words.proofs.settings.Parts.{fault_within, may_found, seconds_found, subtrees_found}
 use Rattle.osc_words.proofs.settings.server.settings_in.Goals as goal
@@ -83,8 +83,14 @@ returns-in_err-store c =
     let document = table_view c.args.table.now in
     rw (p.1, p.2) (fault_within (IsWrongAt key.Store (λ name. SpelledAt name IsFileName) document) (IsServerFault document) c.in_err-store.field-0.0 (λ fault h. inr (c.in_ok-only.ensures, inr ((c.in_ok-bind.bind.items, c.in_ok-bind.ensures), inr ((c.in_ok-key.key, c.in_ok-key.ensures), inr (may_found key.OldKey (SpellsBytes 16 16) document c.in_ok-old_key.old_key c.in_ok-old_key.ensures, inr ((c.in_ok-audience.audience, c.in_ok-audience.ensures), inr ((c.in_ok-open.«open».items, c.in_ok-open.ensures), inr (may_found key.Revoked IsRevocationPath document c.in_ok-revoked.revoked c.in_ok-revoked.ensures, inr ((c.in_ok-revoked.revoked, c.in_ok-revoked_ids.revoked_ids.items, c.in_ok-revoked.ensures, below document c.in_ok-revoked_ids.revoked_ids.items _ _ c.as_ref.ensures.value c.in_ok-revoked_ids.ensures), inr (seconds_found key.ContextSeconds document c.in_ok-context_seconds.field-0 c.in_ok-context_seconds.ensures, inr (may_found key.ReservedId (SpellsBytes 0 64) document c.in_ok-reserved_id.field-0 c.in_ok-reserved_id.ensures, inr (subtrees_found document c.in_ok-subtrees.field-0 c.in_ok-subtrees.ensures, inl h)))))))))))) c.in_err-store.ensures)
 
+pub returns-in_err-store_disk : goal.returns-in_err-store_disk
+returns-in_err-store_disk c =
+    let p = err_from_is_err_and c.from_residual-in_err-store_disk.result c.from_residual-in_err-store_disk.ensures.1 in
+    let document = table_view c.args.table.now in
+    rw (p.1, p.2) (fault_within (IsStoreDiskFault document) (IsServerFault document) c.in_err-store_disk.field-0.0 (λ fault h. inr (c.in_ok-only.ensures, inr ((c.in_ok-bind.bind.items, c.in_ok-bind.ensures), inr ((c.in_ok-key.key, c.in_ok-key.ensures), inr (may_found key.OldKey (SpellsBytes 16 16) document c.in_ok-old_key.old_key c.in_ok-old_key.ensures, inr ((c.in_ok-audience.audience, c.in_ok-audience.ensures), inr ((c.in_ok-open.«open».items, c.in_ok-open.ensures), inr (may_found key.Revoked IsRevocationPath document c.in_ok-revoked.revoked c.in_ok-revoked.ensures, inr ((c.in_ok-revoked.revoked, c.in_ok-revoked_ids.revoked_ids.items, c.in_ok-revoked.ensures, below document c.in_ok-revoked_ids.revoked_ids.items _ _ c.as_ref.ensures.value c.in_ok-revoked_ids.ensures), inr (seconds_found key.ContextSeconds document c.in_ok-context_seconds.field-0 c.in_ok-context_seconds.ensures, inr (may_found key.ReservedId (SpellsBytes 0 64) document c.in_ok-reserved_id.field-0 c.in_ok-reserved_id.ensures, inr (subtrees_found document c.in_ok-subtrees.field-0 c.in_ok-subtrees.ensures, inr (may_found key.Store IsFileName document c.in_ok-store.field-0 c.in_ok-store.ensures, inl h))))))))))))) c.in_err-store_disk.ensures)
+
 pub returns-in_err-resources : goal.returns-in_err-resources
 returns-in_err-resources c =
     let p = err_from_is_err_and c.from_residual-in_err-resources.result c.from_residual-in_err-resources.ensures.1 in
     let document = table_view c.args.table.now in
-    rw (p.1, p.2) (fault_within (IsWrongAt key.Resource AreResourcesAt document) (IsServerFault document) c.in_err-resources.field-0.0 (λ fault h. inr (c.in_ok-only.ensures, inr ((c.in_ok-bind.bind.items, c.in_ok-bind.ensures), inr ((c.in_ok-key.key, c.in_ok-key.ensures), inr (may_found key.OldKey (SpellsBytes 16 16) document c.in_ok-old_key.old_key c.in_ok-old_key.ensures, inr ((c.in_ok-audience.audience, c.in_ok-audience.ensures), inr ((c.in_ok-open.«open».items, c.in_ok-open.ensures), inr (may_found key.Revoked IsRevocationPath document c.in_ok-revoked.revoked c.in_ok-revoked.ensures, inr ((c.in_ok-revoked.revoked, c.in_ok-revoked_ids.revoked_ids.items, c.in_ok-revoked.ensures, below document c.in_ok-revoked_ids.revoked_ids.items _ _ c.as_ref.ensures.value c.in_ok-revoked_ids.ensures), inr (seconds_found key.ContextSeconds document c.in_ok-context_seconds.field-0 c.in_ok-context_seconds.ensures, inr (may_found key.ReservedId (SpellsBytes 0 64) document c.in_ok-reserved_id.field-0 c.in_ok-reserved_id.ensures, inr (subtrees_found document c.in_ok-subtrees.field-0 c.in_ok-subtrees.ensures, inr (may_found key.Store IsFileName document c.in_ok-store.field-0 c.in_ok-store.ensures, h))))))))))))) c.in_err-resources.ensures)
+    rw (p.1, p.2) (fault_within (IsWrongAt key.Resource AreResourcesAt document) (IsServerFault document) c.in_err-resources.field-0.0 (λ fault h. inr (c.in_ok-only.ensures, inr ((c.in_ok-bind.bind.items, c.in_ok-bind.ensures), inr ((c.in_ok-key.key, c.in_ok-key.ensures), inr (may_found key.OldKey (SpellsBytes 16 16) document c.in_ok-old_key.old_key c.in_ok-old_key.ensures, inr ((c.in_ok-audience.audience, c.in_ok-audience.ensures), inr ((c.in_ok-open.«open».items, c.in_ok-open.ensures), inr (may_found key.Revoked IsRevocationPath document c.in_ok-revoked.revoked c.in_ok-revoked.ensures, inr ((c.in_ok-revoked.revoked, c.in_ok-revoked_ids.revoked_ids.items, c.in_ok-revoked.ensures, below document c.in_ok-revoked_ids.revoked_ids.items _ _ c.as_ref.ensures.value c.in_ok-revoked_ids.ensures), inr (seconds_found key.ContextSeconds document c.in_ok-context_seconds.field-0 c.in_ok-context_seconds.ensures, inr (may_found key.ReservedId (SpellsBytes 0 64) document c.in_ok-reserved_id.field-0 c.in_ok-reserved_id.ensures, inr (subtrees_found document c.in_ok-subtrees.field-0 c.in_ok-subtrees.ensures, inr (may_found key.Store IsFileName document c.in_ok-store.field-0 c.in_ok-store.ensures, inr ((c.in_ok-store_disk.field-0, c.in_ok-store_disk.ensures), h)))))))))))))) c.in_err-resources.ensures)
