@@ -4,6 +4,7 @@ use Rattle.osc_model.specs.Tree.{Tree}
 use Rattle.osc_server.specs.State.{State as Server}
 use Rattle.osc_store.specs.declared.error.KeepError.{KeepError}
 use Rattle.osc_words.specs.declared.settings.resource.ResourceSetting.{ResourceSetting}
+use Rattle.osc_words.specs.declared.settings.store_file.StoreDisk.{StoreDisk}
 use Rattle.osc_programs.specs.{EndsKept, EndsServer, EndsServing, EndsStore, EndsTurns, EndsUnkept, IsFault, IsKeptIn, IsNotKept, KeptBy, NoServer, NoSettings, NoStore, NotOpened, tree_of}
 use Rattle.osc_programs.specs.declared.ended.Ended.{Ended}
 use Rattle.osc_programs.specs.declared.ended.Ended.TheVariants.{Done, BadCommandLine, BadLine, TooLong, BadSettings, OutOfMemory, Failed, PortFailed, NotDone, Unopened, NotKept}
@@ -331,23 +332,23 @@ ended_well ended (inr not) = not_kept_kept ended not
 
 -- ---- by what its settings say of a store
 
-module _ {K : Type 0} (holds : List ℕ → List ResourceSetting → K → Tree → Type 0) (file_of : K → Option (List ℕ)) (keeps : K → Server → Type 0)
+module _ {K : Type 0} (holds : StoreDisk → List ℕ → List ResourceSetting → K → Tree → Type 0) (file_of : K → Option (List ℕ)) (keeps : K → Server → Type 0)
     (may_hold : K → Server → Server → Type 0) (trusted : K → Type 0) (faults : K → ℕ) (too_long : Server → Type 0) where
-  pub kept_without : (store : Option (List ℕ)) (resources : List ResourceSetting) (tree : Tree) (ended : Ended) (before after : Tree) → store ≡ None → tree ≡ tree_of resources
-      → KeptBy holds file_of keeps may_hold trusted faults too_long store resources tree ended before after None
-  kept_without store resources tree ended before after none is =
-      subst (λ (s : Option (List ℕ)). KeptBy holds file_of keeps may_hold trusted faults too_long s resources tree ended before after None) (sym none) is
+  pub kept_without : (store : Option (List ℕ)) (disk : StoreDisk) (resources : List ResourceSetting) (tree : Tree) (ended : Ended) (before after : Tree) → store ≡ None → tree ≡ tree_of resources
+      → KeptBy holds file_of keeps may_hold trusted faults too_long store disk resources tree ended before after None
+  kept_without store disk resources tree ended before after none is =
+      subst (λ (s : Option (List ℕ)). KeptBy holds file_of keeps may_hold trusted faults too_long s disk resources tree ended before after None) (sym none) is
 
-  kept_so : (file : List ℕ) (resources : List ResourceSetting) (tree : Tree) (ended : Ended) (before after : Tree) (keeper : Option K) → IsSome keeper
-      → IfSome keeper (IsKeptIn holds file_of keeps may_hold trusted faults too_long file resources tree ended before after)
-      → KeptBy holds file_of keeps may_hold trusted faults too_long (Some file) resources tree ended before after keeper
-  kept_so file resources tree ended before after None some it = absurd cc
-  kept_so file resources tree ended before after (Some keeper) some it = it
+  kept_so : (disk : StoreDisk) (file : List ℕ) (resources : List ResourceSetting) (tree : Tree) (ended : Ended) (before after : Tree) (keeper : Option K) → IsSome keeper
+      → IfSome keeper (IsKeptIn holds file_of keeps may_hold trusted faults too_long disk file resources tree ended before after)
+      → KeptBy holds file_of keeps may_hold trusted faults too_long (Some file) disk resources tree ended before after keeper
+  kept_so disk file resources tree ended before after None some it = absurd cc
+  kept_so disk file resources tree ended before after (Some keeper) some it = it
 
-  pub kept_stored : (store : Option (List ℕ)) (name file : List ℕ) (resources : List ResourceSetting) (tree : Tree) (ended : Ended) (before after : Tree) (keeper : Option K)
-      → store ≡ Some name → file ≡ name → IsSome keeper → IfSome keeper (IsKeptIn holds file_of keeps may_hold trusted faults too_long file resources tree ended before after)
-      → KeptBy holds file_of keeps may_hold trusted faults too_long store resources tree ended before after keeper
-  kept_stored store name file resources tree ended before after keeper is same some it =
-      subst (λ (s : Option (List ℕ)). KeptBy holds file_of keeps may_hold trusted faults too_long s resources tree ended before after keeper) (sym is)
-      (subst (λ (f : List ℕ). KeptBy holds file_of keeps may_hold trusted faults too_long (Some f) resources tree ended before after keeper) same
-      (kept_so file resources tree ended before after keeper some it))
+  pub kept_stored : (store : Option (List ℕ)) (disk : StoreDisk) (name file : List ℕ) (resources : List ResourceSetting) (tree : Tree) (ended : Ended) (before after : Tree) (keeper : Option K)
+      → store ≡ Some name → file ≡ name → IsSome keeper → IfSome keeper (IsKeptIn holds file_of keeps may_hold trusted faults too_long disk file resources tree ended before after)
+      → KeptBy holds file_of keeps may_hold trusted faults too_long store disk resources tree ended before after keeper
+  kept_stored store disk name file resources tree ended before after keeper is same some it =
+      subst (λ (s : Option (List ℕ)). KeptBy holds file_of keeps may_hold trusted faults too_long s disk resources tree ended before after keeper) (sym is)
+      (subst (λ (f : List ℕ). KeptBy holds file_of keeps may_hold trusted faults too_long (Some f) disk resources tree ended before after keeper) same
+      (kept_so disk file resources tree ended before after keeper some it))

@@ -12,6 +12,8 @@ use Rattle.osc_words.specs.declared.settings.proxy.ProxySettings.{ProxySettings}
 use Rattle.osc_words.specs.declared.settings.proxy.TargetSetting.{TargetSetting}
 use Rattle.osc_words.specs.declared.settings.resource.ResourceSetting.{ResourceSetting}
 use Rattle.osc_words.specs.declared.settings.server.ServerSettings.{ServerSettings}
+use Rattle.osc_words.specs.declared.settings.store_file.StoreDisk.{StoreDisk}
+use Rattle.osc_words.specs.declared.settings.store_file.StoreDisk.TheVariants.{Any, WholeSectors}
 use Rattle.osc_simulation.specs.{line}
 use Rattle.osc_log.specs.{IsUnreadText, Told, Writes, shown_byte}
 
@@ -38,6 +40,11 @@ resource_line resource =
 abbrev pub store_text : Option (List ℕ) → List ℕ
 store_text None = []
 store_text (Some file) = shown_line (codes "store") file
+
+-- store_disk whole-sectors, where its disk is said to write each sector whole
+abbrev pub disk_text : StoreDisk → List ℕ
+disk_text Any = []
+disk_text WholeSectors = line (codes "store_disk whole-sectors")
 
 -- revoked PATH, where it has one
 abbrev pub revoked_text : Option (List ℕ) → List ℕ
@@ -75,7 +82,7 @@ rules_text settings =
 
 abbrev pub server_text : ServerSettings → List ℕ
 server_text settings =
-    flat_map (address_line (codes "bind")) settings.bind.items ++ shown_line (codes "audience") settings.audience ++ store_text settings.store
+    flat_map (address_line (codes "bind")) settings.bind.items ++ shown_line (codes "audience") settings.audience ++ store_text settings.store ++ disk_text settings.store_disk
     ++ flat_map (shown_line (codes "open")) settings.open.items ++ rules_text settings ++ flat_map resource_line settings.resources.items
 
 -- ---- a key of a server that everybody knows

@@ -14,6 +14,7 @@ pub mod Serving
 pub mod Revoking
 pub mod System
 pub mod Kept
+pub mod ByDisk
 pub mod Storing
 pub mod Conversation
 pub mod Context

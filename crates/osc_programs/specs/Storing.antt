@@ -13,6 +13,7 @@ use Rattle.sqlite_wal.specs.Recovery.{Image}
 use Rattle.osc_model.specs.Tree.{Tree}
 use Rattle.osc_model.specs.declared.resource.Resource.{Resource}
 use Rattle.osc_words.specs.declared.settings.resource.ResourceSetting.{ResourceSetting}
+use Rattle.osc_words.specs.declared.settings.store_file.StoreDisk.{StoreDisk}
 use Rattle.osc_server.specs.State.{State as Server}
 use Rattle.osc_simulation.specs.{line}
 use Rattle.osc_store.specs.{FindsTree, Keeps, MayLeave}
@@ -43,23 +44,23 @@ pub leaves_same : {S : Type 0} (view : S → View) (recovers : S → Trees → T
     → MayLeave view recovers it before after → MayLeave view recovers it one other
 leaves_same view recovers it before one after other same too leaves = subst₂ (MayLeave view recovers it) same too leaves
 
-module _ {K : Type 0} (holds : List ℕ → List ResourceSetting → K → Tree → Type 0) (file_of : K → Option (List ℕ)) (keeps : K → Server → Type 0) (may_hold : K → Server → Server → Type 0) (trusted : K → Type 0) (faults : K → ℕ) (too_long : Server → Type 0) where
+module _ {K : Type 0} (holds : StoreDisk → List ℕ → List ResourceSetting → K → Tree → Type 0) (file_of : K → Option (List ℕ)) (keeps : K → Server → Type 0) (may_hold : K → Server → Server → Type 0) (trusted : K → Type 0) (faults : K → ℕ) (too_long : Server → Type 0) where
   -- What keeps the changes of a server that ended so is the store in the file of this name, which was opened with the resources that the server began
-  -- with. Whatever a crash leaves, the next start finds those after all that the server did; or where a change isn't kept, which has a cause, those
+  -- with, for a disk of which this is supposed. Whatever a crash leaves, the next start finds those after all that the server did; or where a change isn't kept, which has a cause, those
   -- before it or after it.
-  pub record IsKeptIn (file : List ℕ) (resources : List ResourceSetting) (tree : Tree) (ended : Ended) (before after : Tree) (keeper : K) : Type 0 where
+  pub record IsKeptIn (disk : StoreDisk) (file : List ℕ) (resources : List ResourceSetting) (tree : Tree) (ended : Ended) (before after : Tree) (keeper : K) : Type 0 where
     pub opened : K
-    pub begun : holds file resources opened tree
+    pub begun : holds disk file resources opened tree
     pub is_file : file_of keeper ≡ Some file
     pub kept : LeavesKept (KeepsTree keeps) (MayHoldTree may_hold) ended before after keeper
     pub cause : HasCause trusted faults (IsTooLongIn too_long after) opened keeper ended
 
   -- So it is where the settings name a store. Without one nothing keeps them, and the server began with the resources of its settings.
-  abbrev pub KeptBy : Option (List ℕ) → List ResourceSetting → Tree → Ended → Tree → Tree → Option K → Type 0
-  KeptBy None resources tree ended before after None = tree ≡ tree_of resources
-  KeptBy None resources tree ended before after (Some keeper) = ⊥
-  KeptBy (Some file) resources tree ended before after None = ⊥
-  KeptBy (Some file) resources tree ended before after (Some keeper) = IsKeptIn file resources tree ended before after keeper
+  abbrev pub KeptBy : Option (List ℕ) → StoreDisk → List ResourceSetting → Tree → Ended → Tree → Tree → Option K → Type 0
+  KeptBy None disk resources tree ended before after None = tree ≡ tree_of resources
+  KeptBy None disk resources tree ended before after (Some keeper) = ⊥
+  KeptBy (Some file) disk resources tree ended before after None = ⊥
+  KeptBy (Some file) disk resources tree ended before after (Some keeper) = IsKeptIn disk file resources tree ended before after keeper
 
 -- ---- `osc store`
 

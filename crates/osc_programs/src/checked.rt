@@ -7,12 +7,13 @@ use crate::rules::rules_text;
 use osc_log::shown;
 use osc_model::{Bytes, Path, Peer};
 use osc_words::{
-    ClientSettings, ProxySettings, ResourceSetting, ServerSettings, StoreFile, TargetSetting,
+    ClientSettings, ProxySettings, ResourceSetting, ServerSettings, StoreDisk, StoreFile,
+    TargetSetting,
 };
 use std::alloc::{AllocError, Global};
 
-/// Of a server: `bind ADDRESS` for each address, `audience TEXT`, `store FILE` where it has one, `open PATH` for each open path, its rules, and
-/// `resource PATH FORMAT N bytes` for each resource.
+/// Of a server: `bind ADDRESS` for each address, `audience TEXT`, `store FILE` where it has one, `store_disk whole-sectors` where that is said, `open PATH` for
+/// each open path, its rules, and `resource PATH FORMAT N bytes` for each resource.
 pub(crate) fn server_text(alloc: Global, settings: &ServerSettings) -> Result<Vec<u8>, AllocError>
     ensures { IfOk result (λ text. text.items ≡ spec.server_text settings.now) }
 {
@@ -24,6 +25,7 @@ pub(crate) fn server_text(alloc: Global, settings: &ServerSettings) -> Result<Ve
     let resources = resource_lines(alloc, &settings.resources)?;
     text.extend_from_slice(&audience)?;
     text.extend_from_slice(&store)?;
+    text.extend_from_slice(disk_text(settings.store_disk).as_bytes())?;
     text.extend_from_slice(&open)?;
     text.extend_from_slice(&rules)?;
     text.extend_from_slice(&resources)?;
@@ -90,6 +92,15 @@ fn store_text(alloc: Global, store: &Option<StoreFile>) -> Result<Vec<u8>, Alloc
     match store {
         None => Ok(Vec::new(alloc)),
         Some(file) => shown_line(alloc, "store", file.as_str().as_bytes()),
+    }
+}
+
+fn disk_text(disk: StoreDisk) -> &'static str
+    ensures { result.now ≡ spec.disk_text disk }
+{
+    match disk {
+        StoreDisk::Any => "",
+        StoreDisk::WholeSectors => "store_disk whole-sectors\n",
     }
 }
 

@@ -2,6 +2,7 @@
 #![tactic(auto)]
 
 mod asking;
+mod by_disk;
 mod checked;
 mod checking;
 mod context;

@@ -83,7 +83,7 @@ pub fn serve<R: Clock + Eprint + Seeds + Sockets + Stores, I: Read, L: Log>(
         × spec.Lives (R.gave runtime.now) (R.opened runtime.now) R.Socket.received R.Socket.sent settings tree turns result.ended events before after
         × Tells (L.told log.old) (L.told log.new) events
         × KeptBy (R.holds runtime.now) R.Keeper.file R.Keeper.keeps R.Keeper.may_hold R.Keeper.trusted R.Keeper.faults R.Keeper.too_long
-        settings.store settings.resources.items tree result.ended before after result.keeper) }
+        settings.store settings.store_disk settings.resources.items tree result.ended before after result.keeper) }
     ensures bad { result.ended ≡ Ended.BadSettings → TellsWhy (λ document. IsKeyFault (IsServerFault document)) (I.remaining reader.old) (L.told log.old) (L.told log.new) }
     ensures short { result.ended ≡ Ended.Done → IsWithin longest_settings (I.remaining reader.old) }
     ensures end { TakesAtMost (longest_settings + 1) (I.remaining reader.old) (I.remaining reader.new) }
@@ -134,7 +134,7 @@ fn serve_by<R: Clock + Eprint + Seeds + Sockets + Stores, L: Log>(
         × spec.Lives (R.gave runtime.now) (R.opened runtime.now) R.Socket.received R.Socket.sent settings tree turns result.ended events before after
         × Tells (L.told log.old) (L.told log.new) events
         × KeptBy (R.holds runtime.now) R.Keeper.file R.Keeper.keeps R.Keeper.may_hold R.Keeper.trusted R.Keeper.faults R.Keeper.too_long
-        settings.store settings.resources.items tree result.ended before after result.keeper) }
+        settings.store settings.store_disk settings.resources.items tree result.ended before after result.keeper) }
     ensures ends { ends.EndsServing result.ended }
 {
     let file = match &settings.store {
@@ -168,11 +168,11 @@ fn serve_from_store<R: Clock + Eprint + Seeds + Sockets + Stores, L: Log>(
         × spec.Lives (R.gave runtime.now) (R.opened runtime.now) R.Socket.received R.Socket.sent settings tree turns result.ended events before after
         × Tells (L.told log.old) (L.told log.new) events
         × IfSome result.keeper (IsKeptIn (R.holds runtime.now) R.Keeper.file R.Keeper.keeps R.Keeper.may_hold R.Keeper.trusted R.Keeper.faults R.Keeper.too_long
-        (string_bytes file) settings.resources.items tree result.ended before after)
+        settings.store_disk (string_bytes file) settings.resources.items tree result.ended before after)
         × IsSome result.keeper) }
     ensures ends { ends.EndsServing result.ended }
 {
-    match runtime.open_store(file.as_str(), &settings.resources) {
+    match runtime.open_store(file.as_str(), settings.store_disk, &settings.resources) {
         Ok(stored) => {
             let (ended, keeper) = serve_stored(alloc, runtime, settings, stored, log, turns);
             tell_unkept(alloc, runtime, file.as_str(), ended);

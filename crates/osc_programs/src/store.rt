@@ -15,11 +15,14 @@ ghost use Rattle.osc_server.specs.State.{State as AnyServer};
 ghost use Rattle.osc_turn.specs.Kept.Changes.{HasTooLong};
 ghost use Rattle.osc_turn.specs.Inner.Stores.{may_leave_last};
 ghost use Rattle.osc_words.specs.declared.settings.resource.ResourceSetting.{ResourceSetting as AnySetting};
+ghost use Rattle.osc_words.specs.declared.settings.store_file.StoreDisk.{StoreDisk as AnyDisk};
+ghost use Rattle.osc_programs.specs.ByDisk.{IsOpenedFor};
 ghost use Rattle.osc_programs.specs.Ended as ends;
 ghost use Rattle.osc_programs.specs.Serving.{tree_of, with_resource};
 ghost use Rattle.osc_programs.specs.Storing as spec;
 ghost use Rattle.osc_programs.specs.Storing.{keeps_same, leaves_same};
 
+use crate::by_disk::ByDisk;
 use crate::checked::resource_text;
 use crate::checking::said;
 use crate::copies::{Copies, Uncopied, copy_files};
@@ -39,7 +42,7 @@ use osc_store::{
 use osc_tree::Tree;
 use osc_turn::laws::one_path_changes;
 use osc_turn::{KeepsSteps, since_boot, write_change};
-use osc_words::{FileName, ResourceSetting, StoreWords};
+use osc_words::{FileName, ResourceSetting, StoreDisk, StoreWords};
 use sqlite_std_file::FileFrom;
 use sqlite_store::FileStore;
 use std::alloc::{AllocError, Global};
@@ -52,18 +55,20 @@ pub trait Stores {
     /// What keeps the changes of a server.
     type Keeper: KeepsServer + Drop;
 
-    // The store in the file of this name was opened, or first made of these resources: what keeps its changes, and the resources that it holds.
-    ghost holds: { Self → List ℕ → List AnySetting → Self.Keeper → AnyTree → Type 0 };
+    // Of its disk this is supposed. The store in the file of this name was opened, or first made of these resources: what keeps its changes, and the
+    // resources that it holds.
+    ghost holds: { Self → AnyDisk → List ℕ → List AnySetting → Self.Keeper → AnyTree → Type 0 };
 
-    /// Opens the store in this file, with the resources that it holds. Where there is no such file yet, a store of the given resources is made
-    /// first, and is there with all of them or not at all. A file that is no store is left as it is. A line on the standard error tells why none
-    /// is opened.
+    /// Opens the store in this file, with the resources that it holds; of its disk this is supposed. Where there is no such file yet, a store of the
+    /// given resources is made first, and is there with all of them or not at all. A file that is no store is left as it is. A line on the standard
+    /// error tells why none is opened.
     fn open_store(
         &self,
         file: &str,
+        disk: StoreDisk,
         first: &[ResourceSetting],
     ) -> Result<(Self::Keeper, Tree), Ended>
-        ensures opened { IfOk result (λ stored. holds self.now file.now first.now stored.0 stored.1) }
+        ensures opened { IfOk result (λ stored. holds self.now disk file.now first.now stored.0 stored.1) }
         // Whatever a crash leaves from then on, the next start finds these resources.
         ensures kept { IfOk result (λ stored. (server : AnyServer) → server.tree ≡ stored.1 → Self.Keeper.keeps stored.0 server) }
         ensures file { IfOk result (λ stored. Self.Keeper.file stored.0 ≡ Some file.now) }
@@ -92,10 +97,10 @@ pub trait Stores {
 /// How long no change comes before the file itself holds all that was kept, in seconds.
 const IDLE_SECONDS: u64 = 10;
 
-/// What keeps the changes of a server in a file of this system, of whose torn writes nothing is supposed.
+/// What keeps the changes of a server in a file of this system. `S` says how a crash is read.
 #[derive(Drop)]
-pub struct StoreFile {
-    keeper: FileKeeper<FileFrom<Wary>>,
+pub struct StoreFile<S: Start> {
+    keeper: FileKeeper<FileFrom<S>>,
     // The file's name.
     file: String,
     // Whether the store was made first, as it was opened.
@@ -104,7 +109,7 @@ pub struct StoreFile {
     changed: Option<u64>,
 }
 
-impl StoreFile {
+impl<S: Start> StoreFile<S> {
     // Puts into the file itself all that was kept.
     fn make_whole(&mut self) -> Result<(), KeepError>
         ensures kept { (tree : AnyTree) → Keeps view recovers self.old.keeper.store tree → IsClean (view self.new.keeper.store)
@@ -153,7 +158,7 @@ fn seconds() -> u64 {
     }
 }
 
-impl KeepsSteps<Suite, Server> for StoreFile {
+impl<S: Start> KeepsSteps<Suite, Server> for StoreFile<S> {
     ghost keeps = { λ it node. IsClean (view it.keeper.store) → Keeps view recovers it.keeper.store node.tree };
 
     ghost writes = { λ it first last. IsClean (view it.keeper.store) → Writes view recovers it.keeper.store it.keeper.pending first.tree last.tree };
@@ -204,7 +209,7 @@ impl KeepsSteps<Suite, Server> for StoreFile {
     ghost holds_second = { λ it first last holds clean. may_leave_last view recovers it.keeper.store first.tree last.tree (holds clean) };
 }
 
-impl KeepsServer for StoreFile {
+impl<S: Start> KeepsServer for StoreFile<S> {
     fn keep_start(&mut self, path: &Path, resource: Option<&Resource>) -> Result<(), KeepError> {
         paths_are_ordered();
         match self.keeper.write(path, resource) {
@@ -227,22 +232,28 @@ impl KeepsServer for StoreFile {
 
 /// The stores in files of this system. Nothing is supposed of what they hold. A store that was made first holds the first resources.
 impl Stores for HostRuntime {
-    type Keeper = StoreFile;
+    type Keeper = ByDisk<StoreFile<Wary>, StoreFile<Unknown>>;
 
-    ghost holds = { λ _ file first kept tree. spec.IsStoreAt view recovers (image_at ⟦<Wary as Start>⟧) file first kept.keeper.store (string_bytes kept.file) kept.made tree };
+    ghost holds = { λ _ disk file first kept tree. IsOpenedFor disk
+        (λ any. spec.IsStoreAt view recovers (image_at ⟦<Wary as Start>⟧) file first any.keeper.store (string_bytes any.file) any.made tree)
+        (λ whole. spec.IsStoreAt view recovers (image_at ⟦<Unknown as Start>⟧) file first whole.keeper.store (string_bytes whole.file) whole.made tree) kept };
 
     fn open_store(
         &self,
         file: &str,
+        disk: StoreDisk,
         first: &[ResourceSetting],
-    ) -> Result<(StoreFile, Tree), Ended> {
-        let made = is_missing(self, file);
-        if made {
-            make_store(self, file, first)?;
+    ) -> Result<(ByDisk<StoreFile<Wary>, StoreFile<Unknown>>, Tree), Ended> {
+        match disk {
+            StoreDisk::Any => {
+                let (kept, tree) = store_of(self, file, Wary, first)?;
+                Ok((ByDisk::Any(kept), tree))
+            }
+            StoreDisk::WholeSectors => {
+                let (kept, tree) = store_of(self, file, Unknown, first)?;
+                Ok((ByDisk::WholeSectors(kept), tree))
+            }
         }
-        let (kept, tree) = store_at(self, file, made)?;
-        is_as_made(self, &kept, &tree, first)?;
-        Ok((kept, tree))
     }
 
     ghost held = { λ _ _ _ tree. spec.IsRead tree };
@@ -355,9 +366,33 @@ fn stored_line(alloc: Global, path: &Path, resource: &Resource) -> Result<Vec<u8
 
 // ---- a store that is there
 
+// The store in this file, which is made first where there is none.
+fn store_of<S: Start>(
+    rt: &HostRuntime,
+    file: &str,
+    start: S,
+    first: &[ResourceSetting],
+) -> Result<(StoreFile<S>, Tree), Ended>
+    ensures opened { IfOk result (λ stored. spec.IsStoreAt view recovers (image_at S.Start) file.now first.now stored.0.keeper.store (string_bytes stored.0.file) stored.0.made stored.1) }
+    ensures ends { IfErr result ends.NoStore }
+{
+    let made = is_missing(rt, file);
+    if made {
+        make_store(rt, file, first)?;
+    }
+    let (kept, tree) = store_at(rt, file, start, made)?;
+    is_as_made(rt, &kept, &tree, first)?;
+    Ok((kept, tree))
+}
+
 // The store in this file, whose database file alone holds it.
-fn store_at(rt: &HostRuntime, file: &str, made: bool) -> Result<(StoreFile, Tree), Ended>
-    ensures opened { IfOk result (λ opened. spec.IsOpened view recovers (image_at ⟦<Wary as Start>⟧) opened.0.keeper.store opened.1) }
+fn store_at<S: Start>(
+    rt: &HostRuntime,
+    file: &str,
+    start: S,
+    made: bool,
+) -> Result<(StoreFile<S>, Tree), Ended>
+    ensures opened { IfOk result (λ opened. spec.IsOpened view recovers (image_at S.Start) opened.0.keeper.store opened.1) }
     ensures file { IfOk result (λ opened. string_bytes opened.0.file ≡ file.now) }
     ensures made { IfOk result (λ opened. opened.0.made ≡ made) }
     ensures ends { IfErr result ends.NoStore }
@@ -365,7 +400,7 @@ fn store_at(rt: &HostRuntime, file: &str, made: bool) -> Result<(StoreFile, Tree
     let Ok(name) = String::from_str(rt.alloc(), file) else {
         return Err(Ended::OutOfMemory);
     };
-    match whole_store(rt, name.as_str(), Wary) {
+    match whole_store(rt, name.as_str(), start) {
         Ok((keeper, tree)) => {
             let kept = StoreFile {
                 keeper,
@@ -380,9 +415,9 @@ fn store_at(rt: &HostRuntime, file: &str, made: bool) -> Result<(StoreFile, Tree
 }
 
 // Where the store was made first, it has to have the first resources, and nothing else.
-fn is_as_made(
+fn is_as_made<S: Start>(
     rt: &HostRuntime,
-    kept: &StoreFile,
+    kept: &StoreFile<S>,
     tree: &Tree,
     first: &[ResourceSetting],
 ) -> Result<(), Ended>

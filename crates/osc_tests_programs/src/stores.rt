@@ -1,7 +1,9 @@
 //! What `osc store` prints of a store in a file of the system, as a list or as settings, and the back-up that it writes.
 use osc_model::{Bytes, Path, Resource};
 use osc_programs::{Ended, KeepsServer, Stores, list_store};
-use osc_words::{ResourceSetting, ServerSettings, Words, read_server_settings, read_words};
+use osc_words::{
+    ResourceSetting, ServerSettings, StoreDisk, Words, read_server_settings, read_words,
+};
 use std::alloc::Global;
 use std::test::Fail;
 use std::{fs, str};
@@ -36,7 +38,7 @@ fn make(rt: &HostRuntime, is_changed: bool) -> Result<(), Fail> {
     let _ = fs::remove_dir_all(rt, FOLDER);
     fs::create_dir(rt, FOLDER)?;
     let settings = settings_of(alloc, RESOURCES)?;
-    match rt.open_store(STORE, &settings.resources) {
+    match rt.open_store(STORE, StoreDisk::Any, &settings.resources) {
         Ok((mut keeper, _tree)) if is_changed => change(alloc, &mut keeper),
         Ok(_) => Ok(()),
         Err(_) => Err(Fail::from("no store is made")),
@@ -58,7 +60,7 @@ fn change<K: KeepsServer>(alloc: Global, keeper: &mut K) -> Result<(), Fail> {
 }
 
 fn is_opened(rt: &HostRuntime, file: &str) -> bool {
-    match rt.open_store(file, &[]) {
+    match rt.open_store(file, StoreDisk::Any, &[]) {
         Ok(_) => true,
         Err(_) => false,
     }
@@ -152,7 +154,7 @@ fn after_the_last_turn_the_file_is_whole(rt: HostRuntime) -> Result<(), Fail> {
         "its log is missing"
     );
     fs::rename(&rt, BACKUP, STORE)?;
-    match rt.open_store(STORE, &[]) {
+    match rt.open_store(STORE, StoreDisk::Any, &[]) {
         Ok((mut keeper, _tree)) => {
             change(alloc, &mut keeper)?;
             assert!(&rt; keeper.keep_end().is_ok());

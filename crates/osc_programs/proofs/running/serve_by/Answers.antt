@@ -14,7 +14,7 @@ returns-in-None g c = record {
       told.3,
       told.4,
       kept_without (g.R.Stores.holds c.args.runtime.now) g.R.Keeper.KeepsSteps.file g.R.Keeper.KeepsSteps.keeps g.R.Keeper.KeepsSteps.may_hold g.R.Keeper.KeepsSteps.trusted g.R.Keeper.KeepsSteps.faults
-          g.R.Keeper.KeepsSteps.too_long _ _ _ _ _ _ c.in-None.is refl,
+          g.R.Keeper.KeepsSteps.too_long _ _ _ _ _ _ _ c.in-None.is refl,
     )
   ];
   ends = kept_serving c.serve_from_settings.result c.serve_from_settings.ensures.ends;
@@ -33,6 +33,6 @@ returns-in-Ok-clause-served g c =
         told.4,
         told.5,
         kept_stored (g.R.Stores.holds c.args.runtime.now) g.R.Keeper.KeepsSteps.file g.R.Keeper.KeepsSteps.keeps g.R.Keeper.KeepsSteps.may_hold g.R.Keeper.KeepsSteps.trusted g.R.Keeper.KeepsSteps.faults
-            g.R.Keeper.KeepsSteps.too_long _ _ _ _ _ _ _ _ _ c.in-Some.is name told.7 told.6,
+            g.R.Keeper.KeepsSteps.too_long _ _ _ _ _ _ _ _ _ _ c.in-Some.is name told.7 told.6,
       )
     ]

@@ -18,7 +18,7 @@ returns-in-Ok g c =
         told.4,
         record {
           opened = stored.0;
-          begun = subst₂ (λ (file : List ℕ) (first : List ResourceSetting). g.R.Stores.holds c.args.runtime.now file first stored.0 stored.1) c.as_str.ensures.value
+          begun = subst₂ (λ (file : List ℕ) (first : List ResourceSetting). g.R.Stores.holds c.args.runtime.now c.args.settings.store_disk file first stored.0 stored.1) c.as_str.ensures.value
               c.deref.ensures.value c.in-Ok.ensures.opened;
           is_file = c.serve_stored-ended.ensures.file ∙ (c.in-Ok.ensures.file ∙ ap Some c.as_str.ensures.value);
           kept = left.0;
