@@ -23,6 +23,7 @@ pub mod Strange
 pub mod Checked
 pub mod KeyLine
 pub mod PayloadFile
+pub mod Inner
 pub use Checked.{address_line, grant_line, resource_line, shown_line, target_line}
 pub use Conversation.{GoesOn, GoesOnBy, Requests, Upshot, Waits, after_passing, at_once, sent_alone, still, told, turns}
 pub use Ended.{CannotAsk, CannotLab, CannotTalk, EndsClient, EndsKept, EndsLab, EndsNode, EndsServer, EndsServing, EndsSim, EndsStore, EndsTold, EndsTurns, EndsUnkept, IsFault, IsNotKept, NoScript, NoServer, NoSettings, NoStore, NotOpened}

@@ -1,6 +1,5 @@
 -- The store of a server: what it begins with, and what of it is listed.
 use Rattle.std.specs.Prelude.{◌≡◌, ◌==◌, ◌||◌, ℕ, Bool, List, [], ◌++◌, Option, Some, None, true, if◌then◌else◌, codes, decimal, drop}
-use Rattle.std.proofs.Common.{subst, subst₂}
 use Rattle.std.specs.Char.{encode_utf8, is_control}
 use Rattle.std.specs.Int.{to_be_bytes, w16}
 use Rattle.std.specs.List.{flat_map}
@@ -16,7 +15,7 @@ use Rattle.osc_words.specs.declared.settings.resource.ResourceSetting.{ResourceS
 use Rattle.osc_words.specs.declared.settings.store_file.StoreDisk.{StoreDisk}
 use Rattle.osc_server.specs.State.{State as Server}
 use Rattle.osc_simulation.specs.{line}
-use Rattle.osc_store.specs.{FindsTree, Keeps, MayLeave}
+use Rattle.osc_store.specs.{FindsTree, Keeps}
 use Rattle.osc_programs.specs.Checked.{resource_line}
 use Rattle.osc_programs.specs.Kept.{HasCause, LeavesKept}
 use Rattle.osc_programs.specs.Revoking.{IsTooLongIn, KeepsTree, MayHoldTree}
@@ -35,14 +34,6 @@ pub record IsStoreAt {S : Type 0} (view : S → View) (recovers : S → Trees �
   pub name : own ≡ file
   pub opened : IsOpened view recovers image it tree
   pub as_made : made ≡ true → tree ≡ tree_of first
-
--- what keeps some resources keeps those that are the same
-pub keeps_same : {S : Type 0} (view : S → View) (recovers : S → Trees → Type 0) (it : S) (one other : Tree) → one ≡ other → Keeps view recovers it one → Keeps view recovers it other
-keeps_same view recovers it one other same keeps = subst (Keeps view recovers it) same keeps
-
-pub leaves_same : {S : Type 0} (view : S → View) (recovers : S → Trees → Type 0) (it : S) (before one after other : Tree) → before ≡ one → after ≡ other
-    → MayLeave view recovers it before after → MayLeave view recovers it one other
-leaves_same view recovers it before one after other same too leaves = subst₂ (MayLeave view recovers it) same too leaves
 
 module _ {K : Type 0} (holds : StoreDisk → List ℕ → List ResourceSetting → K → Tree → Type 0) (file_of : K → Option (List ℕ)) (keeps : K → Server → Type 0) (may_hold : K → Server → Server → Type 0) (trusted : K → Type 0) (faults : K → ℕ) (too_long : Server → Type 0) where
   -- What keeps the changes of a server that ended so is the store in the file of this name, which was opened with the resources that the server began

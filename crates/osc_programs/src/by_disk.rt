@@ -1,6 +1,6 @@
 //! What keeps the changes of a server, by what is supposed of its disk.
 ghost use Rattle.std.specs.Prelude.{◌⊎◌, ⊤};
-ghost use Rattle.osc_programs.specs.ByDisk as spec;
+ghost use Rattle.osc_programs.specs.Inner.ByDisk as spec;
 
 use crate::revoking::KeepsServer;
 use osc_ccm::Suite;

@@ -18,9 +18,9 @@ ghost use Rattle.osc_words.specs.declared.settings.resource.ResourceSetting.{Res
 ghost use Rattle.osc_words.specs.declared.settings.store_file.StoreDisk.{StoreDisk as AnyDisk};
 ghost use Rattle.osc_programs.specs.ByDisk.{IsOpenedFor};
 ghost use Rattle.osc_programs.specs.Ended as ends;
+ghost use Rattle.osc_programs.specs.Inner.Stores.{keeps_same, leaves_same};
 ghost use Rattle.osc_programs.specs.Serving.{tree_of, with_resource};
 ghost use Rattle.osc_programs.specs.Storing as spec;
-ghost use Rattle.osc_programs.specs.Storing.{keeps_same, leaves_same};
 
 use crate::by_disk::ByDisk;
 use crate::checked::resource_text;

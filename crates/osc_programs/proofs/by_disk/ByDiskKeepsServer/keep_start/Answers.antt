@@ -1,7 +1,7 @@
 -- Why one of the two doesn't keep it is why.
 use Rattle.std.proofs.Common.{arith, inl, inr, subst}
 use Rattle.std.proofs.lemmas.Result.{IfErr-weaker}
-use Rattle.osc_programs.specs.ByDisk as spec
+use Rattle.osc_programs.specs.Inner.ByDisk as spec
 use Rattle.osc_programs.proofs.Lasting.{why_since}
 use Rattle.osc_programs.proofs.by_disk.ByDiskKeepsServer.keep_start.Goals as goal
 

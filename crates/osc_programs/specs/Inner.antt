@@ -1,0 +1,3 @@
+-- What private functions owe one another; no public contract rests on it.
+pub mod ByDisk
+pub mod Stores
