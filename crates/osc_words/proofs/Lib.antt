@@ -6,3 +6,4 @@ pub mod HexText
 pub mod Stand
 pub mod Subcommands
 pub mod RequestLines
+pub mod Waiting
