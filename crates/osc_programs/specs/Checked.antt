@@ -98,8 +98,8 @@ is_printed_if (Some key) = is_printed key
 -- what is said of that key, where it is the server's own or its former one
 abbrev pub printed_words : ServerSettings → Option (List ℕ)
 printed_words settings =
-    if is_printed settings.key then Some (codes "settings: key key is printed in the documentation: make one by osc key")
-    else if is_printed_if settings.old_key then Some (codes "settings: key old_key is printed in the documentation: make one by osc key")
+    if is_printed settings.key then Some (codes "settings: key key is that of the documentation: make one by osc key")
+    else if is_printed_if settings.old_key then Some (codes "settings: key old_key is that of the documentation: make one by osc key")
     else None
 
 -- the log told that

@@ -119,9 +119,9 @@ fn printed_words(settings: &ServerSettings) -> Option<&'static str>
     ensures { option_map (λ words. words.now) result ≡ spec.printed_words settings.now }
 {
     if is_printed(&settings.key) {
-        Some("settings: key key is printed in the documentation: make one by osc key")
+        Some("settings: key key is that of the documentation: make one by osc key")
     } else if is_printed_if(&settings.old_key) {
-        Some("settings: key old_key is printed in the documentation: make one by osc key")
+        Some("settings: key old_key is that of the documentation: make one by osc key")
     } else {
         None
     }
