@@ -24,7 +24,7 @@ AIMS = {
     "docs/GATE.md": 700,
     "docs/GLOSSARY.md": 1000,
     "docs/LIBRARY.md": 2300,
-    "docs/OPERATE.md": 1905,
+    "docs/OPERATE.md": 1900,
     "docs/PROMISES.md": 1450,
     "docs/PROOFS.md": 3300,
     "docs/QUICKSTART.md": 1700,
