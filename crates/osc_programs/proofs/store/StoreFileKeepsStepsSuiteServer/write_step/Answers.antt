@@ -14,7 +14,7 @@ use Rattle.osc_turn.specs.Kept.Changes.{HasTooLong}
 use Rattle.osc_programs.proofs.store.StoreFileKeepsStepsSuiteServer.write_step.Goals as goal
 
 pub returns-clause-kept : goal.returns-clause-kept
-returns-clause-kept c first old cause step made same writes =
+returns-clause-kept g c first old cause step made same writes =
     let change = subst₂ (λ (served : Option Entry) (tree : Tree). IsChangeOf served old.tree tree)
     (ap (λ (notes : StepNotes). notes.served) same ∙ sym c.served.ensures) (sym c.tree.ensures)
     (c.one_path_changes.ensures (core old) (core c.args.node.now) _ step.notes made.kind) in
@@ -23,14 +23,14 @@ returns-clause-kept c first old cause step made same writes =
     (c.write_change.ensures.written first.tree old.tree change writes)
 
 pub returns-clause-crash : goal.returns-clause-crash
-returns-clause-crash c first old cause step made same writes =
+returns-clause-crash g c first old cause step made same writes =
     let change = subst₂ (λ (served : Option Entry) (tree : Tree). IsChangeOf served old.tree tree)
     (ap (λ (notes : StepNotes). notes.served) same ∙ sym c.served.ensures) (sym c.tree.ensures)
     (c.one_path_changes.ensures (core old) (core c.args.node.now) _ step.notes made.kind) in
     c.write_change.ensures.crash first.tree old.tree change writes
 
 pub returns-clause-cause : goal.returns-clause-cause
-returns-clause-cause c first old cause step made same writes trust =
+returns-clause-cause g c first old cause step made same writes trust =
     let change = subst₂ (λ (served : Option Entry) (tree : Tree). IsChangeOf served old.tree tree)
     (ap (λ (notes : StepNotes). notes.served) same ∙ sym c.served.ensures) (sym c.tree.ensures)
     (c.one_path_changes.ensures (core old) (core c.args.node.now) _ step.notes made.kind) in
@@ -39,6 +39,6 @@ returns-clause-cause c first old cause step made same writes trust =
     (c.write_change.ensures.cause first.tree old.tree change writes trust)
 
 pub returns-clause-nothing : goal.returns-clause-nothing
-returns-clause-nothing c none =
+returns-clause-nothing g c none =
     let is = c.write_change.ensures.nothing (ap path_changed_by c.served.ensures ∙ none) in
     (is.0, ap (λ keeper. record c.args.self.now { keeper = keeper }) is.1)
