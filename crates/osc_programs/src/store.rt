@@ -43,6 +43,7 @@ use osc_tree::Tree;
 use osc_turn::laws::one_path_changes;
 use osc_turn::{KeepsSteps, since_boot, write_change};
 use osc_words::{FileName, ResourceSetting, StoreDisk, StoreWords};
+use sqlite_disk::Disk;
 use sqlite_std_file::FileFrom;
 use sqlite_store::FileStore;
 use std::alloc::{AllocError, Global};
@@ -97,10 +98,10 @@ pub trait Stores {
 /// How long no change comes before the file itself holds all that was kept, in seconds.
 const IDLE_SECONDS: u64 = 10;
 
-/// What keeps the changes of a server in a file of this system. `S` says how a crash is read.
+/// What keeps the changes of a server in a file of this system.
 #[derive(Drop)]
-pub struct StoreFile<S: Start> {
-    keeper: FileKeeper<FileFrom<S>>,
+pub struct StoreFile<D: Disk> {
+    keeper: FileKeeper<D>,
     // The file's name.
     file: String,
     // Whether the store was made first, as it was opened.
@@ -109,7 +110,7 @@ pub struct StoreFile<S: Start> {
     changed: Option<u64>,
 }
 
-impl<S: Start> StoreFile<S> {
+impl<D: Disk> StoreFile<D> {
     // Puts into the file itself all that was kept.
     fn make_whole(&mut self) -> Result<(), KeepError>
         ensures kept { (tree : AnyTree) → Keeps view recovers self.old.keeper.store tree → IsClean (view self.new.keeper.store)
@@ -158,7 +159,7 @@ fn seconds() -> u64 {
     }
 }
 
-impl<S: Start> KeepsSteps<Suite, Server> for StoreFile<S> {
+impl<D: Disk> KeepsSteps<Suite, Server> for StoreFile<D> {
     ghost keeps = { λ it node. IsClean (view it.keeper.store) → Keeps view recovers it.keeper.store node.tree };
 
     ghost writes = { λ it first last. IsClean (view it.keeper.store) → Writes view recovers it.keeper.store it.keeper.pending first.tree last.tree };
@@ -209,7 +210,7 @@ impl<S: Start> KeepsSteps<Suite, Server> for StoreFile<S> {
     ghost holds_second = { λ it first last holds clean. may_leave_last view recovers it.keeper.store first.tree last.tree (holds clean) };
 }
 
-impl<S: Start> KeepsServer for StoreFile<S> {
+impl<D: Disk> KeepsServer for StoreFile<D> {
     fn keep_start(&mut self, path: &Path, resource: Option<&Resource>) -> Result<(), KeepError> {
         paths_are_ordered();
         match self.keeper.write(path, resource) {
@@ -232,7 +233,7 @@ impl<S: Start> KeepsServer for StoreFile<S> {
 
 /// The stores in files of this system. Nothing is supposed of what they hold. A store that was made first holds the first resources.
 impl Stores for HostRuntime {
-    type Keeper = ByDisk<StoreFile<Wary>, StoreFile<Unknown>>;
+    type Keeper = ByDisk<StoreFile<FileFrom<Wary>>, StoreFile<FileFrom<Unknown>>>;
 
     ghost holds = { λ _ disk file first kept tree. IsOpenedFor disk
         (λ any. spec.IsStoreAt view recovers (image_at ⟦<Wary as Start>⟧) file first any.keeper.store (string_bytes any.file) any.made tree)
@@ -243,7 +244,13 @@ impl Stores for HostRuntime {
         file: &str,
         disk: StoreDisk,
         first: &[ResourceSetting],
-    ) -> Result<(ByDisk<StoreFile<Wary>, StoreFile<Unknown>>, Tree), Ended> {
+    ) -> Result<
+        (
+            ByDisk<StoreFile<FileFrom<Wary>>, StoreFile<FileFrom<Unknown>>>,
+            Tree,
+        ),
+        Ended,
+    > {
         match disk {
             StoreDisk::Any => {
                 let (kept, tree) = store_of(self, file, Wary, first)?;
@@ -372,7 +379,7 @@ fn store_of<S: Start>(
     file: &str,
     start: S,
     first: &[ResourceSetting],
-) -> Result<(StoreFile<S>, Tree), Ended>
+) -> Result<(StoreFile<FileFrom<S>>, Tree), Ended>
     ensures opened { IfOk result (λ stored. spec.IsStoreAt view recovers (image_at S.Start) file.now first.now stored.0.keeper.store (string_bytes stored.0.file) stored.0.made stored.1) }
     ensures ends { IfErr result ends.NoStore }
 {
@@ -391,7 +398,7 @@ fn store_at<S: Start>(
     file: &str,
     start: S,
     made: bool,
-) -> Result<(StoreFile<S>, Tree), Ended>
+) -> Result<(StoreFile<FileFrom<S>>, Tree), Ended>
     ensures opened { IfOk result (λ opened. spec.IsOpened view recovers (image_at S.Start) opened.0.keeper.store opened.1) }
     ensures file { IfOk result (λ opened. string_bytes opened.0.file ≡ file.now) }
     ensures made { IfOk result (λ opened. opened.0.made ≡ made) }
@@ -417,7 +424,7 @@ fn store_at<S: Start>(
 // Where the store was made first, it has to have the first resources, and nothing else.
 fn is_as_made<S: Start>(
     rt: &HostRuntime,
-    kept: &StoreFile<S>,
+    kept: &StoreFile<FileFrom<S>>,
     tree: &Tree,
     first: &[ResourceSetting],
 ) -> Result<(), Ended>
