@@ -1,6 +1,7 @@
 -- Why settings are none, as the log tells it before `settings: bad`: the key and what should be there, never what is there.
 use Rattle.std.specs.Prelude.{◌≡◌, ◌≢◌, ◌⊎◌, ℕ, List, ◌++◌, map, Option, Some, None, IfSome, codes, decimal}
-use Rattle.std.specs.Str.{IsUtf8, utf8_valid_len}
+use Rattle.std.specs.Str.{IsUtf8}
+use Rattle.std.specs.Str.Lossy.{utf8_valid_len}
 use Rattle.toml.specs.Data.{Members}
 use Rattle.osc_log.specs.{IsUnreadText as Unread, Told, Writes, shown_byte}
 use Rattle.osc_log.specs.declared.form.Form.{Form}

@@ -5,7 +5,8 @@ ghost use Rattle.osc_log.specs.{Writes};
 ghost use Rattle.osc_programs.specs.Input.{IsWithin, TakesAtMost, longest_settings};
 ghost use Rattle.osc_programs.specs.Unread as spec;
 ghost use Rattle.osc_words.specs.Settings.{StandsFor, IsClientFault, IsFaultOfProxy, IsKeyFault, IsServerFault, AreClientSettings, AreProxySettings, AreServerSettings, line_at};
-ghost use Rattle.std.specs.Str.{utf8_valid_len, valid_up_to};
+ghost use Rattle.std.specs.Str.{valid_up_to};
+ghost use Rattle.std.specs.Str.Lossy.{utf8_valid_len};
 
 use crate::ended::Ended;
 use crate::input::{LONGEST_SETTINGS, bytes_within};
