@@ -472,8 +472,9 @@ fn wait<A: Aside + Drop, W: Watch + Drop, P: Port>(
             return Ok(AskEnd::Open);
         }
         let learnt = client_turn(alloc, port, talking)?;
-        now = learnt.at;
-        if let Some(result) = learnt.result {
+        let Learnt { at, result: told } = learnt;
+        now = at;
+        if let Some(result) = told {
             left.turns = most - taken - 1;
             return Ok(AskEnd::Told(result));
         }

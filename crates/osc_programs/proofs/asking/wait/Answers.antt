@@ -5,7 +5,7 @@ use Rattle.osc_programs.proofs.Talking.{goes_on, is_early, is_late, learns, star
 use Rattle.osc_programs.proofs.asking.wait.Goals as goal
 
 pub loop-taken-init : goal.loop-taken-init
-loop-taken-init g c = (omega arith, nothing_passed, passes_none g.P.Port.received g.P.Port.sent _, starts c.args.left.now.until c.args.left.now.turns _, c.requires)
+loop-taken-init g c = (omega arith, nothing_passed, passes_none g.P.Port.received g.P.Port.sent _, starts c.args.left.now.until c.args.left.now.turns _, c.requires, refl)
 
 pub loop-taken-preserved : goal.loop-taken-preserved
 loop-taken-preserved g c =
@@ -18,6 +18,7 @@ loop-taken-preserved g c =
       passes_more g.P.Port.received g.P.Port.sent _ _ _ so_far.1 own so_far.2 turn.4,
       goes_on c.args.left.now.until c.args.left.now.turns c.loop-taken.taken _ _ _ so_far.1 turn.0 turn.1 c.loop-taken-test.true early turn.2 (turn.3 ∙ c.in_default.is) so_far.3,
       c.in_ok-learnt.ensures.at,
+      so_far.5,
     )
 
 pub returns-then-until-now-clause-waits : goal.returns-then-until-now-clause-waits
@@ -47,3 +48,15 @@ returns-clause-waits g c =
       still_open c.args.left.now.until c.args.left.now.turns c.loop-taken.taken 0 _ _ so_far.1 (omega (arith, so_far.0, c.loop-taken-test.false)) (inl refl) so_far.3,
       so_far.2,
     )
+
+pub returns-then-until-now-clause-until : goal.returns-then-until-now-clause-until
+returns-then-until-now-clause-until g c = c.loop-taken.invariant.5
+
+pub returns-in_err-learnt-clause-until : goal.returns-in_err-learnt-clause-until
+returns-in_err-learnt-clause-until g c = c.loop-taken.invariant.5
+
+pub returns-in-Some-clause-until : goal.returns-in-Some-clause-until
+returns-in-Some-clause-until g c = c.loop-taken.invariant.5
+
+pub returns-clause-until : goal.returns-clause-until
+returns-clause-until g c = c.loop-taken.invariant.5
